@@ -1,1 +1,2 @@
+mod Causing
 mod Leading

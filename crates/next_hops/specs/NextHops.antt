@@ -36,12 +36,16 @@ pub record AreNextHopsIn (g : Topology) (root number other : ℕ) (hops : NextHo
   pub blue : IsNextHop g (row_of file.cert) Blue s t hops.blue
   pub red : IsNextHop g (row_of file.cert) Red s t hops.red
 
--- the bytes are a database, and the next hops are those in the router's island
-pub record AreNextHops (bytes : List ℕ) (number other : ℕ) (hops : NextHops) : Type 0 where
+-- the bytes are a database, and the router's island in its area has this graph and this root
+pub record HasIsland (bytes : List ℕ) (number : ℕ) (graph : Topology) (root : ℕ) : Type 0 where
   pub newest : List Advertisement
   pub database : IsDatabase bytes newest
-  pub graph : Topology
-  pub root : ℕ
   pub link_of : List (Option ℕ)
   pub island : IsIsland (policy_of []) (area_of newest) number graph root link_of
+
+-- the bytes are a database, and the next hops are those in the router's island
+pub record AreNextHops (bytes : List ℕ) (number other : ℕ) (hops : NextHops) : Type 0 where
+  pub graph : Topology
+  pub root : ℕ
+  pub island : HasIsland bytes number graph root
   pub there : AreNextHopsIn graph root number other hops

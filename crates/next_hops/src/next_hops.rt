@@ -1,14 +1,14 @@
 //! From the bytes of a database to a router's two next hops.
 
-ghost use Rattle.std.specs.Prelude.{◌≡◌, ◌≢◌, ◌≤◌, ◌<◌, None, IfOk, Some, length, map, slice_get};
+ghost use Rattle.std.specs.Prelude.{◌≡◌, ◌≢◌, ◌≤◌, ◌<◌, ℕ, None, Contains, IfErr, IfOk, Some, length, map, slice_get};
 ghost use Rattle.mrt_graph.specs.NodeIds.{router as router_node};
 ghost use Rattle.lsdb.specs.{Conflicts.least_conflict, Database.IsDatabase};
-ghost use Rattle.next_hops.specs.NextHops.{AreNextHops, AreNextHopsIn};
+ghost use Rattle.next_hops.specs.{Causes.IsCause, Causes.IsMissed, NextHops.AreNextHops, NextHops.AreNextHopsIn};
 
 use crate::failure::Failure;
 use area_graph::build_area;
 use file_key::FileKey;
-use lsdb::{Lsdb, database_of, refuses_exactly_where_not_settled};
+use lsdb::{Lsdb, database_of, refuses_exactly_where_not_settled, tells_the_first_conflict};
 use mrt_graph::{Color, Graph, NodeId, NodeNo, accepted_implies_sound, accepted_rows_lead_on};
 use mrt_island::{Profile, find_island};
 use mrt_rows::{RootedColumns, certificates_are_accepted};
@@ -28,7 +28,8 @@ pub struct NextHops {
 pub fn next_hops(alloc: Global, bytes: &[u8], router: u32, to: u32) -> Result<NextHops, Failure>
     requires size { length bytes.now ≤ 8388608 }
     requires different { router ≢ to }
-    ensures { IfOk result (AreNextHops bytes.now router to) }
+    ensures hops { IfOk result (AreNextHops bytes.now router to) }
+    ensures none { IfErr result (IsCause bytes.now router to) }
 {
     let database = read(alloc, bytes)?;
     let area = build_area(alloc, &database)?;
@@ -41,8 +42,10 @@ fn read(alloc: Global, bytes: &[u8]) -> Result<Lsdb, Failure>
     requires { length bytes.now ≤ 8388608 }
     ensures newest { IfOk result (λ database. IsDatabase bytes.now (map (λ entry. entry.lsa) database.entries)) }
     ensures settled { IfOk result (λ database. least_conflict database.entries ≡ None) }
+    ensures none { (router to : ℕ) → IfErr result (IsCause bytes.now router to) }
 {
     refuses_exactly_where_not_settled();
+    tells_the_first_conflict();
     let lsas = read_lsas(alloc, bytes)?;
     let database = database_of(alloc, FileKey::of(bytes), lsas)?;
     database.settled()?;
@@ -58,15 +61,17 @@ fn next_hops_in(
     to: u32,
 ) -> Result<NextHops, Failure>
     requires root { root < length graph.now.ids }
+    requires own { Contains graph.now.ids (router_node router) }
     requires different { router ≢ to }
-    ensures { IfOk result (AreNextHopsIn graph.now root router to) }
+    ensures hops { IfOk result (AreNextHopsIn graph.now root router to) }
+    ensures none { IfErr result (IsMissed graph.now.ids to) }
 {
     certificates_are_accepted();
     accepted_rows_lead_on();
     accepted_implies_sound();
     let from = number_of(graph, router)?;
     let to = number_of(graph, to)?;
-    let mut columns = RootedColumns::new(alloc, graph, root)?;
+    let mut columns = RootedColumns::for_some(alloc, graph, root, 1)?;
     columns.aim(graph, to);
     let column = columns.column(graph);
     let blue = next_hop(graph, &column, from, to, Color::Blue);
@@ -81,6 +86,7 @@ fn next_hops_in(
 fn number_of(graph: &Graph, router: u32) -> Result<NodeNo, Failure>
     ensures named { IfOk result (λ n. slice_get graph.now.ids n ≡ Some (router_node router)) }
     ensures within { IfOk result (λ n. n < length graph.now.ids) }
+    ensures none { IfErr result (λ failure. (failure ≡ Failure.NotThere) × (Contains graph.now.ids (router_node router) → ⊥)) }
 {
     graph.find(NodeId::router(router)).ok_or(Failure::NotThere)
 }

@@ -17,8 +17,8 @@ next_hop-red-requires c = goes_on c.args.graph.now c.args.root _ c.in_ok-from.fr
     c.accepted_rows_lead_on.ensures c.in_ok-from.ensures.within c.in_ok-to.ensures.within c.in_ok-from.ensures.named
     c.in_ok-to.ensures.named c.requires.different Red
 
-pub returns : goal.returns
-returns c = record {
+pub returns-clause-hops : goal.returns-clause-hops
+returns-clause-hops c = record {
   file = c.in_ok-columns.ensures.cert.0;
   certificate = c.in_ok-columns.ensures.cert.1;
   sound = c.accepted_implies_sound.ensures c.args.graph.now c.args.root c.in_ok-columns.ensures.cert.0
