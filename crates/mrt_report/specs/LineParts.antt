@@ -1,5 +1,5 @@
 -- What a table's line is made from.
-use Rattle.std.specs.Prelude.{◌≡◌, ◌≢◌, ◌<◌, ℕ, List, Option, Some, IsSome, length, slice_get}
+use Rattle.std.specs.Prelude.{◌≡◌, ◌≢◌, ◌<◌, ℕ, List, Option, Some, IfSome, IsSome, length, slice_get}
 use Rattle.area_graph.specs.AreaInvariant.{IsArea}
 use Rattle.area_graph.specs.Fits.{Fits}
 use Rattle.area_graph.specs.Parts.{AreaParts}
@@ -41,6 +41,12 @@ pub record AreLineParts (parts : LineParts) (to : ℕ) : Type 0 where
   pub different : parts.source ≢ to
   pub leads_on : (color : Color) (s : ℕ) → s < length parts.island.ids → s ≢ to
       → IsSome (color_hop parts.island.links parts.rows color to s)
+
+-- so, and the arcs of the router's primary are arcs of the area
+pub record AreAllParts (parts : LineParts) (to : ℕ) (primary : Primary) : Type 0 where
+  pub kept : AreLineParts parts to
+  pub first : primary.first < length parts.area.arcs
+  pub second : IfSome primary.second (λ second. second < length parts.area.arcs)
 
 -- the two numbers are of one node: of the area, and of the island
 pub record IsSpotOf (area : AreaParts) (island : Topology) (spot n : ℕ) : Type 0 where

@@ -3,7 +3,7 @@ use Rattle.mrt_graph.specs.Rows.{Rows}
 use Rattle.mrt_report.specs.LineParts.{LineParts}
 use Rattle.mrt_report.specs.declared.parts.Parts.{Parts}
 
--- what they refer to, where the rows of such a source are these
+-- what they refer to, with the rows that are read from what they name for that
 abbrev pub viewed : {R : Type 0} → (R → Rows) → Parts R → LineParts
 viewed rows parts = record {
   area = parts.area.now;

@@ -1,54 +1,42 @@
 //! A table's line on one destination.
 
-ghost use Rattle.std.specs.Prelude.{◌≡◌, ◌≢◌, ◌<◌, ◌==◌, IfOk, IfSome, IsSome, length};
+ghost use Rattle.std.specs.Prelude.{◌≡◌, ◌≢◌, ◌<◌, ◌==◌, IfOk, IsSome, length};
 ghost use Rattle.std.specs.{List.find, Option.option_map};
 ghost use Rattle.area_graph.specs.AreaInvariant.{IsArea};
 ghost use Rattle.mrt_graph.specs.{GraphInvariant.IsTopology, Leads.leads};
 ghost use Rattle.text_parts.specs.Adds.{Adds};
 ghost use Rattle.mrt_report.specs.Lines.{AreColorWords, ArePrimaryWords, IsArcHop, IsEndOn, IsLine, IsLinkHop};
-ghost use Rattle.mrt_report.specs.{LineParts.AreLineParts, Viewed.viewed};
+ghost use Rattle.mrt_report.specs.{LineParts.AreAllParts, LineParts.AreLineParts, Viewed.viewed};
 
 use crate::letters::push_letters;
 use crate::parts::Parts;
 use crate::words::tag_word;
 use area_graph::ArcNo;
 use mrt_graph::{End, Graph, LinkNo, NoMemory, NodeNo, RowsOf};
-use primary_alt::Primary;
 use text_parts::{push, push_hop, push_node};
 
 /// Puts the line on a destination at the end of a text.
-pub fn push_line<R: RowsOf>(
-    text: &mut Vec<u8>,
-    parts: &Parts<'_, R>,
-    to: NodeNo,
-    primary: Primary,
-) -> Result<(), NoMemory>
-    requires kept { AreLineParts (viewed R.rows parts.now) to }
-    requires first { primary.first < length parts.now.area.now.arcs }
-    requires second { IfSome primary.second (λ second. second < length parts.now.area.now.arcs) }
+pub fn push_line<R: RowsOf>(text: &mut Vec<u8>, parts: &Parts<'_, R>) -> Result<(), NoMemory>
+    requires { AreAllParts (viewed R.rows parts.now) parts.now.to parts.now.primary }
     ensures { IfOk result (λ _.
-        Adds (IsLine (viewed R.rows parts.now) to primary) text.old.items text.new.items) }
+        Adds (IsLine (viewed R.rows parts.now) parts.now.to parts.now.primary) text.old.items text.new.items) }
 {
-    push_node(text, parts.island.id(to))?;
+    push_node(text, parts.island.id(parts.to))?;
     push(text, b" ")?;
-    push_colors(text, parts, to)?;
+    push_colors(text, parts)?;
     push(text, b" primary ")?;
-    push_primary(text, parts, to, primary)?;
+    push_primary(text, parts)?;
     push(text, b"\n")?;
     Ok(())
 }
 
 /// Puts the hops of both colors at the end of a text.
-fn push_colors<R: RowsOf>(
-    text: &mut Vec<u8>,
-    parts: &Parts<'_, R>,
-    to: NodeNo,
-) -> Result<(), NoMemory>
-    requires kept { AreLineParts (viewed R.rows parts.now) to }
+fn push_colors<R: RowsOf>(text: &mut Vec<u8>, parts: &Parts<'_, R>) -> Result<(), NoMemory>
+    requires kept { AreLineParts (viewed R.rows parts.now) parts.now.to }
     ensures { IfOk result (λ _.
-        Adds (AreColorWords (viewed R.rows parts.now) to) text.old.items text.new.items) }
+        Adds (AreColorWords (viewed R.rows parts.now) parts.now.to) text.old.items text.new.items) }
 {
-    let row = parts.rows.row_for(parts.source, to);
+    let row = parts.rows.row_for(parts.source, parts.to);
     push(text, tag_word(row.tag))?;
     push(text, b" blue ")?;
     push_link_hop(text, parts, row.blue)?;
@@ -94,21 +82,14 @@ fn first_on(ends: &[End], link: LinkNo) -> Option<End>
 }
 
 /// Puts the primary's hop, and what repairs the failure of each of its elements, at the end of a text.
-fn push_primary<R: RowsOf>(
-    text: &mut Vec<u8>,
-    parts: &Parts<'_, R>,
-    to: NodeNo,
-    primary: Primary,
-) -> Result<(), NoMemory>
-    requires kept { AreLineParts (viewed R.rows parts.now) to }
-    requires first { primary.first < length parts.now.area.now.arcs }
-    requires second { IfSome primary.second (λ second. second < length parts.now.area.now.arcs) }
+fn push_primary<R: RowsOf>(text: &mut Vec<u8>, parts: &Parts<'_, R>) -> Result<(), NoMemory>
+    requires { AreAllParts (viewed R.rows parts.now) parts.now.to parts.now.primary }
     ensures { IfOk result (λ _.
-        Adds (ArePrimaryWords (viewed R.rows parts.now) to primary) text.old.items text.new.items) }
+        Adds (ArePrimaryWords (viewed R.rows parts.now) parts.now.to parts.now.primary) text.old.items text.new.items) }
 {
-    push_arc_hop(text, parts, primary.first)?;
+    push_arc_hop(text, parts, parts.primary.first)?;
     push(text, b" repair ")?;
-    push_letters(text, parts, to, primary)?;
+    push_letters(text, parts)?;
     Ok(())
 }
 

@@ -113,8 +113,10 @@ pub fn push_table_line<R: RowsOf>(
         link_of,
         rows,
         source,
+        to,
+        primary: prim,
     };
-    push_line(text, &parts, to, prim)
+    push_line(text, &parts)
 }
 
 /// Puts the first line at the end of a text.

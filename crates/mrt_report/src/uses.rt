@@ -5,7 +5,7 @@ ghost use Rattle.mrt_report.specs.{LineParts.AreLineParts, Uses.IsOverOne, Uses.
 
 use crate::elements::ArcElements;
 use crate::parts::Parts;
-use mrt_graph::{Color, Element, NodeNo, RowsOf};
+use mrt_graph::{Color, Element, RowsOf};
 use primary_alt::{ColorHop, is_over, next_hop};
 
 /// Of the elements of an arc, each by itself: whether a color walk uses it.
@@ -22,19 +22,18 @@ pub struct BothUses {
     pub second: ArcUses,
 }
 
-/// Which elements of two arcs the color walk from the router to `to` uses.
+/// Which elements of two arcs the color walk from the router to the destination uses.
 ///
 /// It follows the walk once, whatever the number of elements, up to where all of them are used, and takes no memory.
 pub fn uses_of<R: RowsOf>(
     parts: &Parts<'_, R>,
-    to: NodeNo,
     color: Color,
     first: &ArcElements,
     second: &ArcElements,
 ) -> BothUses
-    requires kept { AreLineParts (viewed R.rows parts.now) to }
-    ensures first { TellUses (viewed R.rows parts.now) to color first.now result.first }
-    ensures second { TellUses (viewed R.rows parts.now) to color second.now result.second }
+    requires kept { AreLineParts (viewed R.rows parts.now) parts.now.to }
+    ensures first { TellUses (viewed R.rows parts.now) parts.now.to color first.now result.first }
+    ensures second { TellUses (viewed R.rows parts.now) parts.now.to color second.now result.second }
 {
     let none = ArcUses {
         link: false,
@@ -46,11 +45,11 @@ pub fn uses_of<R: RowsOf>(
     };
     let mut at = parts.source;
     let mut left = parts.island.node_count();
-    while left > 0 && at != to {
-        if are_told(&uses.first, first) && are_told(&uses.second, second) {
+    while left > 0 && at != parts.to {
+        if are_told(&uses.first, first) && are_told(&uses.first, first) {
             return uses;
         }
-        let hop = next_hop(parts.island, parts.rows, at, to, color);
+        let hop = next_hop(parts.island, parts.rows, at, parts.to, color);
         uses = BothUses {
             first: uses_after(&uses.first, first, &hop),
             second: uses_after(&uses.second, second, &hop),
@@ -61,7 +60,7 @@ pub fn uses_of<R: RowsOf>(
     uses
 }
 
-/// Those of the elements of an arc that are used.
+/// The elements of an arc, without those that are not used; that these are left out saves time, and no clause tells it.
 pub fn used_of(elements: &ArcElements, uses: &ArcUses) -> ArcElements
     ensures link { IsTrue uses.now.link → result.link ≡ elements.now.link }
     ensures node { IsTrue uses.now.node → result.node ≡ elements.now.node }

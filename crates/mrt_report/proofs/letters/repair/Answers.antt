@@ -7,4 +7,4 @@ use Rattle.mrt_report.specs.Viewed.{viewed}
 use Rattle.mrt_report.proofs.letters.repair.Goals as goal
 
 pub returns-in-None : goal.returns-in-None
-returns-in-None g c = subst (λ (failed : Option Element). IsRepair (viewed g.R.RowsOf.rows c.args.parts.now) c.args.to failed (Some Blue)) (sym c.in-None.is) Outside
+returns-in-None g c = subst (λ (failed : Option Element). IsRepair (viewed g.R.RowsOf.rows c.args.parts.now) c.args.parts.now.to failed (Some Blue)) (sym c.in-None.is) Outside

@@ -6,21 +6,21 @@ use Rattle.mrt_report.proofs.line.push_colors.Goals as goal
 
 pub row_for-row-requires : goal.row_for-row-requires
 row_for-row-requires g c =
-    (row_there c.args.parts.now.island.now.links (g.R.RowsOf.rows c.args.parts.now.rows.now) Blue c.args.parts.now.source c.args.to
+    (row_there c.args.parts.now.island.now.links (g.R.RowsOf.rows c.args.parts.now.rows.now) Blue c.args.parts.now.source c.args.parts.now.to
     (c.requires.kept.leads_on Blue c.args.parts.now.source c.requires.kept.within c.requires.kept.different))
 
 pub push_link_hop-requires-clause-touches : goal.push_link_hop-requires-clause-touches
 push_link_hop-requires-clause-touches g c =
     let on = c.requires.kept.leads_on Blue c.args.parts.now.source c.requires.kept.within c.requires.kept.different in
-    let some = row_there c.args.parts.now.island.now.links (g.R.RowsOf.rows c.args.parts.now.rows.now) Blue c.args.parts.now.source c.args.to on in
-    row_touches c.args.parts.now.island.now.links (g.R.RowsOf.rows c.args.parts.now.rows.now) Blue c.args.parts.now.source c.args.to c.row_for-row.result
+    let some = row_there c.args.parts.now.island.now.links (g.R.RowsOf.rows c.args.parts.now.rows.now) Blue c.args.parts.now.source c.args.parts.now.to on in
+    row_touches c.args.parts.now.island.now.links (g.R.RowsOf.rows c.args.parts.now.rows.now) Blue c.args.parts.now.source c.args.parts.now.to c.row_for-row.result
     c.row_for-row.ensures on
 
 pub push_link_hop-requires-2-clause-touches : goal.push_link_hop-requires-2-clause-touches
 push_link_hop-requires-2-clause-touches g c =
     let on = c.requires.kept.leads_on Red c.args.parts.now.source c.requires.kept.within c.requires.kept.different in
-    let some = row_there c.args.parts.now.island.now.links (g.R.RowsOf.rows c.args.parts.now.rows.now) Red c.args.parts.now.source c.args.to on in
-    row_touches c.args.parts.now.island.now.links (g.R.RowsOf.rows c.args.parts.now.rows.now) Red c.args.parts.now.source c.args.to c.row_for-row.result
+    let some = row_there c.args.parts.now.island.now.links (g.R.RowsOf.rows c.args.parts.now.rows.now) Red c.args.parts.now.source c.args.parts.now.to on in
+    row_touches c.args.parts.now.island.now.links (g.R.RowsOf.rows c.args.parts.now.rows.now) Red c.args.parts.now.source c.args.parts.now.to c.row_for-row.result
     c.row_for-row.ensures on
 
 pub returns : goal.returns

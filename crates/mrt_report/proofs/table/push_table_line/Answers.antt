@@ -2,13 +2,11 @@ use Rattle.mrt_report.proofs.ByColumn.{parts_by_sound}
 use Rattle.mrt_report.proofs.ForLine.{its_first_within, its_second_within}
 use Rattle.mrt_report.proofs.table.push_table_line.Goals as goal
 
-pub push_line-requires-clause-kept : goal.push_line-requires-clause-kept
-push_line-requires-clause-kept g c =
-    parts_by_sound c.args.area.now c.args.island.now c.args.link_of.now (g.R.RowsOf.rows c.args.rows.now) c.args.source c.args.to
-    c.count-nodes.ensures.kept c.node_count-count.ensures.kept c.requires.fits c.requires.source c.requires.target c.requires.different c.requires.sound
-
-pub push_line-requires-clause-first : goal.push_line-requires-clause-first
-push_line-requires-clause-first g c = its_first_within c.args.area.now c.args.island.now c.args.source c.args.to c.args.prim c.requires.primary
-
-pub push_line-requires-clause-second : goal.push_line-requires-clause-second
-push_line-requires-clause-second g c = its_second_within c.args.area.now c.args.island.now c.args.source c.args.to c.args.prim c.requires.primary
+pub push_line-requires : goal.push_line-requires
+push_line-requires g c = record {
+  kept =
+      parts_by_sound c.args.area.now c.args.island.now c.args.link_of.now (g.R.RowsOf.rows c.args.rows.now) c.args.source c.args.to
+      c.count-nodes.ensures.kept c.node_count-count.ensures.kept c.requires.fits c.requires.source c.requires.target c.requires.different c.requires.sound;
+  first = its_first_within c.args.area.now c.args.island.now c.args.source c.args.to c.args.prim c.requires.primary;
+  second = its_second_within c.args.area.now c.args.island.now c.args.source c.args.to c.args.prim c.requires.primary;
+}
