@@ -46,7 +46,7 @@ pub fn uses_of<R: RowsOf>(
     let mut at = parts.source;
     let mut left = parts.island.node_count();
     while left > 0 && at != parts.to {
-        if are_told(&uses.first, first) && are_told(&uses.first, first) {
+        if are_told(&uses.first, first) && are_told(&uses.second, second) {
             return uses;
         }
         let hop = next_hop(parts.island, parts.rows, at, parts.to, color);

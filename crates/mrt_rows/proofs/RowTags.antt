@@ -10,7 +10,7 @@ use Rattle.inc_dec_spf.specs.LeastPath.{HaveCommonBlockOfMoreLinks}
 use Rattle.mrt_rows.specs.RowLines.{LineOf, SoleLine}
 use Rattle.mrt_rows.proofs.OrderedGraphs.{OrderedGraph, one_common}
 use Rattle.mrt_rows.proofs.Sharing.{none_of_share}
-use Rattle.mrt_rows.proofs.Ways.{Inside, Ring, Way, goes_further, not_head, opposite}
+use Rattle.mrt_rows.proofs.Ways.{Inside, Ring, Way, not_head, one_way}
 use Rattle.mrt_rows.proofs.WaysBegun.{Sharing, WayOver, no_way, peers, share, way_over}
 
 -- the tag of a row for a node to which ways lead in a direction
@@ -59,18 +59,12 @@ module _ (og : OrderedGraph) (m : ℕ) (ring : Ring og m) (s t : ℕ) (source : 
       none Down = no_way og m Down s t shared line.none_down
   peer_tag tags.Carried rows row line = absurd (line.apart (og.w.block m) (og.w.head m) sharing.common)
 
-  -- no ways lead in both directions
-  one_way : (dir : Dir) → Way og m dir s t → Way og m (against dir) s t → ⊥
-  one_way dir on back =
-      opposite og dir s t (goes_further og m ring dir s on.path t source target on.is)
-      (goes_further og m ring (against dir) s back.path t source target back.is)
-
   -- with a way the tag is that of its direction
   pub way_here : (dir : Dir) (tag : Tag) → PeerTag og m s t tag → Way og m dir s t → tag ≡ way_tag dir
   way_here Up tag (HasWay Up is way) on = is
-  way_here Up tag (HasWay Down is way) on = absurd (one_way Up on way)
+  way_here Up tag (HasWay Down is way) on = absurd (one_way og m ring Up s t source target on way)
   way_here Down tag (HasWay Down is way) on = is
-  way_here Down tag (HasWay Up is way) on = absurd (one_way Down on way)
+  way_here Down tag (HasWay Up is way) on = absurd (one_way og m ring Down s t source target on way)
   way_here dir tag (IsUnordered is none) on = absurd (none dir on)
 
   -- without one it is Unordered, or that of the other direction

@@ -161,16 +161,16 @@ module _ (og : OrderedGraph) (m : ℕ) (ring : Ring og m) where
   step_down s end step =
       directs end.link end.to s (lead_back og.g.links end.link s end.to (step_leads og Down (og.w.block m) s end step)) step.leads_on step.in_block
 
-  -- a step from a node of the block goes on inside it, or home
+  -- a step from a node of the block goes on inside it, over a plain link, or home
   pub from : (dir : Dir) (s : ℕ) (end : End) → Inside og m s → IsStep og.g og.w dir (og.w.block m) s end
-      → (Inside og m end.to × Further og dir s end.to) ⊎ ((end.to ≡ h) × (og.w.role end.link ≡ home_role dir))
+      → (Inside og m end.to × Further og dir s end.to × (og.w.role end.link ≡ Plain)) ⊎ ((end.to ≡ h) × (og.w.role end.link ≡ home_role dir))
   from Up s end inside step = elim (step_up s end step) [
-    | Inner a b plain up ↦ inl (b, up)
+    | Inner a b plain up ↦ inl (b, up, plain)
     | Out a b plain ↦ absurd (not_head s inside a)
     | Home a b closing ↦ inr (b, closing)
   ]
   from Down s end inside step = elim (step_down s end step) [
-    | Inner a b plain up ↦ inl (a, up)
+    | Inner a b plain up ↦ inl (a, up, plain)
     | Out a b plain ↦ inr (a, plain)
     | Home a b closing ↦ absurd (not_head s inside b)
   ]
@@ -209,6 +209,11 @@ module _ (og : OrderedGraph) (m : ℕ) (ring : Ring og m) where
   pub down_falls : (s : ℕ) (path : List End) (t : ℕ) → Inside og m s → Inside og m t
       → Path og.g og.w Down (og.w.block m) h s path t → og.w.order t < og.w.order s
   down_falls = goes_further Down
+
+  -- no ways lead in both directions
+  pub one_way : (dir : Dir) (s t : ℕ) → Inside og m s → Inside og m t → Way og m dir s t → Way og m (against dir) s t → ⊥
+  one_way dir s t source target on back =
+      opposite og dir s t (goes_further dir s on.path t source target on.is) (goes_further (against dir) s back.path t source target back.is)
 
   -- a step up home is from the greatest node, and one down from the head to it
   pub up_from_top : (s : ℕ) (end : End) → IsStep og.g og.w Up (og.w.block m) s end → og.w.role end.link ≡ Closing → s ≡ top

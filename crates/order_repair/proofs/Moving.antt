@@ -10,10 +10,9 @@ use Rattle.inc_dec_spf.specs.declared.reach.Dir.{Dir}
 use Rattle.inc_dec_spf.specs.declared.reach.Dir.TheVariants.{Down, Up}
 use Rattle.inc_dec_spf.specs.Against.{against}
 use Rattle.mrt_rows.proofs.OrderedGraphs.{OrderedGraph}
-use Rattle.mrt_rows.proofs.Ways.{Inside, Ring, Way, inside_head, not_head}
+use Rattle.mrt_rows.proofs.Ways.{Inside, Ring, Way, inside_head, not_head, one_way}
 use Rattle.mrt_rows.proofs.WaysBegun.{Sharing, WayOver}
 use Rattle.order_repair.proofs.RowWays.{AboveRow, BelowRow, HeadRow, RowWays, TopRow, UnorderedRow, way_of}
-use Rattle.order_repair.proofs.Steps.{one_way}
 
 -- the direction of a color: blue goes up, and red down, but for Unordered rows on their way to the head
 abbrev pub dir_of : Color → Dir

@@ -11,13 +11,13 @@ use Rattle.mrt_graph.specs.Rows.{Rows}
 use Rattle.inc_dec_spf.specs.declared.reach.Dir.TheVariants.{Down, Up}
 use Rattle.mrt_rows.specs.RowsOf.{HasRow}
 use Rattle.mrt_rows.proofs.OrderedGraphs.{OrderedGraph}
-use Rattle.mrt_rows.proofs.Ways.{Inside, Ring, Way, head_lower, inside_head, not_head}
+use Rattle.mrt_rows.proofs.Ways.{Inside, Ring, Way, head_lower, inside_head, not_head, one_way}
 use Rattle.order_repair.specs.Failed.{IsNodeOf}
 use Rattle.order_repair.specs.OrderChoice.{Is, LeadsTo, NodeLine}
 use Rattle.order_repair.proofs.MayMeet.{MayAside}
 use Rattle.order_repair.proofs.Round.{IsRound, after_high, after_low, by_other, by_where, join, leads_to, round_after, round_aside, round_head, round_past, round_peer, way_to}
 use Rattle.order_repair.proofs.RowWays.{AboveRow, BelowRow, HeadRow, RowWays, TopRow, UnorderedRow, way_of}
-use Rattle.order_repair.proofs.Steps.{beyond_on, from_itself, one_way}
+use Rattle.order_repair.proofs.Steps.{beyond_on, from_itself}
 
 module _ (og : OrderedGraph) (m : ℕ) (ring : Ring og m) (rows : Rows) (s t : ℕ)
     (tabled : (u : ℕ) → u < length og.g.ids → u ≢ t → HasRow og.g og.root og.w u (rows u) t) (two : s ≢ t)

@@ -8,7 +8,9 @@ use Rattle.inc_dec_spf.specs.declared.reach.Dir.{Dir}
 use Rattle.inc_dec_spf.specs.declared.reach.Dir.TheVariants.{Down, Up}
 use Rattle.mrt_rows.specs.RowLines.{AreMembers, BeginsOver, LineOf, SoleLine}
 use Rattle.mrt_rows.proofs.LinesHold.{with_head}
-use Rattle.mrt_rows.proofs.OrderedGraphs.{OrderedGraph, one_common, within}
+use Rattle.mrt_rows.proofs.OrderedGraphs.{OrderedGraph, one_common}
+pub use Rattle.mrt_rows.proofs.RowTags.{way_of}
+use Rattle.mrt_rows.proofs.Sharing.{none_of_share}
 use Rattle.mrt_rows.proofs.Ways.{Inside, Ring, Way, not_head}
 use Rattle.mrt_rows.proofs.WaysBegun.{Sharing, WayOver, no_way, share, way_over}
 
@@ -32,9 +34,6 @@ pub data RowWays (og : OrderedGraph) (m u t blue red : ℕ) : Tag → Type 0 whe
       → WayOver og m Down u (og.w.head m) blue → WayOver og m Up u (og.w.head m) red
       → RowWays og m u t blue red tags.Unordered
 
-pub way_of : (og : OrderedGraph) (m : ℕ) (dir : Dir) (u t link : ℕ) → WayOver og m dir u t link → Way og m dir u t
-way_of og m dir u t link way = record { path = way.end ∷ way.others; is = way.is }
-
 module _ (og : OrderedGraph) (m : ℕ) (ring : Ring og m) (u t : ℕ) (sharing : Sharing og m u t) where
   pub standing : Standing og m u t
   standing = go sharing.common
@@ -50,14 +49,8 @@ module _ (og : OrderedGraph) (m : ℕ) (ring : Ring og m) (u t : ℕ) (sharing :
 
   not_sole : (row : Row) → SoleLine og.g og.w u t row → ⊥
   not_sole row line =
-      let block = (same line.block line.head line.common).0 in
-      let closing =
-      line.one_link.no_other ring.closed.link
-      (within og.g ring.closed.link ring.closed.greatest (og.w.head m) og.kept ring.closed.over.leads_on).link
-      (ring.closed.over.in_block ∙ sym block) in
-      let another =
-      line.one_link.no_other ring.closed.another ring.closed.another_within (ring.closed.another_in_block ∙ sym block) in
-      ring.closed.another_link (another ∙ sym closing)
+      none_of_share og u t sharing.source sharing.target sharing.two (og.w.block m) (og.w.head m) (share og m u t ring sharing) line.block line.head
+      row.blue line.common line.one_link
 
   -- the way over a row's link to t, and to the head
   to_target : (dir : Dir) (link : ℕ) → BeginsOver og.g og.w dir u t link → WayOver og m dir u t link

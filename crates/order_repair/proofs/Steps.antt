@@ -9,7 +9,7 @@ use Rattle.inc_dec_spf.specs.declared.reach.Dir.TheVariants.{Down, Up}
 use Rattle.inc_dec_spf.specs.Against.{against}
 use Rattle.inc_dec_spf.specs.Path.{IsStep, LeadsOn, Path}
 use Rattle.mrt_rows.proofs.OrderedGraphs.{OrderedGraph, TailAt, step_leads, step_over}
-use Rattle.mrt_rows.proofs.Ways.{Directs, Home, Inner, Inside, Out, Ring, Way, begun, down_falls, not_head, put_before, step_down, step_up, top_inside, up_rises}
+use Rattle.mrt_rows.proofs.Ways.{Further, Inside, Ring, Way, begun, from, from_head, goes_further, home_role, not_head, put_before, up_from_top}
 use Rattle.mrt_rows.proofs.WaysBegun.{WayOver}
 
 -- in this direction link e of m's block leads from u to y
@@ -17,11 +17,6 @@ pub record IsOver (og : OrderedGraph) (m : ℕ) (dir : Dir) (e u y : ℕ) : Type
   pub onward : leads og.g.links e u ≡ Some y
   pub tail : TailAt og dir e u y
   pub block : og.w.lies_in e ≡ og.w.block m
-
--- y comes after u in this direction
-abbrev pub IsBeyond : OrderedGraph → Dir → ℕ → ℕ → Type 0
-IsBeyond og Up u y = og.w.order u < og.w.order y
-IsBeyond og Down u y = og.w.order y < og.w.order u
 
 -- y does not come before u
 abbrev pub IsFrom : OrderedGraph → Dir → ℕ → ℕ → Type 0
@@ -33,7 +28,7 @@ pub record IsInner (og : OrderedGraph) (m : ℕ) (dir : Dir) (e u y : ℕ) : Typ
   pub over : IsOver og m dir e u y
   pub plain : og.w.role e ≡ Plain
   pub inside : Inside og m y
-  pub beyond : IsBeyond og dir u y
+  pub beyond : Further og dir u y
 
 -- a step home goes up over the closing link from the greatest node, or down over a plain link
 abbrev pub HomeRole : OrderedGraph → ℕ → Dir → ℕ → ℕ → Type 0
@@ -45,21 +40,17 @@ pub record IsHome (og : OrderedGraph) (m top : ℕ) (dir : Dir) (e u y : ℕ) : 
   pub role : HomeRole og top dir e u
   pub there : y ≡ og.w.head m
 
--- a step from the head goes up over a plain link, or down over the closing one
-abbrev pub OutRole : OrderedGraph → Dir → ℕ → Type 0
-OutRole og Up e = og.w.role e ≡ Plain
-OutRole og Down e = og.w.role e ≡ Closing
-
+-- a step from the head is over a link that leads home in the other direction
 pub record IsOut (og : OrderedGraph) (m : ℕ) (dir : Dir) (e u y : ℕ) : Type 0 where
   pub over : IsOver og m dir e u y
-  pub role : OutRole og dir e
+  pub role : og.w.role e ≡ home_role (against dir)
   pub inside : Inside og m y
 
 -- a way is at its end, or goes on
 abbrev pub GoesOn : OrderedGraph → ℕ → Dir → ℕ → ℕ → Type 0
 GoesOn og m dir y t = (y ≡ t) ⊎ Way og m dir y t
 
-pub from_on : (og : OrderedGraph) (dir : Dir) (s u y : ℕ) → IsFrom og dir s u → IsBeyond og dir u y → IsFrom og dir s y
+pub from_on : (og : OrderedGraph) (dir : Dir) (s u y : ℕ) → IsFrom og dir s u → Further og dir u y → IsFrom og dir s y
 from_on og Up s u y from beyond = omega (arith, from, beyond)
 from_on og Down s u y from beyond = omega (arith, from, beyond)
 
@@ -89,37 +80,14 @@ module _ (og : OrderedGraph) (m : ℕ) (ring : Ring og m) where
   -- a step from a node of the block
   from_inside : (dir : Dir) (u : ℕ) (end : End) → Inside og m u → IsStep og.g og.w dir (og.w.block m) u end
       → IsInner og m dir end.link u end.to ⊎ IsHome og m top dir end.link u end.to
-  from_inside Up u end inside step = go (step_up og m ring u end step)
+  from_inside dir u end inside step = elim (from og m ring dir u end inside step) [
+    | inl on ↦ inl (record { over = is_over dir u end step; plain = on.2; inside = on.0; beyond = on.1 })
+    | inr home ↦ inr (record { over = is_over dir u end step; role = role_of dir step home.1; there = home.0 })
+  ]
     where
-      go : Directs og m top end.link u end.to → IsInner og m Up end.link u end.to ⊎ IsHome og m top Up end.link u end.to
-      go (Inner a b plain up) = inl (record { over = is_over Up u end step; plain = plain; inside = b; beyond = up })
-      go (Out a b plain) = absurd (not_head og m ring u inside a)
-      go (Home a b closing) = inr (record { over = is_over Up u end step; role = (closing, a); there = b })
-  from_inside Down u end inside step = go (step_down og m ring u end step)
-    where
-      go : Directs og m top end.link end.to u → IsInner og m Down end.link u end.to ⊎ IsHome og m top Down end.link u end.to
-      go (Inner a b plain up) = inl (record { over = is_over Down u end step; plain = plain; inside = a; beyond = up })
-      go (Out a b plain) = inr (record { over = is_over Down u end step; role = plain; there = a })
-      go (Home a b closing) = absurd (not_head og m ring u inside b)
-
-  -- a step from the head
-  from_head : (dir : Dir) (end : End) → IsStep og.g og.w dir (og.w.block m) h end → IsOut og m dir end.link h end.to
-  from_head Up end step = go (step_up og m ring h end step)
-    where
-      go : Directs og m top end.link h end.to → IsOut og m Up end.link h end.to
-      go (Inner a b plain up) = absurd (not_head og m ring h a refl)
-      go (Out a b plain) = record { over = is_over Up h end step; role = plain; inside = b }
-      go (Home a b closing) = absurd (not_head og m ring top (top_inside og m ring) (sym a))
-  from_head Down end step = go (step_down og m ring h end step)
-    where
-      go : Directs og m top end.link end.to h → IsOut og m Down end.link h end.to
-      go (Inner a b plain up) = absurd (not_head og m ring h b refl)
-      go (Out a b plain) = absurd (not_head og m ring h b refl)
-      go (Home a b closing) = record {
-        over = is_over Down h end step;
-        role = closing;
-        inside = subst (λ (x : ℕ). Inside og m x) (sym a) (top_inside og m ring);
-      }
+      role_of : (dir : Dir) → IsStep og.g og.w dir (og.w.block m) u end → og.w.role end.link ≡ home_role dir → HomeRole og top dir end.link u
+      role_of Up step is = (is, up_from_top og m ring u end step is)
+      role_of Down step is = is
 
   -- where a way over a link goes after it
   goes_on : (dir : Dir) (u z link : ℕ) (way : WayOver og m dir u z link) → z ≢ h
@@ -164,11 +132,14 @@ module _ (og : OrderedGraph) (m : ℕ) (ring : Ring og m) where
 
   pub out_step : (dir : Dir) (t link : ℕ) → Inside og m t → (way : WayOver og m dir h t link)
       → Outwards dir t link way.end.to
-  out_step dir t link target way = record {
-    out = subst (λ (e : ℕ). IsOut og m dir e h way.end.to) (sym way.over)
-        (from_head dir way.end (begun og m dir h way.end way.others t way.is).step);
-    rest = goes_on dir h t link way (not_head og m ring t target);
-  }
+  out_step dir t link target way =
+      let step = (begun og m dir h way.end way.others t way.is).step in
+      let on = from_head og m ring dir way.end step in
+      record {
+        out = subst (λ (e : ℕ). IsOut og m dir e h way.end.to) (sym way.over)
+            (record { over = is_over dir h way.end step; role = on.1; inside = on.0 });
+        rest = goes_on dir h t link way (not_head og m ring t target);
+      }
 
   -- a step back, put before a way
   tail_back : (dir : Dir) (e u y : ℕ) → TailAt og dir e u y → TailAt og (against dir) e y u
@@ -205,13 +176,5 @@ module _ (og : OrderedGraph) (m : ℕ) (ring : Ring og m) where
       record { path = step.end ∷ []; is = (step.step, step.to ∙ there) }
 
   -- the orders along a way between nodes of the block
-  pub beyond_on : (dir : Dir) (u t : ℕ) → Inside og m u → Inside og m t → Way og m dir u t → IsBeyond og dir u t
-  beyond_on Up u t source target way = up_rises og m ring u way.path t source target way.is
-  beyond_on Down u t source target way = down_falls og m ring u way.path t source target way.is
-
-  -- no two ways against each other
-  pub one_way : (dir : Dir) (u t : ℕ) → Inside og m u → Inside og m t → Way og m dir u t → Way og m (against dir) u t → ⊥
-  one_way Up u t source target way back =
-      omega (arith, beyond_on Up u t source target way, beyond_on Down u t source target back)
-  one_way Down u t source target way back =
-      omega (arith, beyond_on Down u t source target way, beyond_on Up u t source target back)
+  pub beyond_on : (dir : Dir) (u t : ℕ) → Inside og m u → Inside og m t → Way og m dir u t → Further og dir u t
+  beyond_on dir u t source target way = goes_further og m ring dir u way.path t source target way.is

@@ -9,14 +9,13 @@ use Rattle.inc_dec_spf.specs.LeastPath.{IsHop, NotReached, Reached, HaveCommonBl
 use Rattle.link_direction.specs.CommonBlock.{HaveCommonBlock}
 use Rattle.mrt_rows.proofs.OrderedGraphs.{OrderedGraph, not_root_of_peers, one_is_head, peers_not_head}
 use Rattle.mrt_rows.proofs.RowsExist.{some_rows}
-use Rattle.mrt_rows.proofs.Ways.{Inside, Ring, Way, inside_head, inside_itself}
+use Rattle.mrt_rows.proofs.Ways.{Inside, Ring, Way, inside_head, inside_itself, one_way}
 use Rattle.mrt_rows.proofs.WaysBegun.{no_way, peers, share}
 use Rattle.order_repair.specs.OrderChoice.{IsRowFor}
 use Rattle.order_repair.specs.Tagging.{IsTagFor, NotShared, Tagged, peer_tag, tag_where}
 use Rattle.order_repair.proofs.Round.{way_to}
 use Rattle.order_repair.proofs.RowWays.{AboveRow, BelowRow, HeadRow, RowWays, TopRow, UnorderedRow, row_ways, way_of}
 use Rattle.order_repair.proofs.SharedBlock.{SharedRing, shared_ring}
-use Rattle.order_repair.proofs.Steps.{one_way}
 
 module _ (og : OrderedGraph) (s t : ℕ) (s_within : s < length og.g.ids) (t_within : t < length og.g.ids) (two : s ≢ t) where
   -- the row of s for t, where they share a block of more than one link
