@@ -1,11 +1,11 @@
 -- What two nodes have in common, as their places tell.
-use Rattle.std.proofs.Common.{◌≡◌, ◌≢◌, ◌<◌, ℕ, length, refl, sym, inl, inr}
-use Rattle.link_direction.specs.CommonBlock.{HaveCommonBlock, Peers}
+use Rattle.std.proofs.Common.{◌≡◌, ◌≢◌, ◌<◌, ℕ, length, inl, inr}
+use Rattle.link_direction.specs.CommonBlock.{HaveCommonBlock}
 use Rattle.mrt_rows.specs.RowLines.{AreMembers, HasOneLink}
 use Rattle.mrt_rows.specs.Put.{NoneOfOneLink}
-use Rattle.mrt_rows.proofs.OrderedGraphs.{OrderedGraph, not_root_of_peers}
-use Rattle.mrt_rows.proofs.Ways.{Inside, Ring, inside_itself}
-use Rattle.mrt_rows.proofs.WaysBegun.{peers, share}
+use Rattle.mrt_rows.proofs.OrderedGraphs.{OrderedGraph}
+use Rattle.mrt_rows.proofs.Ways.{Ring}
+use Rattle.mrt_rows.proofs.WaysBegun.{peer_ring, peers_are}
 
 module _ (og : OrderedGraph) (s t : ℕ) (s_within : s < length og.g.ids) (t_within : t < length og.g.ids) (two : s ≢ t)
     (more : NoneOfOneLink og.g og.w s t) where
@@ -22,17 +22,7 @@ module _ (og : OrderedGraph) (s t : ℕ) (s_within : s < length og.g.ids) (t_wit
   -- another member
   module _ (same : og.w.block s ≡ og.w.block t) where
     pub member_ring : Ring og s
-    member_ring =
-        ring_by s (og.w.head s) s_within
-        (not_root_of_peers og t s t_within s_within (λ back. two (sym back)) (sym same)) (Peers refl (sym same) refl)
-
-    pub member_target : Inside og s t
-    member_target = record { within = t_within; block = sym same }
+    member_ring = peer_ring og s t s_within t_within two same
 
     pub are_members : AreMembers og.g og.w s t (og.w.block s) (og.w.head s)
-    are_members = record {
-      share = share og s s t member_ring (peers og s s t member_ring
-          (inside_itself og s member_ring) member_target two);
-      source = refl;
-      target = sym same;
-    }
+    are_members = peers_are og s t s_within t_within two same

@@ -10,7 +10,6 @@ use Rattle.inc_dec_spf.specs.declared.reach.Dir.{Dir}
 use Rattle.inc_dec_spf.specs.declared.reach.Dir.TheVariants.{Down, Up}
 use Rattle.inc_dec_spf.specs.LeastPath.{HaveCommonBlockOfMoreLinks}
 use Rattle.mrt_rows.specs.NearOf.{Apart, InCommon, IsNearRow}
-use Rattle.mrt_rows.specs.Put.{AreInCommonBlockOfMoreLinks}
 use Rattle.mrt_rows.specs.RowLines.{AreMembers, BeginsOver, CarriedLine, LineOf, SoleLine}
 use Rattle.mrt_rows.specs.RowsOf.{HasRow}
 use Rattle.mrt_rows.proofs.LinesHold.{begins_home, head_of_source, head_of_target}
@@ -23,22 +22,9 @@ row_same : (a b : Row) → a.blue ≡ b.blue → a.red ≡ b.red → a.tag ≡ b
 row_same a b blue red tag = λ i. record { blue = blue i; red = red i; tag = tag i }
 
 module _ (og : OrderedGraph) (s t : ℕ) (s_within : s < length og.g.ids) (t_within : t < length og.g.ids) (two : s ≢ t) where
-  -- all lines but Sole and Carried tell of a block of more than one link
-  abbrev Shares : Tag → Type 0
-  Shares tags.Sole = Unit {0}
-  Shares tags.Carried = Unit {0}
-  Shares _ = AreInCommonBlockOfMoreLinks og.g og.w s t
-
-  shares : (T : Tag) (rows : ℕ → Option Row) (row : Row) → LineOf T og.g og.root og.w s rows t row → Shares T
-  shares tags.Sole rows row line = tt
-  shares tags.Carried rows row line = tt
-  shares tags.Head rows row line = record { block = line.block; head = line.head; share = line.share }
-  shares tags.Top rows row line = record { block = line.block; head = line.head; share = line.share }
-  shares _ rows row line = record { block = line.block; head = line.head; share = line.members.share }
-
-  one_or_more : (row : Row) → SoleLine og.g og.w s t row → AreInCommonBlockOfMoreLinks og.g og.w s t → ⊥
-  one_or_more row line more =
-      none_of_share og s t s_within t_within two more.block more.head more.share line.block line.head row.blue line.common line.one_link
+  -- a block of one link has not more
+  one_or_more : (row : Row) (k h : ℕ) → SoleLine og.g og.w s t row → HaveCommonBlockOfMoreLinks og.g og.w s t k h → ⊥
+  one_or_more row k h line share = none_of_share og s t s_within t_within two k h share line.block line.head row.blue line.common line.one_link
 
   -- of two nodes of one block none is the other's head
   not_peers : (k h : ℕ) → AreMembers og.g og.w s t k h → (og.w.head s ≢ t) × (og.w.head t ≢ s)
@@ -71,8 +57,12 @@ module _ (og : OrderedGraph) (s t : ℕ) (s_within : s < length og.g.ids) (t_wit
         let same = one_common og s t y.block y.head x.block x.head s_within t_within two y.common x.common in
         let blue = sym (x.one_link.no_other b.blue y.one_link.within (y.one_link.in_block ∙ same.0)) in
         row_same a b blue (x.red ∙ blue ∙ sym y.red) (is_a ∙ sym is_b)
-    near_lines tags.Sole U is_a is_b x y = absurd (one_or_more a x (shares U others b y))
-    near_lines T tags.Sole is_a is_b x y = absurd (one_or_more b y (shares T rows a x))
+    near_lines tags.Sole tags.Head is_a is_b x y = absurd (one_or_more a y.block y.head x y.share)
+    near_lines tags.Sole tags.Top is_a is_b x y = absurd (one_or_more a y.block y.head x y.share)
+    near_lines tags.Sole U is_a is_b x y = absurd (one_or_more a y.block y.head x y.members.share)
+    near_lines tags.Head tags.Sole is_a is_b x y = absurd (one_or_more b x.block x.head y x.share)
+    near_lines tags.Top tags.Sole is_a is_b x y = absurd (one_or_more b x.block x.head y x.share)
+    near_lines T tags.Sole is_a is_b x y = absurd (one_or_more b x.block x.head y x.members.share)
     near_lines tags.Head tags.Head is_a is_b x y =
         row_same a b (same_link Up a.blue b.blue x.blue y.blue) (same_link Down a.red b.red x.red y.red) (is_a ∙ sym is_b)
     near_lines tags.Top tags.Top is_a is_b x y =

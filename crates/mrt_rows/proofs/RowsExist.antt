@@ -21,9 +21,9 @@ use Rattle.mrt_rows.proofs.HeadWays.{way_from_head, way_home}
 use Rattle.mrt_rows.proofs.HopsExist.{has_hop}
 use Rattle.mrt_rows.proofs.LinesHold.{with_head}
 use Rattle.mrt_rows.proofs.OneRow.{Far, HasTheRow, IsRowFor, Near, by_carriers, has_all, of_table, one_for}
-use Rattle.mrt_rows.proofs.OrderedGraphs.{OrderedGraph, has_head, not_root_of_peers}
-use Rattle.mrt_rows.proofs.Ways.{Inside, Ring, Way, inside_itself}
-use Rattle.mrt_rows.proofs.WaysBegun.{Sharing, no_way, peers, share}
+use Rattle.mrt_rows.proofs.OrderedGraphs.{OrderedGraph, has_head}
+use Rattle.mrt_rows.proofs.Ways.{Ring, Way, inside_itself}
+use Rattle.mrt_rows.proofs.WaysBegun.{Sharing, no_way, peer_ring, peers_are, share}
 
 -- a near row, where they have a block in common
 module _ (og : OrderedGraph) (s t : ℕ) (s_within : s < length og.g.ids) (t_within : t < length og.g.ids) (two : s ≢ t) where
@@ -81,14 +81,11 @@ module _ (og : OrderedGraph) (s t : ℕ) (s_within : s < length og.g.ids) (t_wit
     abbrev h : ℕ
     h = og.w.head s
 
-    source : Inside og s s
-    source = inside_itself og s ring
-
     are : AreMembers og.g og.w s t k h
-    are = record { share = share og s s t ring (peers og s s t ring source (record { within = t_within; block = sym same }) two); source = refl; target = sym same }
+    are = peers_are og s t s_within t_within two same
 
     home : (dir : Dir) → (link : ℕ) × BeginsOver og.g og.w dir s h link
-    home dir = begun s h dir ring (with_head og s s ring source) (way_home og s dir ring)
+    home dir = begun s h dir ring (with_head og s s ring (inside_itself og s ring)) (way_home og s dir ring)
 
     peer_row : (up down : Option Hop) → IsHop og.g og.w Up s t up → IsHop og.g og.w Down s t down → HasNear
     peer_row (Some up) down is_up is_down =
@@ -106,14 +103,9 @@ module _ (og : OrderedGraph) (s t : ℕ) (s_within : s < length og.g.ids) (t_wit
     where
       by : (r : Relation) → Relates og.w s t r → HasNear
       by relations.OneBlock same =
-          let other = not_root_of_peers og t s t_within s_within (λ back. two (sym back)) (sym same) in
-          elim (og.ordered.blocks s s_within other) [
-            | inl sole ↦ absurd (two (sym (sole.no_other_node t t_within (sym same))))
-            | inr closed ↦
-                let up = has_hop og Up s t s_within t_within in
-                let down = has_hop og Down s t s_within t_within in
-                peer_row same (record { inside = s_within; other = other; closed = closed }) up.0 down.0 up.1 down.1
-          ]
+          let up = has_hop og Up s t s_within t_within in
+          let down = has_hop og Down s t s_within t_within in
+          peer_row same (peer_ring og s t s_within t_within two same) up.0 down.0 up.1 down.1
       by relations.ToHead head = under head
       by relations.FromHead head = over head
       by relations.Apart none = (None, Apart none)

@@ -1,26 +1,14 @@
 -- What nodes with a block in common share.
-use Rattle.std.proofs.Common.{◌≡◌, ◌≢◌, ◌∙◌, ◌<◌, ℕ, Bool, false, true, List, Some, length, slice_get, refl, sym, ap, subst, inl, inr}
+use Rattle.std.proofs.Common.{◌≡◌, ◌≢◌, ◌∙◌, ◌<◌, ℕ, Bool, false, true, List, Some, length, slice_get, sym, ap, subst}
 use Rattle.std.proofs.lemmas.Option.{same_Some}
 use Rattle.link_direction.specs.CommonBlock.{FromHead, HaveCommonBlock, Peers, ToHead}
 use Rattle.inc_dec_spf.specs.FirstLink.{AreOthersInOneBlock}
 use Rattle.inc_dec_spf.specs.LeastPath.{HasMoreLinks, HaveCommonBlockOfMoreLinks}
 use Rattle.mrt_rows.specs.Put.{AreHeadsMarked, NoneOfOneLink}
-use Rattle.mrt_rows.proofs.OrderedGraphs.{OrderedGraph, not_root_of_peers, one_common, within}
+use Rattle.mrt_rows.proofs.OrderedGraphs.{OrderedGraph, one_common}
+use Rattle.mrt_rows.proofs.WaysBegun.{peers_are}
 
 module _ (og : OrderedGraph) (s t : ℕ) (s_within : s < length og.g.ids) (t_within : t < length og.g.ids) (two : s ≢ t) where
-  -- a block with another node has more than one link
-  pub none_of_peers : og.w.block s ≡ og.w.block t → NoneOfOneLink og.g og.w s t
-  none_of_peers same k h link common one =
-      let k_is = (one_common og s t k h (og.w.block s) (og.w.head s) s_within t_within two common (Peers refl (sym same) refl)).0 in
-      let other = not_root_of_peers og t s t_within s_within (λ back. two (sym back)) (sym same) in
-      elim (og.ordered.blocks s s_within other) [
-        | inl sole ↦ two (sym (sole.no_other_node t t_within (sym same)))
-        | inr closed ↦
-            let inside = within og.g closed.link closed.greatest (og.w.head s) og.kept closed.over.leads_on in
-            closed.another_link (one.no_other closed.another closed.another_within (closed.another_in_block ∙ sym k_is)
-            ∙ sym (one.no_other closed.link inside.link (closed.over.in_block ∙ sym k_is)))
-      ]
-
   -- a block of more than one link is the only one
   pub none_of_share : (k h : ℕ) → HaveCommonBlockOfMoreLinks og.g og.w s t k h → NoneOfOneLink og.g og.w s t
   none_of_share k h share j i link common one =
@@ -28,6 +16,10 @@ module _ (og : OrderedGraph) (s t : ℕ) (s_within : s < length og.g.ids) (t_wit
       let more = share.more in
       more.differ (one.no_other more.one more.one_within (more.one_in_block ∙ same)
       ∙ sym (one.no_other more.other more.other_within (more.other_in_block ∙ same)))
+
+  -- a block with another node has more than one link
+  pub none_of_peers : og.w.block s ≡ og.w.block t → NoneOfOneLink og.g og.w s t
+  none_of_peers same = none_of_share (og.w.block s) (og.w.head s) (peers_are og s t s_within t_within two same).share
 
 -- a node that heads no block of more than one link lies in one block
 pub others_in_one_block : (og : OrderedGraph) (marks : List Bool) → AreHeadsMarked og.g og.w marks → AreOthersInOneBlock og.g og.w marks

@@ -202,14 +202,6 @@ module _ (og : OrderedGraph) (m : ℕ) (ring : Ring og m) where
     | inr home ↦ absurd (path.1 home.0)
   ]
 
-  pub up_rises : (s : ℕ) (path : List End) (t : ℕ) → Inside og m s → Inside og m t
-      → Path og.g og.w Up (og.w.block m) h s path t → og.w.order s < og.w.order t
-  up_rises = goes_further Up
-
-  pub down_falls : (s : ℕ) (path : List End) (t : ℕ) → Inside og m s → Inside og m t
-      → Path og.g og.w Down (og.w.block m) h s path t → og.w.order t < og.w.order s
-  down_falls = goes_further Down
-
   -- no ways lead in both directions
   pub one_way : (dir : Dir) (s t : ℕ) → Inside og m s → Inside og m t → Way og m dir s t → Way og m (against dir) s t → ⊥
   one_way dir s t source target on back =

@@ -9,7 +9,7 @@ use Rattle.inc_dec_spf.specs.LeastPath.{BeginsPath, HasMoreLinks, IsHop, IsLeast
 use Rattle.inc_dec_spf.specs.Path.{Path}
 use Rattle.mrt_rows.specs.RowLines.{AreMembers, BeginsOver, NoWay}
 use Rattle.mrt_rows.proofs.OrderedGraphs.{OrderedGraph, not_root_of_peers, one_common, step_leads, within}
-use Rattle.mrt_rows.proofs.Ways.{Inside, Ring, Way, begun}
+use Rattle.mrt_rows.proofs.Ways.{Inside, Ring, Way, begun, inside_itself}
 
 -- a path of m's block from s to t, whose first end is over this link
 pub record WayOver (og : OrderedGraph) (m : ℕ) (dir : Dir) (s t link : ℕ) : Type 0 where
@@ -98,6 +98,21 @@ module _ (og : OrderedGraph) where
       subst (λ (e : ℕ). leads og.g.links e s ≡ Some way.end.to) (sym way.over)
       (step_leads og dir (og.w.block m) s way.end (begun og m dir s way.end way.others t way.is).step)
 
+  -- the block of two nodes has more than one link
+  pub peer_ring : (s t : ℕ) → s < n → t < n → s ≢ t → og.w.block s ≡ og.w.block t → Ring og s
+  peer_ring s t s_within t_within two same =
+      let other = not_root_of_peers og t s t_within s_within (λ back. two (sym back)) (sym same) in
+      elim (og.ordered.blocks s s_within other) [
+        | inl sole ↦ absurd (two (sym (sole.no_other_node t t_within (sym same))))
+        | inr closed ↦ record { inside = s_within; other = other; closed = closed }
+      ]
+
+  pub peers_are : (s t : ℕ) → s < n → t < n → s ≢ t → og.w.block s ≡ og.w.block t → AreMembers og.g og.w s t (og.w.block s) (og.w.head s)
+  peers_are s t s_within t_within two same =
+      let ring = peer_ring s t s_within t_within two same in
+      let target : Inside og s t = record { within = t_within; block = sym same } in
+      record { share = share s s t ring (peers s s t ring (inside_itself og s ring) target two); source = refl; target = sym same }
+
   -- two nodes of one block of more than one link: the block is that of s
   pub record Members (s t k h : ℕ) : Type 0 where
     pub ring : Ring og s
@@ -108,15 +123,10 @@ module _ (og : OrderedGraph) where
   pub members : (s t k h : ℕ) → s < n → t < n → AreMembers og.g og.w s t k h → Members s t k h
   members s t k h s_within t_within are =
       let same : og.w.block s ≡ og.w.block t = are.source ∙ sym are.target in
-      let other : s ≢ og.root =
-      not_root_of_peers og t s t_within s_within (λ back. are.share.two (sym back)) (sym same) in
-      let ring =
-      ring_of s s_within other (subst (λ (x : ℕ). HasMoreLinks og.g og.w x) (sym are.source) are.share.more) in
       let one =
-      one_common og s t k h (og.w.block s) (og.w.head s) s_within t_within are.share.two are.share.common
-      (Peers refl (sym same) refl) in
+      one_common og s t k h (og.w.block s) (og.w.head s) s_within t_within are.share.two are.share.common (Peers refl (sym same) refl) in
       record {
-        ring = ring;
+        ring = peer_ring s t s_within t_within are.share.two same;
         target = record { within = t_within; block = sym same };
         block = one.0;
         head = one.1;

@@ -1,11 +1,13 @@
 -- There is a certificate of each graph with a GADAG in order, and its rows are those of all nodes.
-use Rattle.std.proofs.Common.{◌≡◌, ◌≢◌, ◌∙◌, ◌<◌, ◌-◌, ◌*◌, ℕ, zero, suc, List, [], ◌∷◌, Option, Some, length, slice_get, refl, sym, ap, subst, inl, inr, arith}
-use Rattle.std.proofs.lemmas.Bool.{cases_eq}
+use Rattle.std.proofs.Common.{◌≡◌, ◌≢◌, ◌∙◌, ◌<◌, ◌-◌, ◌*◌, ℕ, zero, suc, List, [], ◌∷◌, Option, Some, length, replicate, slice_get, refl, sym, ap, subst, inl, inr, arith}
+use Rattle.std.proofs.lemmas.Bool.{cases_eq, cases_lt}
+use Rattle.std.proofs.lemmas.List.{length-replicate}
 use Rattle.std.proofs.lemmas.Option.{same_Some}
 use Rattle.mrt_graph.specs.declared.cert.CertFile.{CertFile}
 use Rattle.mrt_graph.specs.declared.cert.CertLink.{CertLink}
 use Rattle.mrt_graph.specs.declared.cert.CertNode.{CertNode}
 use Rattle.mrt_graph.specs.declared.cert.Row.{Row}
+use Rattle.mrt_graph.specs.declared.cert.Tag.TheVariants as tags
 use Rattle.mrt_graph.specs.Certificate.{certificate_of, row_of}
 use Rattle.mrt_graph.specs.RowPlace.{place_of_row}
 use Rattle.mrt_graph.proofs.ListTests.{there}
@@ -19,29 +21,6 @@ use Rattle.mrt_graph.proofs.RowPlaces.{placed, row_at}
 pub use Rattle.mrt_rows.proofs.RowsExist.{each_has, each_row}
 use Rattle.mrt_rows.proofs.RowsExist.{each_the}
 use Rattle.mrt_rows.proofs.RowsPut.{place_within, places_differ}
-
--- a list of what there is for each of n places
-record Chosen {X : Type 0} (n : ℕ) (P : ℕ → X → Type 0) : Type 0 where
-  pub list : List X
-  pub one_each : length list ≡ n
-  pub at : (i : ℕ) → i < n → (x : X) × (slice_get list i ≡ Some x) × P i x
-
-first_more : {X : Type 0} (n : ℕ) (P : ℕ → X → Type 0) (first : X) → P 0 first → Chosen n (λ i x. P (suc i) x) → Chosen (suc n) P
-first_more {X = X} n P first holds rest = record {
-  list = first ∷ rest.list;
-  one_each = omega (arith, rest.one_each);
-  at = at_each;
-}
-  where
-    at_each : (i : ℕ) → i < suc n → (x : X) × (slice_get (first ∷ rest.list) i ≡ Some x) × P i x
-    at_each zero below = (first, refl, holds)
-    at_each (suc i) below = rest.at i (omega (arith, below))
-
-chosen : {X : Type 0} (n : ℕ) (P : ℕ → X → Type 0) → ((i : ℕ) → i < n → (x : X) × P i x) → Chosen n P
-chosen zero P each = record { list = []; one_each = refl; at = λ i below. absurd (omega (arith, below)) }
-chosen (suc n) P each =
-    let first = each 0 (omega arith) in
-    first_more n P first.0 first.1 (chosen n (λ i x. P (suc i) x) (λ i below. each (suc i) (omega (arith, below))))
 
 -- what each place of a list and the element there give
 abbrev pub numbered : {X Y : Type 0} → (ℕ → Y → X) → List Y → List X
@@ -80,18 +59,29 @@ module _ (og : OrderedGraph) where
         | inr other ↦ absurd (places_differ n u v s t u_within v_within apart s_within t_within two (inl other) (place ∙ sym here))
       ]
 
-  all_chosen : Chosen (n * (n - 1)) IsAt
-  all_chosen = chosen (n * (n - 1)) IsAt row_there
+  entry : (k : ℕ) → (row : Row) × (k < n * (n - 1) → IsAt k row)
+  entry k = elim (cases_lt k (n * (n - 1))) [
+    | inl within ↦ let it = row_there k within in (it.0, λ again. it.1)
+    | inr past ↦ (record { blue = 0; red = 0; tag = tags.Carried }, λ again. absurd (omega (arith, again, past)))
+  ]
 
-  row_found : (s t : ℕ) → s < n → t < n → s ≢ t → row_among n all_chosen.list s t ≡ each_row og s t
+  rows : List Row
+  rows = numbered (λ k root. (entry k).0) (replicate (n * (n - 1)) og.root)
+
+  row_found : (s t : ℕ) → s < n → t < n → s ≢ t → row_among n rows s t ≡ each_row og s t
+  unfolding rows
   row_found s t s_within t_within two =
-      let it = all_chosen.at (place_of_row n s t) (place_within n s t s_within t_within two) in
-      row_is n all_chosen.list s t s_within t_within two ∙ it.1 ∙ sym (it.2 s t s_within t_within two refl)
+      let k = place_of_row n s t in
+      let within = place_within n s t s_within t_within two in
+      let at = there (replicate (n * (n - 1)) og.root) k (omega (arith, within, length-replicate (n * (n - 1)) og.root)) in
+      row_is n rows s t s_within t_within two ∙ numbered_at (λ k root. (entry k).0) (replicate (n * (n - 1)) og.root) k at.0 at.1
+      ∙ sym ((entry k).1 within s t s_within t_within two refl)
 
-  all_rows : AreAllRows og.g og.root og.w all_chosen.list
-  all_rows = record {
-    count = all_chosen.one_each;
-    each = λ s t s_within. has_all og s s_within (row_among n all_chosen.list s)
+  rows_are : AreAllRows og.g og.root og.w rows
+  unfolding rows
+  rows_are = record {
+    count = as_many (λ k root. (entry k).0) (replicate (n * (n - 1)) og.root) ∙ length-replicate (n * (n - 1)) og.root;
+    each = λ s t s_within. has_all og s s_within (row_among n rows s)
         (λ u within apart. subst (λ (o : Option Row). HasTheRow og s u o) (sym (row_found s u s_within within apart)) (each_the og s u s_within within apart)) t;
   }
 
@@ -112,16 +102,16 @@ module _ (og : OrderedGraph) where
 
   pub whole_file : CertFile
   whole_file =
-      file_of (there og.g.ids og.root og.ordered.root_within).0 (certificate_of nodes links all_chosen.list)
+      file_of (there og.g.ids og.root og.ordered.root_within).0 (certificate_of nodes links rows)
 
   pub whole_tells : Tells og.g og.root og.w whole_file
   unfolding whole_file
   whole_tells =
       let id = there og.g.ids og.root og.ordered.root_within in
-      cert_tells og nodes links all_chosen.list nodes_are links_are all_rows id.0 id.1
+      cert_tells og nodes links rows nodes_are links_are rows_are id.0 id.1
 
   pub whole_row : (s t : ℕ) → s < n → t < n → s ≢ t → row_of whole_file.cert s t ≡ each_row og s t
-  unfolding whole_file all_chosen
+  unfolding whole_file
   whole_row s t s_within t_within two =
       row_at whole_file.cert n s t whole_tells.nodes.one_each s_within t_within two
-      ∙ sym (row_is n all_chosen.list s t s_within t_within two) ∙ row_found s t s_within t_within two
+      ∙ sym (row_is n rows s t s_within t_within two) ∙ row_found s t s_within t_within two
