@@ -11,7 +11,7 @@ use Rattle.mrt_graph.proofs.EndsAt.{end_leads}
 use Rattle.link_direction.specs.Directions.{Directions}
 use Rattle.inc_dec_spf.specs.declared.fan.Opening.{Opening}
 use Rattle.inc_dec_spf.specs.declared.reach.Dir.{Dir}
-use Rattle.inc_dec_spf.specs.Fan.{IsFirstPlace, link_at}
+use Rattle.inc_dec_spf.specs.Fan.{IsFirstHop, link_at}
 use Rattle.inc_dec_spf.specs.FirstLink.{Begins, BeginsNone, no_link}
 use Rattle.inc_dec_spf.specs.HasDirections.{AreDirections}
 use Rattle.inc_dec_spf.specs.Known.{AreLow, AreOffered, IsNoLater, Known, OfAny, known, known_at, nothing}
@@ -179,11 +179,12 @@ module _ (opening : Opening) (root : ℕ) (w : Directions) (are : AreDirections 
 
   -- after all turns, the ends by which the source begins the least paths
   pub place_reached : (t : ℕ) (ends : List End) (found : ℕ → Known) → t < length g.ids → slice_get g.ends s ≡ Some ends → ((i : ℕ) → far ≤ (found i).cost → found i ≡ nothing)
-      → IsSwept g root w dir s (length g.ids) (lane width j found) → IsFirstPlace g w dir s t ends (lane width j found t)
+      → IsSwept g root w dir s (length g.ids) (lane width j found)
+      → IsFirstHop g w dir s t (lane width j found t).cost (link_at ends (lane width j found t).place)
   place_reached t ends found t_inside list none swept = elim (cases_Bool (nat_lt way.cost far)) [
     | inl less ↦ record {
       hop = λ two. rw less (hop two (ltb-true way.cost far less));
-      link = λ two.
+      begins = λ two.
           let low = ltb-true way.cost far less in
           let it = swept.sound t t_inside low in
           let few = link_within g it.end.link s it.end.to is.kept (end_leads g s way.place it.ends it.end is.kept it.list it.there) in
@@ -192,7 +193,7 @@ module _ (opening : Opening) (root : ℕ) (w : Directions) (are : AreDirections 
     }
     | inr not_less ↦ record {
       hop = λ two. rw not_less (NotReached (λ k h path share is_path. not_reached k h path share is_path (ltb-false way.cost far not_less)));
-      link = λ two.
+      begins = λ two.
           let above = ltb-false way.cost far not_less in
           BeginsNone (NotReached (λ k h path share is_path. not_reached k h path share is_path above)) (no_end (ap (λ (k : Known). k.place) (none (t * width + j) above)));
     }

@@ -1,5 +1,5 @@
 -- Fans: the ends by which some sources side by side begin the least paths to all nodes.
-use Rattle.std.specs.Prelude.{◌≡◌, ◌≢◌, ◌<◌, ◌+◌, ◌*◌, ℕ, Bool, true, List, Some, length, slice_get}
+use Rattle.std.specs.Prelude.{◌≡◌, ◌≢◌, ◌<◌, ◌≤◌, ◌+◌, ◌*◌, ℕ, Bool, true, List, Some, length, slice_get, slice_index}
 use Rattle.std.specs.Option.{option_map_or}
 use Rattle.mrt_graph.specs.declared.link.End.{End}
 use Rattle.mrt_graph.specs.Topology.{Topology}
@@ -7,7 +7,6 @@ use Rattle.link_direction.specs.Directions.{Directions}
 use Rattle.inc_dec_spf.specs.declared.reach.Dir.{Dir}
 use Rattle.inc_dec_spf.specs.FanEntries.{FanEntries}
 use Rattle.inc_dec_spf.specs.FirstLink.{IsFirstLink, no_link}
-use Rattle.inc_dec_spf.specs.Known.{Known, known_at}
 use Rattle.inc_dec_spf.specs.LeastPath.{IsHop}
 use Rattle.inc_dec_spf.specs.Side.{hop_by}
 
@@ -20,17 +19,24 @@ pub record AreStops (g : Topology) (w : Directions) (first width : ℕ) (stops :
   pub sources : (j : ℕ) → j < width → first + j < length g.ids → slice_get stops (first + j) ≡ Some true
   pub heads : (j : ℕ) → j < width → first + j < length g.ids → slice_get stops (w.head (first + j)) ≡ Some true
 
--- what is known of node t on the way from s: the end at this place begins the least path, which has this cost; nothing where
--- no path leads to t
-pub record IsFirstPlace (g : Topology) (w : Directions) (dir : Dir) (s t : ℕ) (ends : List End) (way : Known) : Type 0 where
-  pub hop : s ≢ t → IsHop g w dir s t (hop_by way.cost (link_at ends way.place))
-  pub link : s ≢ t → IsFirstLink g w dir s t (link_at ends way.place)
+-- on the way from s to t: the least cost, and the link that begins a path of this cost; far and no link where no path leads to t
+pub record IsFirstHop (g : Topology) (w : Directions) (dir : Dir) (s t cost link : ℕ) : Type 0 where
+  pub hop : s ≢ t → IsHop g w dir s t (hop_by cost link)
+  pub begins : s ≢ t → IsFirstLink g w dir s t link
 
 -- a fan is open from the nodes from number `first` on: it has what they have for all nodes
 pub record IsOpen (g : Topology) (w : Directions) (dir : Dir) (first : ℕ) (fan : FanEntries) : Type 0 where
   pub each : (j t : ℕ) (ends : List End) → j < fan.width → first + j < length g.ids → t < length g.ids
       → slice_get g.ends (first + j) ≡ Some ends
-      → IsFirstPlace g w dir (first + j) t ends (known_at fan.costs fan.places (t * fan.width + j))
+      → IsFirstHop g w dir (first + j) t (slice_index fan.costs (t * fan.width + j)) (link_at ends (slice_index fan.places (t * fan.width + j)))
+
+-- s is one of the sources of a fan that is open from the nodes from number `first` on, and t is a node
+pub record AreInFan (g : Topology) (fan : FanEntries) (first s t : ℕ) : Type 0 where
+  pub nodes : fan.nodes ≡ length g.ids
+  pub source : s < length g.ids
+  pub from : first ≤ s
+  pub among : s < first + fan.width
+  pub target : t < length g.ids
 
 -- the links by which node s begins the least paths to all nodes
 pub record HasFirstLinks (g : Topology) (w : Directions) (dir : Dir) (s : ℕ) (links : List ℕ) : Type 0 where

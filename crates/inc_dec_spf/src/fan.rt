@@ -1,11 +1,11 @@
 //! Fans: the links by which some nodes side by side begin the least paths to all nodes.
 
-ghost use Rattle.std.specs.Prelude.{◌≡◌, ◌<◌, ◌≤◌, ◌+◌, ◌*◌, ℕ, IfOk, Some, length, slice_get, slice_index, false, true};
+ghost use Rattle.std.specs.Prelude.{◌≡◌, ◌≢◌, ◌<◌, ◌≤◌, ◌+◌, ◌*◌, ℕ, IfOk, Some, length, slice_get, slice_index, false, true};
 ghost use Rattle.mrt_graph.specs.GraphInvariant.{IsTopology};
 ghost use Rattle.link_direction.specs.Directions.{Directions};
-ghost use Rattle.inc_dec_spf.specs.Fan.{AreStops, HasFirstLinks, IsOpen, link_at};
+ghost use Rattle.inc_dec_spf.specs.Fan.{AreInFan, AreStops, HasFirstLinks, IsFirstHop, IsOpen, link_at};
 ghost use Rattle.inc_dec_spf.specs.{FanEntries.FanEntries, FanEntries.fan_entries, HasDirections.AreDirections, HasDirections.HasDirections};
-ghost use Rattle.inc_dec_spf.specs.{LeastPath.IsHop, Offers.PassesOn, Rest.far, Turns.AreTurns};
+ghost use Rattle.inc_dec_spf.specs.{FirstLink.IsFirstLink, LeastPath.IsHop, Offers.PassesOn, Rest.far, Turns.AreTurns};
 ghost use Rattle.inc_dec_spf.specs.Known.{AreLanes, known_at, no_place};
 ghost use Rattle.inc_dec_spf.specs.Opening.{AreFirstOffered, IsKeptOnward, IsOpening};
 
@@ -124,20 +124,37 @@ impl Fan {
 
     /// The hop of source s for node t. It is open from the nodes from `first` on.
     pub(crate) fn hop(&self, g: &Graph, first: NodeNo, s: NodeNo, t: NodeNo) -> Option<Hop>
-        requires kept { IsTopology g.now }
-        requires source { s < length g.now.ids }
-        requires target { t < length g.now.ids }
-        requires from { first ≤ s }
-        requires among { s < first + self.now.width }
-        requires nodes { self.now.nodes ≡ length g.now.ids }
-        ensures { (w : Directions) (dir : Dir) → IsOpen g.now w dir first self.now
-            → IsHop g.now w dir s t result }
+        requires { AreInFan g.now self.now first s t }
+        ensures { (w : Directions) (dir : Dir) → IsOpen g.now w dir first self.now → IsHop g.now w dir s t result }
     {
         if t == s {
             return None;
         }
+        let (cost, link) = self.way(g, first, s, t);
+        hop_by(cost, link)
+    }
+
+    /// The link by which source s begins the least path to another node t. It is open from the nodes from `first` on.
+    pub fn link(&self, g: &Graph, first: NodeNo, s: NodeNo, t: NodeNo) -> LinkNo
+        requires nodes { self.now.nodes ≡ length g.now.ids }
+        requires source { s < length g.now.ids }
+        requires from { first ≤ s }
+        requires among { s < first + self.now.width }
+        requires target { t < length g.now.ids }
+        ensures { (w : Directions) (dir : Dir) → IsOpen g.now w dir first self.now → s ≢ t
+            → IsFirstLink g.now w dir s t result }
+    {
+        self.way(g, first, s, t).1
+    }
+
+    /// What is known of node t on the way from source s: the least cost, and the link that begins a path of this cost.
+    fn way(&self, g: &Graph, first: NodeNo, s: NodeNo, t: NodeNo) -> (u32, LinkNo)
+        requires { AreInFan g.now self.now first s t }
+        ensures { (w : Directions) (dir : Dir) → IsOpen g.now w dir first self.now
+            → IsFirstHop g.now w dir s t result.0 result.1 }
+    {
         let at = t.get() as usize * self.from_costs.len() + (s.get() - first.get()) as usize;
-        hop_by(self.costs[at], link_at(g.ends(s), self.places[at]))
+        (self.costs[at], link_at(g.ends(s), self.places[at]))
     }
 }
 

@@ -64,5 +64,5 @@ returns c = λ w dir opened.
           (sym at ∙ put ∙ ap (λ (m : ℕ). Some (link_at ends (get_or fan.places (t * m + j) 0))) width_is) in
           subst (λ (l : ℕ). IsFirstLink g w dir c.args.s t l) (sym link_is)
           (subst (λ (x : ℕ). IsFirstLink g w dir x t (link_at ends (get_or fan.places (t * fan.width + j) 0))) is_s
-          (it.link (λ same. two (sym is_s ∙ same))));
+          (it.begins (λ same. two (sym is_s ∙ same))));
     }
