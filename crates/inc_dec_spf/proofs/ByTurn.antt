@@ -1,7 +1,8 @@
 -- The nodes by their turns.
-use Rattle.std.proofs.Common.{◌≡◌, ◌≢◌, ◌<◌, ◌≤◌, ◌+◌, ◌-◌, ◌∙◌, ℕ, zero, suc, List, ◌∷◌, Some, length, slice_get, inl, inr, refl, sym, ap, subst, arith}
+use Rattle.std.proofs.Common.{◌≡◌, ◌≢◌, ◌<◌, ◌≤◌, ◌+◌, ◌-◌, ◌∙◌, ℕ, zero, suc, List, ◌∷◌, Some, get_or, length, slice_get, inl, inr, refl, sym, ap, subst, arith}
 use Rattle.std.specs.Prelude.{Contains}
-use Rattle.std.proofs.lemmas.Option.{same_Some, slice_get_within}
+use Rattle.std.proofs.lemmas.Bool.{cases_eq}
+use Rattle.std.proofs.lemmas.Option.{same_Some, slice_get_read, slice_get_within}
 use Rattle.mrt_graph.specs.DirectedLists.{DirectedLists}
 use Rattle.mrt_graph.specs.Topology.{Topology}
 use Rattle.mrt_graph.proofs.FewNumbers.{IsAtOnePlace, few_numbers}
@@ -10,7 +11,8 @@ use Rattle.mrt_graph.proofs.Members.{Has, contains_from_has, listed_or_not}
 use Rattle.link_direction.specs.Directions.{Directions}
 use Rattle.inc_dec_spf.specs.declared.reach.Dir.{Dir}
 use Rattle.inc_dec_spf.specs.declared.reach.Dir.TheVariants.{Down, Up}
-use Rattle.inc_dec_spf.specs.HasDirections.{AreDirections}
+use Rattle.link_direction.specs.OrderedGadag.{IsOrderedGadag}
+use Rattle.inc_dec_spf.specs.HasDirections.{AreDirections, HasDirections}
 use Rattle.inc_dec_spf.specs.Turns.{AreTurns, turn_at, turn_of}
 
 -- a list of so many numbers that differ, from 1 to its length, has each of them
@@ -67,9 +69,12 @@ node_of_order g d root w k are low high =
     (at.0, within, same_Some (w.order at.0) k (sym (are.says.orders at.0 within) ∙ at.1))
 
 -- turns lie below the count of nodes
-pub turn_within : (dir : Dir) (n a : ℕ) → 1 ≤ a → a ≤ n → turn_at dir n a < n
+turn_within : (dir : Dir) (n a : ℕ) → 1 ≤ a → a ≤ n → turn_at dir n a < n
 turn_within Up n a low high = omega (arith, low, high)
 turn_within Down n a low high = omega (arith, low, high)
+
+pub turn_in : (g : Topology) (root : ℕ) (w : Directions) (dir : Dir) (v : ℕ) → IsOrderedGadag g root w → v < length g.ids → turn_of dir (length g.ids) w v < length g.ids
+turn_in g root w dir v is within = turn_within dir (length g.ids) (w.order v) (is.orders.from_one v within) (is.orders.to_n v within)
 
 -- some node has each turn
 order_at : Dir → ℕ → ℕ → ℕ
@@ -124,7 +129,22 @@ all_set g d root w dir count turns are all set_so_far = record {
         (subst (λ (x : ℕ). x < n) same it.1, subst (λ (x : ℕ). turn_of dir n w x ≡ i) same it.2)
 
 -- another node than the one that has its turn has none
-pub not_now : (g : Topology) (w : Directions) (dir : Dir) (turns : List ℕ) → AreTurns g w dir turns → (i x y : ℕ) → slice_get turns i ≡ Some x → y < length g.ids → y ≢ x
+not_now : (g : Topology) (w : Directions) (dir : Dir) (turns : List ℕ) → AreTurns g w dir turns → (i x y : ℕ) → slice_get turns i ≡ Some x → y < length g.ids → y ≢ x
     → turn_of dir (length g.ids) w y ≢ i
 not_now g w dir turns are i x y at within other same =
     other (same_Some y x (sym (are.of_each y within) ∙ subst (λ (t : ℕ). slice_get turns t ≡ Some x) (sym same) at))
+
+-- the node that has its turn, where the nodes stand in the order of their turns
+pub turn_node : (g : Topology) (d : DirectedLists) (dir : Dir) (turns : List ℕ) → HasDirections g d
+    → ((root : ℕ) (w : Directions) → AreDirections g d root w → AreTurns g w dir turns) → (i x : ℕ) → i < length turns → x ≡ get_or turns i x
+    → (slice_get turns i ≡ Some x) × (x < length g.ids)
+turn_node g d dir turns has are i x below read =
+    let at = slice_get_read turns (length turns) i x refl below read in (at, (are has.root has.directions has.are).within i x at)
+
+-- what holds of the nodes that had their turns, and of the one that has it, holds of those that have had theirs then
+pub next_turn : (g : Topology) (w : Directions) (dir : Dir) (turns : List ℕ) → AreTurns g w dir turns → (Holds : ℕ → Type 0) (i x : ℕ) → slice_get turns i ≡ Some x → Holds x
+    → ((y : ℕ) → y < length g.ids → y ≢ x → turn_of dir (length g.ids) w y < i → Holds y) → (y : ℕ) → y < length g.ids → turn_of dir (length g.ids) w y < i + 1 → Holds y
+next_turn g w dir turns are Holds i x at here before y within early = elim (cases_eq y x) [
+  | inl same ↦ subst Holds (sym same) here
+  | inr other ↦ before y within other (omega (arith, early, not_now g w dir turns are i x y at within other))
+]

@@ -1,6 +1,5 @@
 -- Which ends of a node offer ways, by the marks of their links.
-use Rattle.std.proofs.Common.{◌≡◌, ◌≢◌, ◌⊎◌, ◌<◌, ◌+◌, ◌*◌, ◌∙◌, ℕ, true, false, List, Some, length, slice_get, inl, inr, refl, sym, ap, subst}
-use Rattle.std.proofs.lemmas.Option.{same_Some}
+use Rattle.std.proofs.Common.{◌≡◌, ◌≢◌, ◌⊎◌, ◌<◌, ◌+◌, ◌*◌, ◌∙◌, ℕ, true, false, List, length, inl, inr, refl, sym, ap, subst}
 use Rattle.mrt_graph.specs.declared.cert.Role.TheVariants.{Sole}
 use Rattle.mrt_graph.specs.declared.gadag.Mark.{Mark}
 use Rattle.mrt_graph.specs.declared.link.End.{End}
@@ -8,19 +7,28 @@ use Rattle.mrt_graph.specs.DirectedLists.{DirectedLists}
 use Rattle.mrt_graph.specs.GraphInvariant.{IsTopology}
 use Rattle.mrt_graph.specs.Topology.{Topology}
 use Rattle.link_direction.specs.Directions.{Directions, Says}
+use Rattle.inc_dec_spf.specs.declared.fan.Opening.{Opening}
 use Rattle.inc_dec_spf.specs.declared.reach.Dir.{Dir}
 use Rattle.inc_dec_spf.specs.Known.{IsOne, IsOver, Known, known}
 use Rattle.inc_dec_spf.specs.Offers.{IsFirstOffer, IsFurtherOffer, goes_on}
 use Rattle.inc_dec_spf.specs.Path.{IsStep, LeadsOn}
+use Rattle.inc_dec_spf.proofs.InBlocks.{same_end}
 use Rattle.inc_dec_spf.proofs.Marks.{IsMarkedEnd, marked_block, marked_role, test_leads_back, test_leads_on}
 
-module _ (g : Topology) (d : DirectedLists) (w : Directions) (dir : Dir) (x place : ℕ) (ends : List End) (end : End) (mark : Mark) (kept : IsTopology g)
-    (says : Says g d w) (is : IsMarkedEnd g d x place ends end mark) where
+module _ (opening : Opening) (w : Directions) (x place : ℕ) (ends : List End) (end : End) (mark : Mark) (kept : IsTopology opening.graph.now)
+    (says : Says opening.graph.now opening.directed.now w) (is : IsMarkedEnd opening.graph.now opening.directed.now x place ends end mark) where
+  abbrev g : Topology
+  g = opening.graph.now
+
+  abbrev d : DirectedLists
+  d = opening.directed.now
+
+  abbrev dir : Dir
+  dir = opening.dir
+
   -- a step from this place is over this end
-  same_end : (k : ℕ) (other : End) (step : IsStep g w dir k x other) → step.place ≡ place → other ≡ end
-  same_end k other step here =
-      let list : step.ends ≡ ends = same_Some step.ends ends (sym step.list ∙ is.list) in
-      same_Some other end (sym step.there ∙ ap (λ (es : List End). slice_get es step.place) list ∙ ap (λ (i : ℕ). slice_get ends i) here ∙ is.there)
+  at_end : (k : ℕ) (other : End) (step : IsStep g w dir k x other) → step.place ≡ place → other ≡ end
+  at_end k other step here = same_end g w dir k x place ends end other is.list is.there step here
 
   step_on : (k : ℕ) → w.lies_in end.link ≡ k → goes_on dir mark.way x end.to ≡ true → IsStep g w dir k x end
   step_on k in_block goes = record {
@@ -38,7 +46,7 @@ module _ (g : Topology) (d : DirectedLists) (w : Directions) (dir : Dir) (x plac
   -- one that leads on in the block of x
   module _ (costs places : List ℕ) (at : ℕ) (at_is : at ≡ end.to * length costs) (i : ℕ) (offer : Known) where
     pub further_is : mark.block ≡ w.block x → goes_on dir mark.way x end.to ≡ true → IsOver costs places end.metric at i offer
-        → IsFurtherOffer g w dir x costs places place i offer
+        → IsFurtherOffer opening w x costs places place i offer
     unfolding step_on
     further_is own goes over = record {
       end = end;
@@ -47,15 +55,15 @@ module _ (g : Topology) (d : DirectedLists) (w : Directions) (dir : Dir) (x plac
       over = subst (λ (p : ℕ). IsOver costs places end.metric p i offer) at_is over;
     }
 
-    pub further_back : IsFurtherOffer g w dir x costs places place i offer → IsOver costs places end.metric at i offer
+    pub further_back : IsFurtherOffer opening w x costs places place i offer → IsOver costs places end.metric at i offer
     further_back it =
         subst (λ (p : ℕ). IsOver costs places end.metric p i offer) (sym at_is)
-        (subst (λ (e : End). IsOver costs places e.metric (e.to * length costs) i offer) (same_end (w.block x) it.end it.step it.here) it.over)
+        (subst (λ (e : End). IsOver costs places e.metric (e.to * length costs) i offer) (at_end (w.block x) it.end it.step it.here) it.over)
 
   pub further_not : (mark.block ≢ w.block x) ⊎ (goes_on dir mark.way x end.to ≡ false) → (costs places : List ℕ) (i : ℕ) (offer : Known)
-      → IsFurtherOffer g w dir x costs places place i offer → ⊥
+      → IsFurtherOffer opening w x costs places place i offer → ⊥
   further_not fails costs places i offer it =
-      let same = same_end (w.block x) it.end it.step it.here in
+      let same = at_end (w.block x) it.end it.step it.here in
       elim fails [
         | inl elsewhere ↦ elsewhere (sym in_block ∙ ap (λ (e : End). w.lies_in e.link) (sym same) ∙ it.step.in_block)
         | inr back ↦ test_leads_back g d w dir x place ends end mark kept says is back (subst (λ (e : End). LeadsOn w dir x e) same it.step.leads_on)
@@ -64,7 +72,7 @@ module _ (g : Topology) (d : DirectedLists) (w : Directions) (dir : Dir) (x plac
   -- one of the source that leads on, and not over a sole link
   module _ (width j at : ℕ) (at_is : at ≡ end.to * width + j) (below : j < width) (i : ℕ) (offer : Known) where
     pub first_is : mark.role ≢ Sole → goes_on dir mark.way x end.to ≡ true → IsOne at (known end.metric place) i offer
-        → IsFirstOffer g w dir x width j place i offer
+        → IsFirstOffer opening w x width j place i offer
     unfolding step_on
     first_is not_sole goes one = record {
       below = below;
@@ -75,18 +83,18 @@ module _ (g : Topology) (d : DirectedLists) (w : Directions) (dir : Dir) (x plac
       one = record { there = one.there ∙ at_is; same = one.same };
     }
 
-    pub first_back : IsFirstOffer g w dir x width j place i offer → IsOne at (known end.metric place) i offer
+    pub first_back : IsFirstOffer opening w x width j place i offer → IsOne at (known end.metric place) i offer
     first_back it =
-        let same = same_end (w.lies_in it.end.link) it.end it.step it.here in
+        let same = at_end (w.lies_in it.end.link) it.end it.step it.here in
         record {
           there = it.one.there ∙ ap (λ (e : End). e.to * width + j) same ∙ sym at_is;
           same = it.one.same ∙ ap (λ (e : End). known e.metric place) same;
         }
 
   pub first_not : (mark.role ≡ Sole) ⊎ (goes_on dir mark.way x end.to ≡ false) → (width j i : ℕ) (offer : Known)
-      → IsFirstOffer g w dir x width j place i offer → ⊥
+      → IsFirstOffer opening w x width j place i offer → ⊥
   first_not fails width j i offer it =
-      let same = same_end (w.lies_in it.end.link) it.end it.step it.here in
+      let same = at_end (w.lies_in it.end.link) it.end it.step it.here in
       elim fails [
         | inl sole ↦ it.not_sole (ap (λ (e : End). w.role e.link) same ∙ sym (marked_role g d w x place ends end mark kept says is) ∙ sole)
         | inr back ↦ test_leads_back g d w dir x place ends end mark kept says is back (subst (λ (e : End). LeadsOn w dir x e) same it.step.leads_on)

@@ -1,12 +1,10 @@
 -- In a block with a closing link, paths lead from each node to the head and from the head to each node, up and down.
 use Rattle.std.proofs.Common.{◌≡◌, ◌≢◌, ◌⊎◌, ◌<◌, ◌≤◌, ◌+◌, ◌++◌, ◌∙◌, ℕ, zero, suc, List, [], ◌∷◌, Some, length, inl, inr, refl, sym, ap, subst, arith}
-use Rattle.std.proofs.lemmas.Bool.{cases_eq}
-use Rattle.mrt_graph.specs.declared.cert.Role.TheVariants.{Closing}
 use Rattle.mrt_graph.specs.declared.link.End.{End}
 use Rattle.mrt_graph.specs.Leads.{leads}
 use Rattle.mrt_graph.specs.Topology.{Topology}
 use Rattle.mrt_graph.proofs.EndsAt.{leads_end, list_of_ends}
-use Rattle.mrt_graph.proofs.Hops.{lead_back, same_ends}
+use Rattle.mrt_graph.proofs.Hops.{lead_back}
 use Rattle.link_direction.specs.Directions.{Directions}
 use Rattle.link_direction.specs.OrderedGadag.{HasClosingLink}
 use Rattle.inc_dec_spf.specs.declared.reach.Dir.{Dir}
@@ -14,9 +12,9 @@ use Rattle.inc_dec_spf.specs.declared.reach.Dir.TheVariants.{Down, Up}
 use Rattle.inc_dec_spf.specs.Against.{against}
 use Rattle.inc_dec_spf.specs.Path.{IsStep, LeadsOn, Path}
 use Rattle.inc_dec_spf.specs.Turns.{turn_of}
-use Rattle.inc_dec_spf.proofs.ByTurn.{turn_within}
-use Rattle.link_direction.proofs.ClosedBlocks.{IsClosed, IsOrdered, closing_is, closing_leads, head_lower, leads_inside, member_not_head}
-use Rattle.link_direction.proofs.LinkNodes.{leads_within, link_within}
+use Rattle.inc_dec_spf.proofs.ByTurn.{turn_in}
+use Rattle.link_direction.proofs.ClosedBlocks.{IsClosed, IsOrdered, member_not_head}
+use Rattle.link_direction.proofs.LinkNodes.{leads_within}
 use Rattle.inc_dec_spf.proofs.PathsSwept.{path_onward}
 use Rattle.link_direction.proofs.UpLinks.{IsDirectedLink, into_of, out_of}
 
@@ -125,7 +123,7 @@ module _ (g : Topology) (root : ℕ) (w : Directions) (k h : ℕ) (is : IsOrdere
   -- by later and later turns
   by_turn : (dir : Dir) (fuel m : ℕ) → m < length g.ids → w.block m ≡ k → length g.ids ≤ turn_of dir (length g.ids) w m + fuel → HaveHome g w dir k h m
   by_turn dir zero m within inside far_off =
-      absurd (omega (arith, far_off, turn_within dir (length g.ids) (w.order m) (is.ordered.orders.from_one m within) (is.ordered.orders.to_n m within)))
+      absurd (omega (arith, far_off, turn_in g root w dir m is.ordered within))
   by_turn dir (suc fuel) m within inside far_off =
       let it = next_of dir m within inside in
       elim it.onto [

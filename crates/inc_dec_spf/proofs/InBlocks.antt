@@ -1,18 +1,15 @@
 -- Blocks with a closing link, and the steps of their nodes.
-use Rattle.std.proofs.Common.{◌≡◌, ◌≢◌, ◌⊎◌, ◌<◌, ◌≤◌, ◌-◌, ◌∙◌, ℕ, Some, length, inl, inr, refl, sym, ap, subst, arith}
+use Rattle.std.proofs.Common.{◌≡◌, ◌≢◌, ◌<◌, ◌≤◌, ◌∙◌, ℕ, List, Some, length, slice_get, inl, inr, sym, ap, subst, arith}
 use Rattle.std.proofs.lemmas.Bool.{cases_eq}
-use Rattle.std.proofs.lemmas.Option.{same_Some}
-use Rattle.mrt_graph.specs.declared.cert.Role.{Role}
-use Rattle.mrt_graph.specs.declared.cert.Role.TheVariants.{Closing, Plain, Sole}
+use Rattle.std.proofs.lemmas.Option.{same_Some, slice_get_within}
 use Rattle.mrt_graph.specs.declared.link.End.{End}
-use Rattle.mrt_graph.specs.GraphInvariant.{IsTopology}
+use Rattle.mrt_graph.specs.GraphInvariant.{IsEnd, IsTopology}
 use Rattle.mrt_graph.specs.Leads.{leads}
 use Rattle.mrt_graph.specs.Topology.{Topology}
 use Rattle.mrt_graph.proofs.EndsAt.{end_leads}
 use Rattle.mrt_graph.proofs.Hops.{lead_back}
-use Rattle.link_direction.specs.CommonBlock.{HaveCommonBlock, Peers, ToHead, FromHead}
+use Rattle.mrt_graph.proofs.ListTests.{all_at}
 use Rattle.link_direction.specs.Directions.{Directions}
-use Rattle.link_direction.specs.OrderedGadag.{HasClosingLink, IsOrderedGadag}
 use Rattle.inc_dec_spf.specs.declared.reach.Dir.{Dir}
 use Rattle.inc_dec_spf.specs.declared.reach.Dir.TheVariants.{Down, Up}
 use Rattle.inc_dec_spf.specs.Path.{IsStep, LeadsOn}
@@ -28,11 +25,13 @@ pub record IsMove (g : Topology) (w : Directions) (k x : ℕ) (end : End) : Type
   pub from_within : x < length g.ids
   pub to_within : end.to < length g.ids
   pub apart : x ≢ end.to
+  pub metric : end.metric ≤ 65535
 
 pub move_of : (g : Topology) (w : Directions) (dir : Dir) (k x : ℕ) (end : End) → IsTopology g → IsStep g w dir k x end → IsMove g w k x end
 move_of g w dir k x end kept step =
     let onward = end_leads g x step.place step.ends end kept step.list step.there in
     let within = leads_within g end.link x end.to kept onward in
+    let end_is : IsEnd (length g.ids) g.links x end = all_at (IsEnd (length g.ids) g.links x) step.ends step.place end (kept.ends_kept x step.ends step.list).kept step.there in
     record {
       onward = onward;
       in_block = step.in_block;
@@ -40,18 +39,29 @@ move_of g w dir k x end kept step =
       from_within = within.0;
       to_within = within.1;
       apart = leads_elsewhere g end.link x end.to kept onward;
+      metric = omega (arith, end_is.metric);
     }
+
+-- a step stands in the one list of its node's ends
+pub there_too : (g : Topology) (w : Directions) (dir : Dir) (k x : ℕ) (ends : List End) (end : End) → slice_get g.ends x ≡ Some ends → (step : IsStep g w dir k x end)
+    → slice_get ends step.place ≡ Some end
+there_too g w dir k x ends end list step =
+    subst (λ (es : List End). slice_get es step.place ≡ Some end) (same_Some step.ends ends (sym step.list ∙ list)) step.there
+
+pub step_early : (g : Topology) (w : Directions) (dir : Dir) (k x place : ℕ) (ends : List End) (end : End) → slice_get g.ends x ≡ Some ends → (step : IsStep g w dir k x end)
+    → step.place ≡ place → place < length ends
+step_early g w dir k x place ends end list step here = omega (arith, here, slice_get_within ends step.place end (there_too g w dir k x ends end list step))
+
+-- and that from a place is over the end there
+pub same_end : (g : Topology) (w : Directions) (dir : Dir) (k x place : ℕ) (ends : List End) (end other : End) → slice_get g.ends x ≡ Some ends
+    → slice_get ends place ≡ Some end → (step : IsStep g w dir k x other) → step.place ≡ place → other ≡ end
+same_end g w dir k x place ends end other list there step here =
+    same_Some other end (sym (there_too g w dir k x ends other list step) ∙ ap (λ (i : ℕ). slice_get ends i) here ∙ there)
 
 -- a step from a node of the block leads to another one, whose turn is later, or to the head
 pub data Onto (dir : Dir) (n : ℕ) (w : Directions) (k h x to : ℕ) : Type 0 where
   Later : w.block to ≡ k → turn_of dir n w x < turn_of dir n w to → Onto dir n w k h x to
   Home : to ≡ h → Onto dir n w k h x to
-
-up_turns : (n a b : ℕ) → 1 ≤ a → a < b → a - 1 < b - 1
-up_turns n a b low less = omega (arith, low, less)
-
-down_turns : (n a b : ℕ) → a ≤ n → b < a → n - a < n - b
-down_turns n a b high less = omega (arith, high, less)
 
 pub step_from_member : (g : Topology) (root : ℕ) (w : Directions) (dir : Dir) (k h x : ℕ) (end : End) → IsOrdered g root w → IsClosed g root w k h → w.block x ≡ k
     → IsStep g w dir k x end → Onto dir (length g.ids) w k h x end.to
@@ -75,8 +85,7 @@ step_from_member g root w dir k h x end is closed in_block step = elim (cases_eq
           subst (λ (y : ℕ). leads g.links end.link y ≡ Some h) at (closing_leads g root w k h end.link closed same) in
           absurd (other (same_Some end.to h (sym move.onward ∙ onto)))
       | inr plain ↦
-          up_turns (length g.ids) (w.order x) (w.order end.to) (is.ordered.orders.from_one x move.from_within)
-          (is.ordered.links.forward end.link x end.to move.onward on plain)
+          omega (arith, is.ordered.orders.from_one x move.from_within, is.ordered.links.forward end.link x end.to move.onward on plain)
     ]
     turns Down on other = elim (is_closing (w.role end.link)) [
       | inl closing ↦
@@ -87,8 +96,7 @@ step_from_member g root w dir k h x end is closed in_block step = elim (cases_eq
           let back = lead_back g.links end.link x end.to move.onward in
           absurd (member_not_head g root w k h x is closed move.from_within in_block (same_Some x h (sym back ∙ onto)))
       | inr plain ↦
-          down_turns (length g.ids) (w.order x) (w.order end.to) (is.ordered.orders.to_n x move.from_within)
-          (is.ordered.links.forward end.link end.to x (lead_back g.links end.link x end.to move.onward) on plain)
+          omega (arith, is.ordered.orders.to_n x move.from_within, is.ordered.links.forward end.link end.to x (lead_back g.links end.link x end.to move.onward) on plain)
     ]
 
 -- a step from the head leads to a node of the block

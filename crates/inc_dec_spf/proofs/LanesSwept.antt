@@ -1,8 +1,7 @@
 -- The sweep for some sources side by side, told of each of them: its lane.
 use Rattle.std.proofs.Common.{◌≡◌, ◌≢◌, ◌<◌, ◌≤◌, ◌+◌, ◌*◌, ◌∙◌, ℕ, List, [], ◌∷◌, Option, Some, None, length, nat_lt, slice_get, slice_index, inl, inr, refl, sym, ap, subst, arith}
 use Rattle.std.specs.Option.{option_map_or}
-use Rattle.std.proofs.lemmas.Bool.{cases_Bool, cases_eq, cases_lt, ltb-false, ltb-true}
-use Rattle.std.proofs.lemmas.List.{get_or_past}
+use Rattle.std.proofs.lemmas.Bool.{cases_Bool, cases_eq, ltb-false, ltb-true}
 use Rattle.std.proofs.lemmas.Option.{same_Some, slice_get_past}
 use Rattle.mrt_graph.specs.declared.cert.Role.TheVariants.{Sole}
 use Rattle.mrt_graph.specs.declared.link.End.{End}
@@ -14,22 +13,21 @@ use Rattle.inc_dec_spf.specs.declared.reach.Dir.{Dir}
 use Rattle.inc_dec_spf.specs.Fan.{IsFirstHop, link_at}
 use Rattle.inc_dec_spf.specs.FirstLink.{Begins, BeginsNone, no_link}
 use Rattle.inc_dec_spf.specs.HasDirections.{AreDirections}
-use Rattle.inc_dec_spf.specs.Known.{AreLow, AreOffered, IsNoLater, Known, OfAny, known, known_at, nothing}
-use Rattle.inc_dec_spf.specs.LeastPath.{BeginsPath, HaveCommonBlockOfMoreLinks, IsHop, NotReached, Reached}
+use Rattle.inc_dec_spf.specs.Known.{AreOffered, IsNoLater, Known, OfAny, known, known_at, nothing}
+use Rattle.inc_dec_spf.specs.LeastPath.{IsHop, NotReached, Reached}
 use Rattle.inc_dec_spf.specs.Offers.{IsFirstOffer, IsFurtherOffer, PassesOn}
-use Rattle.inc_dec_spf.specs.Opening.{AreFirstOffered, Goes, IsKeptOnward, IsOpening, Stays}
+use Rattle.inc_dec_spf.specs.Opening.{AreFirstOffered, Goes, IsKeptOnward, IsOpening, Ends}
 use Rattle.inc_dec_spf.specs.Path.{IsStep, Path, cost_of}
 use Rattle.inc_dec_spf.specs.Rest.{far}
-use Rattle.inc_dec_spf.specs.Side.{hop_by}
 use Rattle.inc_dec_spf.specs.Turns.{AreTurns, turn_of}
-use Rattle.inc_dec_spf.proofs.ByTurn.{turn_within}
-use Rattle.inc_dec_spf.proofs.FirstLinks.{places_apart}
 use Rattle.link_direction.proofs.ClosedBlocks.{IsOrdered}
 use Rattle.link_direction.proofs.LinkNodes.{link_within}
+use Rattle.inc_dec_spf.proofs.InBlocks.{there_too}
 use Rattle.inc_dec_spf.proofs.MoreLinks.{AreIn, are_in, first_step, share_it}
-use Rattle.inc_dec_spf.proofs.Offering.{no_later_same}
-use Rattle.inc_dec_spf.proofs.SideBySide.{row_within}
-use Rattle.inc_dec_spf.proofs.PathsSwept.{HasPath, IsSwept, IsTurnOffer, begun_path, metric_small, path_found, turn_taken}
+use Rattle.inc_dec_spf.proofs.Offering.{no_later_cost, no_later_same}
+use Rattle.inc_dec_spf.proofs.PathsInside.{path_low}
+use Rattle.inc_dec_spf.proofs.PathsSwept.{HasPath, IsSwept, IsTurnOffer, begun_path, found_in, found_low, path_found, turn_taken}
+use Rattle.inc_dec_spf.proofs.SideBySide.{places_apart, row_within}
 
 -- the lane at place j of so many
 abbrev pub lane : ℕ → ℕ → (ℕ → Known) → ℕ → Known
@@ -54,7 +52,7 @@ record IsBegun (g : Topology) (w : Directions) (dir : Dir) (s v : ℕ) (way : Kn
   pub same : way ≡ known end.metric step.place
 
 module _ (opening : Opening) (root : ℕ) (w : Directions) (are : AreDirections opening.graph.now opening.directed.now root w) (is_opening : IsOpening opening)
-    (width j : ℕ) (below : j < width) (inside : opening.first + j < length opening.graph.now.ids) where
+    (width j : ℕ) (below : j < width) where
   abbrev g : Topology
   g = opening.graph.now
 
@@ -71,16 +69,13 @@ module _ (opening : Opening) (root : ℕ) (w : Directions) (are : AreDirections 
   turns = is_opening.turns root w are
 
   -- what the source offers begins it
-  pub lane_begun : (costs places : List ℕ) → length costs ≡ length g.ids * width → AreFirstOffered opening w width costs places
-      → IsSwept g root w dir s 0 (lane width j (known_at costs places))
-  lane_begun costs places room begun = record {
+  pub lane_begun : (costs places : List ℕ) → AreFirstOffered opening width costs places → IsSwept g root w dir s 0 (lane width j (known_at costs places))
+  lane_begun costs places begun = record {
     sound = λ v v_inside low.
         let it = by_offer v v_inside low in
         subst (λ (k : Known). HasPath g root w dir s v k) (sym it.same)
         (subst (λ (y : ℕ). HasPath g root w dir s y (known it.end.metric it.step.place)) (sym it.to) (begun_path g root w dir s is it.end it.step it.not_sole));
-    small = λ v v_inside low.
-        let it = by_offer v v_inside low in omega (arith, ap (λ (k : Known). k.cost) it.same, metric_small g w dir (w.lies_in it.end.link) s it.end is.kept it.step);
-    begun = λ end step not_sole. begun.offered.taken (end.to * width + j) (known end.metric step.place) (record {
+    begun = λ end step not_sole. (begun.offered root w are).taken (end.to * width + j) (known end.metric step.place) (record {
       index = j;
       is = record {
         index = step.place;
@@ -90,11 +85,11 @@ module _ (opening : Opening) (root : ℕ) (w : Directions) (are : AreDirections 
     passed = λ x end step early. absurd (omega (arith, early));
   }
     where
-      own : (v l place : ℕ) → IsFirstOffer g w dir (opening.first + l) width l place (v * width + j) (lane width j (known_at costs places) v)
+      own : (v l place : ℕ) → IsFirstOffer opening w (opening.first + l) width l place (v * width + j) (lane width j (known_at costs places) v)
           → IsBegun g w dir s v (lane width j (known_at costs places) v)
       own v l place offer =
-          let it : IsFirstOffer g w dir s width j place (v * width + j) (lane width j (known_at costs places) v) =
-          subst (λ (m : ℕ). IsFirstOffer g w dir (opening.first + m) width m place (v * width + j) (lane width j (known_at costs places) v))
+          let it : IsFirstOffer opening w s width j place (v * width + j) (lane width j (known_at costs places) v) =
+          subst (λ (m : ℕ). IsFirstOffer opening w (opening.first + m) width m place (v * width + j) (lane width j (known_at costs places) v))
           (sym (same_place v offer.end.to width j l below offer.below offer.one.there).1) offer in
           record {
             end = it.end;
@@ -105,9 +100,9 @@ module _ (opening : Opening) (root : ℕ) (w : Directions) (are : AreDirections 
           }
 
       by_offer : (v : ℕ) → v < length g.ids → (lane width j (known_at costs places) v).cost < far → IsBegun g w dir s v (lane width j (known_at costs places) v)
-      by_offer v v_inside low = elim (begun.offered.from (v * width + j)) [
+      by_offer v v_inside low = elim ((begun.offered root w are).from (v * width + j)) [
         | inl same ↦
-            let none = begun.blank (v * width + j) (omega (arith, row_within v (length g.ids) width (length costs) room v_inside, below)) in
+            let none = begun.blank (v * width + j) (omega (arith, row_within v (length g.ids) width (length costs) begun.one_cost_each v_inside, below)) in
             absurd (omega (arith, low, ap (λ (k : Known). k.cost) (same ∙ none)))
         | inr new ↦ own v new.1.index new.1.is.index new.1.is.is
       ]
@@ -120,6 +115,13 @@ module _ (opening : Opening) (root : ℕ) (w : Directions) (are : AreDirections 
     only : (v : ℕ) → v < length g.ids → turn_of dir (length g.ids) w v ≡ i → v ≡ x
     only v v_inside same = same_Some v x (sym (turns.of_each v v_inside) ∙ subst (λ (t : ℕ). slice_get opening.turns.now t ≡ Some x) (sym same) at)
 
+    -- what is kept of it is low
+    pub lane_low : (after : Known) → IsKeptOnward opening x width j (lane width j found x) after → after.cost < far → after.cost + 65536 ≤ far
+    lane_low after (Goes is_known on) low =
+        let same = ap (λ (k : Known). k.cost) is_known in
+        omega (arith, same, found_low g root w dir s is x (lane width j found x) (swept.sound x (turns.within i x at) (omega (arith, same, low))))
+    lane_low after (Ends is_far not_on) low = absurd (omega (arith, is_far, low))
+
     -- nothing is known of it
     pub lane_idle : far ≤ (lane width j found x).cost → IsSwept g root w dir s (i + 1) (lane width j found)
     lane_idle above =
@@ -128,13 +130,13 @@ module _ (opening : Opening) (root : ℕ) (w : Directions) (are : AreDirections 
 
     -- it offers what is known of it, where paths go on
     pub lane_turned : (costs places : List ℕ) (after : ℕ → Known) → length costs ≡ width → IsKeptOnward opening x width j (lane width j found x) (known_at costs places j)
-        → AreOffered (OfAny (IsFurtherOffer g w dir x costs places)) found after → IsSwept g root w dir s (i + 1) (lane width j after)
+        → AreOffered (OfAny (IsFurtherOffer opening w x costs places)) found after → IsSwept g root w dir s (i + 1) (lane width j after)
     lane_turned costs places after long kept_on offered =
         turn_taken g root w dir s is x i (lane width j found) (lane width j after) (turns.within i x at) here only swept
         (λ v v_inside low. elim (offered.from (v * width + j)) [ inl same ↦ inl same | inr new ↦ inr (turn_offer v new.1.index new.0 new.1.is) ])
         (λ v. offered.kept (v * width + j)) taken
       where
-        turn_offer : (v place : ℕ) → (lane width j after v).cost < far → IsFurtherOffer g w dir x costs places place (v * width + j) (lane width j after v)
+        turn_offer : (v place : ℕ) → (lane width j after v).cost < far → IsFurtherOffer opening w x costs places place (v * width + j) (lane width j after v)
             → IsTurnOffer g w dir s x (lane width j found x) v (lane width j after v)
         turn_offer v place low offer =
             let over = offer.over in
@@ -143,15 +145,18 @@ module _ (opening : Opening) (root : ℕ) (w : Directions) (are : AreDirections 
             let same : lane width j after v ≡ known (slice_index costs j + offer.end.metric) (slice_index places j) =
             over.one.same ∙ ap (λ (l : ℕ). known (slice_index costs l + offer.end.metric) (slice_index places l)) (sym to.1) in
             elim kept_on [
-              | Goes is_known on ↦ record {
-                low = omega (arith, low, ap (λ (k : Known). k.cost) same, ap (λ (k : Known). k.cost) is_known);
-                on = on root w are below inside;
-                end = offer.end;
-                step = offer.step;
-                to = to.0;
-                is = same ∙ ap (λ (k : Known). known (k.cost + offer.end.metric) k.place) is_known;
-              }
-              | Stays is_far not_on ↦ absurd (omega (arith, low, ap (λ (k : Known). k.cost) same, is_far))
+              | Goes is_known on ↦
+                  let low_here : (lane width j found x).cost < far = omega (arith, low, ap (λ (k : Known). k.cost) same, ap (λ (k : Known). k.cost) is_known) in
+                  let inside = (found_in g root w dir s is x (lane width j found x) (swept.sound x (turns.within i x at) low_here)).source_within in
+                  record {
+                    low = low_here;
+                    on = on below inside root w are;
+                    end = offer.end;
+                    step = offer.step;
+                    to = to.0;
+                    is = same ∙ ap (λ (k : Known). known (k.cost + offer.end.metric) k.place) is_known;
+                  }
+              | Ends is_far not_on ↦ absurd (omega (arith, low, ap (λ (k : Known). k.cost) same, is_far))
             ]
 
         taken : (end : End) → IsStep g w dir (w.block x) x end → PassesOn w s x → (lane width j found x).cost < far
@@ -174,14 +179,14 @@ module _ (opening : Opening) (root : ℕ) (w : Directions) (are : AreDirections 
                   };
                 };
               })
-          | Stays is_far not_on ↦ absurd (not_on root w are on)
+          | Ends is_far not_on ↦ absurd (not_on root w are on)
         ]
 
   -- after all turns, the ends by which the source begins the least paths
-  pub place_reached : (t : ℕ) (ends : List End) (found : ℕ → Known) → t < length g.ids → slice_get g.ends s ≡ Some ends → ((i : ℕ) → far ≤ (found i).cost → found i ≡ nothing)
-      → IsSwept g root w dir s (length g.ids) (lane width j found)
+  pub place_reached : (t : ℕ) (ends : List End) (found : ℕ → Known) → s < length g.ids → t < length g.ids → slice_get g.ends s ≡ Some ends
+      → ((i : ℕ) → far ≤ (found i).cost → found i ≡ nothing) → IsSwept g root w dir s (length g.ids) (lane width j found)
       → IsFirstHop g w dir s t (lane width j found t).cost (link_at ends (lane width j found t).place)
-  place_reached t ends found t_inside list none swept = elim (cases_Bool (nat_lt way.cost far)) [
+  place_reached t ends found inside t_inside list none swept = elim (cases_Bool (nat_lt way.cost far)) [
     | inl less ↦ record {
       hop = λ two. rw less (hop two (ltb-true way.cost far less));
       begins = λ two.
@@ -192,129 +197,66 @@ module _ (opening : Opening) (root : ℕ) (w : Directions) (are : AreDirections 
           (λ same. omega (arith, few, same, link_is it, is.kept.few_links));
     }
     | inr not_less ↦ record {
-      hop = λ two. rw not_less (NotReached (λ k h path share is_path. not_reached k h path share is_path (ltb-false way.cost far not_less)));
+      hop = λ two. rw not_less (unreached (ltb-false way.cost far not_less));
       begins = λ two.
           let above = ltb-false way.cost far not_less in
-          BeginsNone (NotReached (λ k h path share is_path. not_reached k h path share is_path above)) (no_end (ap (λ (k : Known). k.place) (none (t * width + j) above)));
+          BeginsNone (unreached above) (no_end (ap (λ (k : Known). k.place) (none (t * width + j) above)));
     }
   ]
     where
       way : Known
       way = lane width j found t
 
-      all : (v : ℕ) → v < length g.ids → turn_of dir (length g.ids) w v < length g.ids
-      all v v_inside = turn_within dir (length g.ids) (w.order v) (is.ordered.orders.from_one v v_inside) (is.ordered.orders.to_n v v_inside)
-
       no_end : way.place ≡ 65535 → link_at ends way.place ≡ no_link
       no_end is_none =
           let few = (is.kept.ends_kept s ends list).few in
           ap (λ (o : Option End). option_map_or (λ e. e.link) o no_link) (slice_get_past ends way.place (omega (arith, is_none, few, is.kept.few_links)))
 
+      there : (it : HasPath g root w dir s t way) → slice_get ends way.place ≡ Some it.end
+      there it = subst (λ (es : List End). slice_get es way.place ≡ Some it.end) (same_Some it.ends ends (sym it.list ∙ list)) it.there
+
       link_is : (it : HasPath g root w dir s t way) → link_at ends way.place ≡ it.end.link
-      link_is it =
-          let same = same_Some it.ends ends (sym it.list ∙ list) in
-          ap (λ (o : Option End). option_map_or (λ e. e.link) o no_link) (subst (λ (es : List End). slice_get es way.place ≡ Some it.end) same it.there)
+      link_is it = ap (λ (o : Option End). option_map_or (λ e. e.link) o no_link) (there it)
 
+      -- no path comes before
       found_by : (k h : ℕ) → AreIn g root w s k h t → (end : End) (others : List End) (place : ℕ) → slice_get ends place ≡ Some end → Path g w dir k h s (end ∷ others) t
-          → (way.cost < far) × IsNoLater way (known (cost_of (end ∷ others)) place)
-      found_by k h are_in_it end others place there path =
-          path_found g root w dir s is (lane width j found) swept all k h t are_in_it t end others path place ends list there
+          → IsNoLater way (known (cost_of (end ∷ others)) place)
+      found_by k h are_in_it end others place at path = path_found g root w dir s is (lane width j found) swept k h t are_in_it t end others path place ends list at
 
-      step_there : (k h : ℕ) (end : End) (step : IsStep g w dir k s end) → slice_get ends step.place ≡ Some end
-      step_there k h end step =
-          subst (λ (es : List End). slice_get es step.place ≡ Some end) (same_Some step.ends ends (sym step.list ∙ list)) step.there
-
-      not_reached : (k h : ℕ) (path : List End) → HaveCommonBlockOfMoreLinks g w s t k h → Path g w dir k h s path t → far ≤ way.cost → ⊥
-      not_reached k h [] share path above = path
-      not_reached k h (end ∷ others) share path above =
+      least : (k h : ℕ) → AreIn g root w s k h t → (path : List End) → Path g w dir k h s path t → way.cost ≤ cost_of path
+      least k h are_in_it [] path = absurd path
+      least k h are_in_it (end ∷ others) path =
           let step = first_step g w dir k h s t end others path in
-          let it = found_by k h (are_in g root w s k h t is inside t_inside share) end others step.place (step_there k h end step) path in
-          omega (arith, it.0, above)
+          no_later_cost way (known (cost_of (end ∷ others)) step.place)
+          (found_by k h are_in_it end others step.place (there_too g w dir k s ends end list step) path)
+
+      unreached : far ≤ way.cost → IsHop g w dir s t None
+      unreached above = NotReached (λ k h path share is_path.
+          let it = are_in g root w s k h t is inside t_inside share in
+          omega (arith, above, least k h it path is_path, low k h it path is_path))
+        where
+          low : (k h : ℕ) → AreIn g root w s k h t → (path : List End) → Path g w dir k h s path t → cost_of path < far
+          low k h it [] path = absurd path
+          low k h it (end ∷ others) path = omega (arith, path_low g root w dir is k h it.closed s t end others path)
 
       hop : s ≢ t → way.cost < far → IsHop g w dir s t (Some (record { cost = way.cost; link = link_at ends way.place }))
       hop two low =
           let it = swept.sound t t_inside low in
-          let same = same_Some it.ends ends (sym it.list ∙ list) in
-          Reached it.k it.h (record { cost = way.cost; link = link_at ends way.place }) (share_it g root w s it.k it.h t is it.are two) (record {
+          let in_block = found_in g root w dir s is t way it in
+          Reached it.k it.h (record { cost = way.cost; link = link_at ends way.place }) (share_it g root w s it.k it.h t is in_block two) (record {
             end = it.end;
             first = record {
-              ends = it.ends;
-              list = it.list;
+              ends = ends;
+              list = list;
               place = way.place;
-              there = it.there;
+              there = there it;
               asked = record { others = it.others; is_path = it.is_path; costs = it.costs };
               none_before = λ place other early at begins.
-                  elim (found_by it.k it.h it.are other begins.others place (subst (λ (es : List End). slice_get es place ≡ Some other) same at) begins.is_path).1 [
+                  elim (found_by it.k it.h in_block other begins.others place at begins.is_path) [
                     | inl less ↦ omega (arith, less, begins.costs)
                     | inr tie ↦ omega (arith, tie.1, early)
                   ];
             };
             over = link_is it;
-            least = λ path is_path. least it path is_path;
+            least = least it.k it.h in_block;
           })
-        where
-          least : (it : HasPath g root w dir s t way) (path : List End) → Path g w dir it.k it.h s path t → way.cost ≤ cost_of path
-          least it [] path = absurd path
-          least it (end ∷ others) path =
-              let step = first_step g w dir it.k it.h s t end others path in
-              elim (found_by it.k it.h it.are end others step.place (step_there it.k it.h end step) path).1 [
-                | inl less ↦ omega (arith, less)
-                | inr tie ↦ omega (arith, tie.0)
-              ]
-
--- a node that has its turn is one of the graph
-pub node_at : (opening : Opening) → IsOpening opening → (i x : ℕ) → slice_get opening.turns.now i ≡ Some x → x < length opening.graph.now.ids
-node_at opening is i x at = let d = is.directed in (is.turns d.root d.directions d.are).within i x at
-
--- costs grow by one metric a turn
-pub low_begun : (opening : Opening) (width : ℕ) (costs places : List ℕ) → IsOpening opening
-    → ((root : ℕ) (w : Directions) → AreDirections opening.graph.now opening.directed.now root w → AreFirstOffered opening w width costs places) → AreLow 65535 costs
-low_begun opening width costs places is begun = record {
-  each = λ i low. elim (cases_lt i (length costs)) [
-    | inl inside ↦
-        let d = is.directed in
-        let it = begun d.root d.directions d.are in
-        elim (it.offered.from i) [
-          | inl same ↦ absurd (omega (arith, low, ap (λ (k : Known). k.cost) (same ∙ it.blank i inside)))
-          | inr new ↦
-              let offer = new.1.is.is in
-              omega (arith, ap (λ (k : Known). k.cost) offer.one.same, metric_small opening.graph.now d.directions opening.dir _ _ offer.end is.kept offer.step)
-        ]
-    | inr past ↦ omega (arith, get_or_past costs i 0 past)
-  ];
-}
-
-pub low_turned : (opening : Opening) (x bound : ℕ) (from_costs from_places costs places costs' places' : List ℕ) → IsOpening opening
-    → ((root : ℕ) (w : Directions) → AreDirections opening.graph.now opening.directed.now root w
-    → AreOffered (OfAny (IsFurtherOffer opening.graph.now w opening.dir x from_costs from_places)) (known_at costs places) (known_at costs' places'))
-    → AreLow bound from_costs → AreLow bound costs → AreLow (bound + 65535) costs'
-low_turned opening x bound from_costs from_places costs places costs' places' is offered from_low before = record {
-  each = λ i low.
-      let d = is.directed in
-      elim ((offered d.root d.directions d.are).from i) [
-        | inl same ↦ let cost = ap (λ (k : Known). k.cost) same in omega (arith, cost, before.each i (omega (arith, low, cost)))
-        | inr new ↦
-            let offer = new.1.is in
-            let cost = ap (λ (k : Known). k.cost) offer.over.one.same in
-            omega (arith, cost, from_low.each offer.over.lane (omega (arith, cost, low)), metric_small opening.graph.now d.directions opening.dir _ x offer.end is.kept offer.step)
-      ];
-}
-
-pub low_onward : (opening : Opening) (x width bound : ℕ) (costs places costs' places' : List ℕ)
-    → ((j : ℕ) → IsKeptOnward opening x width j (known_at costs places j) (known_at costs' places' j)) → AreLow bound costs → AreLow bound costs'
-low_onward opening x width bound costs places costs' places' onward before = record {
-  each = λ j low. elim (onward j) [
-    | Goes same on ↦ let cost = ap (λ (k : Known). k.cost) same in omega (arith, cost, before.each j (omega (arith, low, cost)))
-    | Stays is_far not_on ↦ absurd (omega (arith, is_far, low))
-  ];
-}
-
-pub low_taken : (bound at : ℕ) (costs places from_costs from_places : List ℕ)
-    → ((j : ℕ) → j < length from_costs → known_at from_costs from_places j ≡ known_at costs places (at + j)) → AreLow bound costs → AreLow bound from_costs
-low_taken bound at costs places from_costs from_places taken before = record {
-  each = λ j low. elim (cases_lt j (length from_costs)) [
-    | inl inside ↦
-        let cost = ap (λ (k : Known). k.cost) (taken j inside) in omega (arith, cost, before.each (at + j) (omega (arith, low, cost)))
-    | inr past ↦ omega (arith, get_or_past from_costs j 0 past)
-  ];
-}

@@ -12,7 +12,8 @@ pub mod Marks
 pub mod MoreLinks
 pub mod Offering
 pub mod OneHop
-pub mod OwnCosts
+pub mod OwnWays
+pub mod PathsInside
 pub mod PathsSwept
 pub mod SameDirections
 pub mod SideBySide

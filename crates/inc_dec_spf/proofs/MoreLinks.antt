@@ -1,13 +1,15 @@
 -- Blocks of more than one link, and the nodes that lie in them.
-use Rattle.std.proofs.Common.{◌≡◌, ◌≢◌, ◌⊎◌, ◌<◌, ◌∙◌, ℕ, List, [], ◌∷◌, length, inl, inr, refl, sym, subst}
+use Rattle.std.proofs.Common.{◌≡◌, ◌≢◌, ◌⊎◌, ◌<◌, ◌∙◌, ℕ, List, [], ◌∷◌, Some, length, inl, inr, refl, sym, subst}
+use Rattle.mrt_graph.specs.declared.cert.Role.TheVariants.{Sole}
 use Rattle.mrt_graph.specs.declared.link.End.{End}
+use Rattle.mrt_graph.specs.Leads.{leads}
 use Rattle.mrt_graph.specs.Topology.{Topology}
 use Rattle.link_direction.specs.CommonBlock.{HaveCommonBlock, Peers, ToHead, FromHead}
 use Rattle.link_direction.specs.Directions.{Directions}
 use Rattle.inc_dec_spf.specs.declared.reach.Dir.{Dir}
 use Rattle.inc_dec_spf.specs.LeastPath.{HasMoreLinks, HaveCommonBlockOfMoreLinks}
 use Rattle.inc_dec_spf.specs.Path.{IsStep, Path}
-use Rattle.link_direction.proofs.ClosedBlocks.{IsClosed, IsOrdered, head_of_member, inside_of_link}
+use Rattle.link_direction.proofs.ClosedBlocks.{IsClosed, IsOrdered, closed_of_link, head_of_member, inside_of_link}
 use Rattle.link_direction.proofs.LinkNodes.{link_within}
 
 -- s and v lie in block k, which has a closing link and whose head is h: each is one of its nodes, or the head
@@ -58,6 +60,14 @@ closed_of_more g root w k is more =
           ∙ sym (one.no_other_link more.other more.other_within (more.other_in_block ∙ sym member))))
       | inr closing ↦ (w.head it.m, record { m = it.m; within = it.within; not_root = it.not_root; in_block = member; has_head = refl; closing = closing })
     ]
+
+-- so has the block of a link that is not sole; and no link of a block of more is
+pub has_more : (g : Topology) (root : ℕ) (w : Directions) (e u v : ℕ) → IsOrdered g root w → leads g.links e u ≡ Some v → w.role e ≢ Sole → HasMoreLinks g w (w.lies_in e)
+has_more g root w e u v is onward not_sole = let closed = closed_of_link g root w e u v is onward not_sole in more_links g root w (w.lies_in e) closed.0 is closed.1
+
+pub more_not_sole : (g : Topology) (root : ℕ) (w : Directions) (e : ℕ) → IsOrdered g root w → HasMoreLinks g w (w.lies_in e) → e < length g.links → w.role e ≢ Sole
+more_not_sole g root w e is more within =
+    let closed = closed_of_more g root w (w.lies_in e) is more in closed.1.closing.none_sole e within (sym closed.1.in_block)
 
 -- two nodes that share a block lie in it
 pub are_in : (g : Topology) (root : ℕ) (w : Directions) (s k h t : ℕ) → IsOrdered g root w → s < length g.ids → t < length g.ids → HaveCommonBlockOfMoreLinks g w s t k h

@@ -1,7 +1,7 @@
 -- Offers, one after another.
-use Rattle.std.proofs.Common.{◌≡◌, ◌⊎◌, ◌<◌, ◌≤◌, ◌+◌, ◌∙◌, ℕ, List, length, slice_index, inl, inr, refl, sym, ap, subst, arith}
+use Rattle.std.proofs.Common.{◌<◌, ◌≤◌, ◌+◌, ◌∙◌, ℕ, List, slice_index, inl, inr, refl, sym, ap, subst, arith}
 use Rattle.std.proofs.lemmas.Bool.{cases_lt}
-use Rattle.inc_dec_spf.specs.Known.{AreLanes, AreOffered, IsNoLater, IsOne, Known, known}
+use Rattle.inc_dec_spf.specs.Known.{AreOffered, IsNoLater, IsOne, Known, known}
 
 pub no_later_same : (a : Known) → IsNoLater a a
 no_later_same a = inr (refl, omega arith)
@@ -11,6 +11,10 @@ no_later_by a b c (inl less) (inl next) = inl (omega (arith, less, next))
 no_later_by a b c (inl less) (inr tie) = inl (omega (arith, less, tie.0))
 no_later_by a b c (inr tie) (inl next) = inl (omega (arith, tie.0, next))
 no_later_by a b c (inr tie) (inr next) = inr (tie.0 ∙ next.0, omega (arith, tie.1, next.1))
+
+pub no_later_cost : (a b : Known) → IsNoLater a b → a.cost ≤ b.cost
+no_later_cost a b (inl less) = omega (arith, less)
+no_later_cost a b (inr tie) = omega (arith, tie.0)
 
 -- the offers of the first ends, lanes or sources
 pub record OfFirst (count : ℕ) (Of : ℕ → ℕ → Known → Type 0) (i : ℕ) (offer : Known) : Type 0 where
@@ -49,14 +53,9 @@ offered_more Of Then n a b c to back first next = record {
 
 pub offered_none : (Of : ℕ → ℕ → Known → Type 0) (n : ℕ) (a b : ℕ → Known) → ((i : ℕ) (offer : Known) → Of n i offer → ⊥) → AreOffered (OfFirst n Of) a b
     → AreOffered (OfFirst (n + 1) Of) a b
-offered_none Of n a b none first = record {
-  from = λ i. elim (first.from i) [ inl old ↦ inl old | inr new ↦ inr (new.0, record { index = new.1.index; early = omega (arith, new.1.early); is = new.1.is }) ];
-  kept = first.kept;
-  taken = λ i offer of. elim (cases_lt of.index n) [
-    | inl early ↦ first.taken i offer (record { index = of.index; early = early; is = of.is })
-    | inr late ↦ absurd (none i offer (subst (λ (p : ℕ). Of p i offer) (omega (arith, late, of.early)) of.is))
-  ];
-}
+offered_none Of n a b none first =
+    offered_more Of (λ i offer. ⊥) n a b b (λ i offer no. absurd no) none first
+    (record { from = λ i. inl refl; kept = λ i. no_later_same (b i); taken = λ i offer no. absurd no })
 
 -- all of them
 pub offered_all : (Of : ℕ → ℕ → Known → Type 0) (Offer : ℕ → Known → Type 0) (n : ℕ) (a b : ℕ → Known) → ((i : ℕ) (offer : Known) → OfFirst n Of i offer → Offer i offer)
@@ -70,6 +69,3 @@ offered_all Of Offer n a b to back first = record {
 -- the offers of the lanes at a node, one after another
 abbrev pub LaneOffer : List ℕ → List ℕ → ℕ → ℕ → ℕ → ℕ → Known → Type 0
 LaneOffer costs places metric at lane i offer = IsOne (at + lane) (known (slice_index costs lane + metric) (slice_index places lane)) i offer
-
-pub own_lanes : (count : ℕ) (costs places : List ℕ) → AreLanes count costs places → AreLanes (length costs) costs places
-own_lanes count costs places are = subst (λ (n : ℕ). AreLanes n costs places) (sym are.one_cost_each) are

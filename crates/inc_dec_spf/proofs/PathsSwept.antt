@@ -1,30 +1,28 @@
 -- What the sweep knows of a source: paths, and none comes before them.
-use Rattle.std.proofs.Common.{◌≡◌, ◌≢◌, ◌⊎◌, ◌<◌, ◌≤◌, ◌+◌, ◌*◌, ◌++◌, ◌∙◌, ℕ, List, [], ◌∷◌, Some, length, slice_get, inl, inr, refl, sym, ap, subst, arith}
+use Rattle.std.proofs.Common.{◌≡◌, ◌≢◌, ◌⊎◌, ◌<◌, ◌≤◌, ◌+◌, ◌++◌, ◌∙◌, ℕ, List, [], ◌∷◌, Some, length, slice_get, inl, inr, refl, sym, ap, subst, arith}
 use Rattle.std.proofs.lemmas.Bool.{cases_eq, cases_lt}
-use Rattle.std.proofs.lemmas.Option.{same_Some, slice_get_within}
 use Rattle.mrt_graph.specs.declared.cert.Role.TheVariants.{Sole}
 use Rattle.mrt_graph.specs.declared.link.End.{End}
-use Rattle.mrt_graph.specs.GraphInvariant.{IsEnd, IsTopology}
 use Rattle.mrt_graph.specs.Topology.{Topology}
-use Rattle.mrt_graph.proofs.Hops.{lead_back}
-use Rattle.mrt_graph.proofs.ListTests.{all_at}
 use Rattle.link_direction.specs.Directions.{Directions}
 use Rattle.inc_dec_spf.specs.declared.reach.Dir.{Dir}
 use Rattle.inc_dec_spf.specs.Known.{IsNoLater, Known, known}
 use Rattle.inc_dec_spf.specs.Offers.{PassesOn}
 use Rattle.inc_dec_spf.specs.Path.{IsStep, Path, cost_of}
 use Rattle.inc_dec_spf.specs.Rest.{far}
-use Rattle.inc_dec_spf.specs.Turns.{AreTurns, turn_of}
-use Rattle.inc_dec_spf.proofs.InBlocks.{Home, Later, Onto, move_of, step_from_head, step_from_member}
-use Rattle.link_direction.proofs.ClosedBlocks.{IsClosed, IsOrdered, closed_of_link, head_lower, head_of_member, leads_inside, member_not_head}
+use Rattle.inc_dec_spf.specs.Turns.{turn_of}
+use Rattle.inc_dec_spf.proofs.ByTurn.{turn_in}
+use Rattle.inc_dec_spf.proofs.InBlocks.{Home, Later, move_of, step_from_head, step_from_member}
+use Rattle.link_direction.proofs.ClosedBlocks.{IsClosed, IsOrdered, closed_of_link, head_lower, head_of_member, member_not_head}
 use Rattle.inc_dec_spf.proofs.MoreLinks.{AreIn}
-use Rattle.inc_dec_spf.proofs.Offering.{no_later_by}
+use Rattle.inc_dec_spf.proofs.Offering.{no_later_by, no_later_cost}
+use Rattle.inc_dec_spf.proofs.PathsInside.{path_in, path_low}
 
 -- what is known of v is a path from s: its cost, and the place of its first end
 pub record HasPath (g : Topology) (root : ℕ) (w : Directions) (dir : Dir) (s v : ℕ) (way : Known) : Type 0 where
   pub k : ℕ
   pub h : ℕ
-  pub are : AreIn g root w s k h v
+  pub closed : IsClosed g root w k h
   pub end : End
   pub others : List End
   pub is_path : Path g w dir k h s (end ∷ others) v
@@ -36,7 +34,6 @@ pub record HasPath (g : Topology) (root : ℕ) (w : Directions) (dir : Dir) (s v
 -- what has been found after i turns: paths, and what the source and those nodes offered
 pub record IsSwept (g : Topology) (root : ℕ) (w : Directions) (dir : Dir) (s i : ℕ) (found : ℕ → Known) : Type 0 where
   pub sound : (v : ℕ) → v < length g.ids → (found v).cost < far → HasPath g root w dir s v (found v)
-  pub small : (v : ℕ) → v < length g.ids → (found v).cost < far → (found v).cost ≤ 65535 * (i + 1)
   pub begun : (end : End) (step : IsStep g w dir (w.lies_in end.link) s end) → w.role end.link ≢ Sole
       → IsNoLater (found end.to) (known end.metric step.place)
   pub passed : (x : ℕ) (end : End) → IsStep g w dir (w.block x) x end → turn_of dir (length g.ids) w x < i → PassesOn w s x
@@ -50,11 +47,6 @@ pub record IsTurnOffer (g : Topology) (w : Directions) (dir : Dir) (s x : ℕ) (
   pub step : IsStep g w dir (w.block x) x end
   pub to : v ≡ end.to
   pub is : way ≡ known (from.cost + end.metric) from.place
-
-pub metric_small : (g : Topology) (w : Directions) (dir : Dir) (k x : ℕ) (end : End) → IsTopology g → IsStep g w dir k x end → end.metric ≤ 65535
-metric_small g w dir k x end kept step =
-    let is : IsEnd (length g.ids) g.links x end = all_at (IsEnd (length g.ids) g.links x) step.ends step.place end (kept.ends_kept x step.ends step.list).kept step.there in
-    omega (arith, is.metric)
 
 cost_onward : (ends : List End) (next : End) → cost_of (ends ++ next ∷ []) ≡ cost_of ends + next.metric
 cost_onward [] next = omega arith
@@ -81,20 +73,12 @@ module _ (g : Topology) (root : ℕ) (w : Directions) (dir : Dir) (s : ℕ) (is 
   -- a first end is a path
   pub begun_path : (end : End) (step : IsStep g w dir (w.lies_in end.link) s end) → w.role end.link ≢ Sole → HasPath g root w dir s end.to (known end.metric step.place)
   begun_path end step not_sole =
-      let k = w.lies_in end.link in
-      let move = move_of g w dir k s end is.kept step in
+      let move = move_of g w dir (w.lies_in end.link) s end is.kept step in
       let closed = closed_of_link g root w end.link s end.to is move.onward not_sole in
-      let back = lead_back g.links end.link s end.to move.onward in
       record {
-        k = k;
+        k = w.lies_in end.link;
         h = closed.0;
-        are = record {
-          closed = closed.1;
-          source = leads_inside g root w k closed.0 end.link end.to s is closed.1 back refl;
-          source_within = move.from_within;
-          target = leads_inside g root w k closed.0 end.link s end.to is closed.1 move.onward refl;
-          target_within = move.to_within;
-        };
+        closed = closed.1;
         end = end;
         others = [];
         is_path = (step, refl);
@@ -104,52 +88,54 @@ module _ (g : Topology) (root : ℕ) (w : Directions) (dir : Dir) (s : ℕ) (is 
         there = step.there;
       }
 
-  -- paths go on from nodes of the block that are not the source, since they are not the head
-  goes_on_inside : (k h x : ℕ) → AreIn g root w s k h x → PassesOn w s x → w.block x ≡ k
-  goes_on_inside k h x are on = elim are.target [
-    | inl inside ↦ inside
-    | inr home ↦ elim are.source [
-      | inl member ↦ absurd (on.not_head (home ∙ sym (head_of_member g root w k h s is are.closed are.source_within member)))
-      | inr head ↦ absurd (on.not_source (home ∙ sym head))
-    ]
-  ]
+  -- the path that is known, and its nodes
+  pub found_in : (v : ℕ) (way : Known) (it : HasPath g root w dir s v way) → AreIn g root w s it.k it.h v
+  found_in v way it = path_in g root w dir is it.k it.h it.closed s v it.end it.others it.is_path
+
+  pub found_low : (v : ℕ) (way : Known) → HasPath g root w dir s v way → way.cost ≤ 268500000
+  found_low v way it = omega (arith, it.costs, path_low g root w dir is it.k it.h it.closed s v it.end it.others it.is_path)
 
   module _ (x : ℕ) (from : Known) (it : HasPath g root w dir s x from) (on : PassesOn w s x) (end : End) (step : IsStep g w dir (w.block x) x end) where
+    source : (w.block s ≡ it.k) ⊎ (s ≡ it.h)
+    source = (found_in x from it).source
+
+    head_of_source : w.block s ≡ it.k → w.head s ≡ it.h
+    head_of_source member = head_of_member g root w it.k it.h s is it.closed (found_in x from it).source_within member
+
+    -- paths go on from nodes of the block that are not the source, since they are not the head
     inside : w.block x ≡ it.k
-    inside = goes_on_inside it.k it.h x it.are on
+    inside = elim (found_in x from it).target [
+      | inl member ↦ member
+      | inr home ↦ elim source [
+        | inl member ↦ absurd (on.not_head (home ∙ sym (head_of_source member)))
+        | inr head ↦ absurd (on.not_source (home ∙ sym head))
+      ]
+    ]
 
     onward : IsStep g w dir it.k x end
     onward = subst (λ (b : ℕ). IsStep g w dir b x end) inside step
 
     further_path : HasPath g root w dir s end.to (known (from.cost + end.metric) from.place)
-    further_path =
-        let move = move_of g w dir it.k x end is.kept onward in
-        let not_head : x ≢ it.h = member_not_head g root w it.k it.h x is it.are.closed move.from_within inside in
-        record {
-          k = it.k;
-          h = it.h;
-          are = record {
-            closed = it.are.closed;
-            source = it.are.source;
-            source_within = it.are.source_within;
-            target = leads_inside g root w it.k it.h end.link x end.to is it.are.closed move.onward move.in_block;
-            target_within = move.to_within;
-          };
-          end = it.end;
-          others = it.others ++ end ∷ [];
-          is_path = path_onward g w dir it.k it.h s x it.end it.others end it.is_path not_head onward;
-          costs = omega (arith, cost_onward it.others end, it.costs);
-          ends = it.ends;
-          list = it.list;
-          there = it.there;
-        }
+    further_path = record {
+      k = it.k;
+      h = it.h;
+      closed = it.closed;
+      end = it.end;
+      others = it.others ++ end ∷ [];
+      is_path = path_onward g w dir it.k it.h s x it.end it.others end it.is_path
+          (member_not_head g root w it.k it.h x is it.closed (found_in x from it).target_within inside) onward;
+      costs = omega (arith, cost_onward it.others end, it.costs);
+      ends = it.ends;
+      list = it.list;
+      there = it.there;
+    }
 
     -- it leads to a node with a later turn, or to one from which no path goes on
     later_or_end : (turn_of dir (length g.ids) w x < turn_of dir (length g.ids) w end.to) ⊎ (PassesOn w s end.to → ⊥)
-    later_or_end = elim (step_from_member g root w dir it.k it.h x end is it.are.closed inside onward) [
+    later_or_end = elim (step_from_member g root w dir it.k it.h x end is it.closed inside onward) [
       | Later block later ↦ inl later
-      | Home home ↦ inr (λ next. elim it.are.source [
-        | inl member ↦ next.not_head (home ∙ sym (head_of_member g root w it.k it.h s is it.are.closed it.are.source_within member))
+      | Home home ↦ inr (λ next. elim source [
+        | inl member ↦ next.not_head (home ∙ sym (head_of_source member))
         | inr head ↦ next.not_source (home ∙ sym head)
       ])
     ]
@@ -181,12 +167,6 @@ module _ (g : Topology) (root : ℕ) (w : Directions) (dir : Dir) (s : ℕ) (is 
             (subst (λ (y : ℕ). HasPath g root w dir s y (known ((before x).cost + new.end.metric) (before x).place)) (sym new.to)
             (further_path x (before x) (swept.sound x within new.low) new.on new.end new.step))
       ];
-      small = λ v inside low. elim (from v inside low) [
-        | inl old ↦
-            let same = ap (λ (k : Known). k.cost) old in omega (arith, same, swept.small v inside (omega (arith, same, low)))
-        | inr new ↦
-            omega (arith, ap (λ (k : Known). k.cost) new.is, swept.small x within new.low, metric_small g w dir (w.block x) x new.end is.kept new.step)
-      ];
       begun = λ end step not_sole. no_later_by (after end.to) (before end.to) (known end.metric step.place) (kept end.to) (swept.begun end step not_sole);
       passed = λ y end step early on low.
           let inside = (move_of g w dir (w.block y) y end is.kept step).from_within in
@@ -206,11 +186,7 @@ module _ (g : Topology) (root : ℕ) (w : Directions) (dir : Dir) (s : ℕ) (is 
     }
 
   -- after all turns, no path of a block of the source comes before what is known
-  module _ (found : ℕ → Known) (swept : IsSwept g root w dir s (length g.ids) found)
-      (all : (v : ℕ) → v < length g.ids → turn_of dir (length g.ids) w v < length g.ids) (k h u : ℕ) (are : AreIn g root w s k h u) where
-    abbrev IsFound : ℕ → ℕ → ℕ → Type 0
-    IsFound v cost place = ((found v).cost < far) × IsNoLater (found v) (known cost place)
-
+  module _ (found : ℕ → Known) (swept : IsSwept g root w dir s (length g.ids) found) (k h u : ℕ) (are : AreIn g root w s k h u) where
     on_the_way : (x : ℕ) → IsOnTheWay g w dir s k h x → PassesOn w s x
     on_the_way x way = record {
       not_source = elim way.ahead [
@@ -235,17 +211,13 @@ module _ (g : Topology) (root : ℕ) (w : Directions) (dir : Dir) (s : ℕ) (is 
         ]
 
     -- a path that has come to x by so much goes on from there
-    next_found : (x cost place : ℕ) (end : End) → IsOnTheWay g w dir s k h x → IsFound x cost place → IsStep g w dir k x end → IsFound end.to (cost + end.metric) place
-    next_found x cost place end way so_far step =
-        let own : IsStep g w dir (w.block x) x end = subst (λ (b : ℕ). IsStep g w dir b x end) (sym way.inside) step in
-        let no_later = swept.passed x end own (all x way.within) (on_the_way x way) so_far.0 in
-        let low = swept.small x way.within so_far.0 in
-        let metric = metric_small g w dir k x end is.kept step in
-        let few = is.kept.few_nodes in (
-          elim no_later [ inl less ↦ omega (arith, less, low, metric, few) | inr tie ↦ omega (arith, tie.0, low, metric, few) ],
-          no_later_by (found end.to) (known ((found x).cost + end.metric) (found x).place) (known (cost + end.metric) place) no_later
-              (elim so_far.1 [ inl less ↦ inl (omega (arith, less)) | inr tie ↦ inr (omega (arith, tie.0), tie.1) ]),
-        )
+    next_found : (x cost place : ℕ) (end : End) → IsOnTheWay g w dir s k h x → cost < far → IsNoLater (found x) (known cost place) → IsStep g w dir k x end
+        → IsNoLater (found end.to) (known (cost + end.metric) place)
+    next_found x cost place end way low so_far step =
+        no_later_by (found end.to) (known ((found x).cost + end.metric) (found x).place) (known (cost + end.metric) place)
+        (swept.passed x end (subst (λ (b : ℕ). IsStep g w dir b x end) (sym way.inside) step) (turn_in g root w dir x is.ordered way.within) (on_the_way x way)
+        (omega (arith, low, no_later_cost (found x) (known cost place) so_far)))
+        (elim so_far [ inl less ↦ inl (omega (arith, less)) | inr tie ↦ inr (omega (arith, tie.0), tie.1) ])
 
     ahead : (x : ℕ) (end : End) → IsOnTheWay g w dir s k h x → IsStep g w dir k x end → end.to ≢ h → IsOnTheWay g w dir s k h end.to
     ahead x end way step not_home = elim (step_from_member g root w dir k h x end is are.closed way.inside step) [
@@ -257,27 +229,24 @@ module _ (g : Topology) (root : ℕ) (w : Directions) (dir : Dir) (s : ℕ) (is 
       | Home home ↦ absurd (not_home home)
     ]
 
-    further_found : (x t cost place : ℕ) (end : End) (others : List End) → IsOnTheWay g w dir s k h x → IsFound x cost place
-        → Path g w dir k h x (end ∷ others) t → IsFound t (cost + cost_of (end ∷ others)) place
-    further_found x t cost place end [] way so_far path =
-        subst (λ (c : ℕ). IsFound t c place) (omega arith)
-        (subst (λ (y : ℕ). IsFound y (cost + end.metric) place) path.1 (next_found x cost place end way so_far path.0))
-    further_found x t cost place end (next ∷ more) way so_far path =
-        subst (λ (c : ℕ). IsFound t c place) (omega arith)
-        (further_found end.to t (cost + end.metric) place next more (ahead x end way path.0 path.1) (next_found x cost place end way so_far path.0) path.2)
+    further_found : (x t cost place : ℕ) (end : End) (others : List End) → IsOnTheWay g w dir s k h x → cost + cost_of (end ∷ others) < far → IsNoLater (found x) (known cost place)
+        → Path g w dir k h x (end ∷ others) t → IsNoLater (found t) (known (cost + cost_of (end ∷ others)) place)
+    further_found x t cost place end [] way low so_far path =
+        subst (λ (c : ℕ). IsNoLater (found t) (known c place)) (omega arith)
+        (subst (λ (y : ℕ). IsNoLater (found y) (known (cost + end.metric) place)) path.1 (next_found x cost place end way (omega (arith, low)) so_far path.0))
+    further_found x t cost place end (next ∷ more) way low so_far path =
+        subst (λ (c : ℕ). IsNoLater (found t) (known c place)) (omega arith)
+        (further_found end.to t (cost + end.metric) place next more (ahead x end way path.0 path.1) (omega (arith, low))
+        (next_found x cost place end way (omega (arith, low)) so_far path.0) path.2)
 
     pub path_found : (t : ℕ) (end : End) (others : List End) → Path g w dir k h s (end ∷ others) t → (place : ℕ) (ends : List End) → slice_get g.ends s ≡ Some ends
-        → slice_get ends place ≡ Some end → IsFound t (cost_of (end ∷ others)) place
+        → slice_get ends place ≡ Some end → IsNoLater (found t) (known (cost_of (end ∷ others)) place)
     path_found t end others path place ends list there = go others path
       where
-        first : IsStep g w dir k s end → IsFound end.to end.metric place
+        first : IsStep g w dir k s end → IsNoLater (found end.to) (known end.metric place)
         first step =
-            let own : IsStep g w dir (w.lies_in end.link) s end =
-            record { ends = ends; list = list; place = place; there = there; in_block = refl; leads_on = step.leads_on } in
-            let move = move_of g w dir k s end is.kept step in
-            let no_later = swept.begun end own (are.closed.closing.none_sole end.link move.link (step.in_block ∙ sym are.closed.in_block)) in
-            let metric = metric_small g w dir k s end is.kept step in
-            (elim no_later [ inl less ↦ omega (arith, less, metric) | inr tie ↦ omega (arith, tie.0, metric) ], no_later)
+            swept.begun end (record { ends = ends; list = list; place = place; there = there; in_block = refl; leads_on = step.leads_on })
+            (are.closed.closing.none_sole end.link (move_of g w dir k s end is.kept step).link (step.in_block ∙ sym are.closed.in_block))
 
         start : IsStep g w dir k s end → end.to ≢ h → IsOnTheWay g w dir s k h end.to
         start step not_head = elim are.source [
@@ -292,6 +261,10 @@ module _ (g : Topology) (root : ℕ) (w : Directions) (dir : Dir) (s : ℕ) (is 
           }
         ]
 
-        go : (rest : List End) → Path g w dir k h s (end ∷ rest) t → IsFound t (cost_of (end ∷ rest)) place
-        go [] it = subst (λ (c : ℕ). IsFound t c place) (omega arith) (subst (λ (y : ℕ). IsFound y end.metric place) it.1 (first it.0))
-        go (next ∷ more) it = further_found end.to t end.metric place next more (start it.0 it.1) (first it.0) it.2
+        go : (rest : List End) → Path g w dir k h s (end ∷ rest) t → IsNoLater (found t) (known (cost_of (end ∷ rest)) place)
+        go [] it =
+            subst (λ (c : ℕ). IsNoLater (found t) (known c place)) (omega arith)
+            (subst (λ (y : ℕ). IsNoLater (found y) (known end.metric place)) it.1 (first it.0))
+        go (next ∷ more) it =
+            further_found end.to t end.metric place next more (start it.0 it.1)
+            (omega (arith, path_low g root w dir is k h are.closed s t end (next ∷ more) it)) (first it.0) it.2

@@ -1,63 +1,56 @@
 -- Which ends of a node ways begin with, by the marks of their links.
-use Rattle.std.proofs.Common.{◌≡◌, ◌≢◌, ◌⊎◌, ◌∙◌, ℕ, Bool, true, false, List, Some, slice_get, inl, inr, sym, ap, subst}
-use Rattle.std.proofs.lemmas.Option.{same_Some}
+use Rattle.std.proofs.Common.{◌≡◌, ◌≢◌, ◌∙◌, Bool, true, false, List, Some, ℕ, slice_get, refl, sym, subst}
 use Rattle.mrt_graph.specs.declared.cert.Role.TheVariants.{Sole}
 use Rattle.mrt_graph.specs.declared.gadag.Mark.{Mark}
 use Rattle.mrt_graph.specs.declared.link.End.{End}
 use Rattle.mrt_graph.specs.DirectedLists.{DirectedLists}
-use Rattle.mrt_graph.specs.Topology.{Topology}
 use Rattle.mrt_graph.proofs.EndsAt.{end_leads}
-use Rattle.link_direction.specs.Directions.{Directions, Says}
-use Rattle.inc_dec_spf.specs.declared.reach.Dir.{Dir}
+use Rattle.link_direction.specs.Directions.{Says}
 use Rattle.inc_dec_spf.specs.Offers.{goes_on}
-use Rattle.inc_dec_spf.specs.Path.{LeadsOn}
-use Rattle.inc_dec_spf.specs.Ways.{BeginsAt}
+use Rattle.inc_dec_spf.specs.Ways.{Sought}
 use Rattle.inc_dec_spf.proofs.EndCosts.{IsWayOn}
-use Rattle.link_direction.proofs.ClosedBlocks.{IsOrdered, closed_of_link}
+use Rattle.link_direction.proofs.ClosedBlocks.{IsOrdered}
 use Rattle.inc_dec_spf.proofs.Marks.{IsMarkedEnd, marked_block, marked_role, test_leads_back, test_leads_on}
-use Rattle.link_direction.proofs.LinkNodes.{leads_elsewhere, link_within}
-use Rattle.inc_dec_spf.proofs.MoreLinks.{closed_of_more, more_links}
+use Rattle.link_direction.proofs.LinkNodes.{link_within}
+use Rattle.inc_dec_spf.proofs.MoreLinks.{has_more, more_not_sole}
 
-pub way_on : (g : Topology) (d : DirectedLists) (root : ℕ) (w : Directions) (wanted : List Bool) (dir : Dir) (own : Bool) (x place block : ℕ) (ends : List End) (end : End)
-    (mark : Mark) → IsOrdered g root w → Says g d w → IsMarkedEnd g d x place ends end mark → block ≡ w.block x → mark.role ≢ Sole
-    → slice_get wanted mark.block ≡ Some true
-    → (own ≡ true → mark.block ≡ block) → goes_on dir mark.way x end.to ≡ true → IsWayOn g w wanted dir own x place ends end
-way_on g d root w wanted dir own x place block ends end mark is says marked block_is not_sole in_marked kept_to goes =
-    let onward = end_leads g x place ends end is.kept marked.list marked.there in
-    let role = marked_role g d w x place ends end mark is.kept says marked in
-    let closed = closed_of_link g root w end.link x end.to is onward (λ sole. not_sole (role ∙ sole)) in
-    record {
+module _ (d : DirectedLists) (root : ℕ) (it : Sought) (own : Bool) (x place kept : ℕ) (ends : List End) (end : End) (mark : Mark) (is : IsOrdered it.g root it.w)
+    (says : Says it.g d it.w) (marked : IsMarkedEnd it.g d x place ends end mark) (kept_is : kept ≡ it.w.block x) where
+  abbrev IsTaken : Type 0
+  IsTaken = (mark.role ≢ Sole) × (slice_get it.wanted mark.block ≡ Some true) × (own ≡ true → mark.block ≡ kept)
+
+  block_is : mark.block ≡ it.w.lies_in end.link
+  block_is = marked_block it.g d it.w x place ends end mark is.kept says marked
+
+  role_is : mark.role ≡ it.w.role end.link
+  role_is = marked_role it.g d it.w x place ends end mark is.kept says marked
+
+  pub way_on : IsTaken → goes_on it.dir mark.way x end.to ≡ true → IsWayOn it own x place end
+  way_on takes goes = record {
+    step = record {
+      ends = ends;
       list = marked.list;
+      place = place;
       there = marked.there;
-      leads_on = test_leads_on g d w dir x place ends end mark is.kept says marked goes;
-      in_wanted = record {
-        more = more_links g root w (w.lies_in end.link) closed.0 is closed.1;
-        marked = subst (λ (b : ℕ). slice_get wanted b ≡ Some true) (marked_block g d w x place ends end mark is.kept says marked) in_marked;
-      };
-      kept_to = λ kept. sym (marked_block g d w x place ends end mark is.kept says marked) ∙ kept_to kept ∙ block_is;
-      elsewhere = leads_elsewhere g end.link x end.to is.kept onward;
-    }
+      in_block = refl;
+      leads_on = test_leads_on it.g d it.w it.dir x place ends end mark is.kept says marked goes;
+    };
+    here = refl;
+    in_wanted = record {
+      more = has_more it.g root it.w end.link x end.to is (end_leads it.g x place ends end is.kept marked.list marked.there) (λ sole. takes.0 (role_is ∙ sole));
+      marked = subst (λ (b : ℕ). slice_get it.wanted b ≡ Some true) block_is takes.1;
+    };
+    kept_to = λ kept. sym block_is ∙ takes.2 kept ∙ kept_is;
+  }
 
-pub no_way_on : (g : Topology) (d : DirectedLists) (root : ℕ) (w : Directions) (wanted : List Bool) (dir : Dir) (own : Bool) (x place block : ℕ) (ends : List End) (end : End)
-    (mark : Mark) → IsOrdered g root w → Says g d w → IsMarkedEnd g d x place ends end mark → block ≡ w.block x
-    → (mark.role ≢ Sole → slice_get wanted mark.block ≡ Some true → (own ≡ true → mark.block ≡ block) → ⊥) ⊎ (goes_on dir mark.way x end.to ≡ false)
-    → (aim : ℕ → ℕ) (other : ℕ) → BeginsAt g w wanted dir own x aim place other → ⊥
-no_way_on g d root w wanted dir own x place block ends end mark is says marked block_is fails aim other begins =
-    let same_list = same_Some ends begins.ends (sym marked.list ∙ begins.list) in
-    let same : begins.end ≡ end =
-    same_Some begins.end end (sym begins.there ∙ subst (λ (es : List End). slice_get es place ≡ Some end) same_list marked.there) in
-    let in_block : w.lies_in end.link ≡ begins.k = ap (λ (e : End). w.lies_in e.link) (sym same) ∙ begins.in_block in
-    let mark_block = marked_block g d w x place ends end mark is.kept says marked in
-    elim fails [
-      | inl unwanted ↦
-          unwanted
-          (λ sole.
-          let closed = closed_of_more g root w begins.k is begins.in_wanted.more in
-          closed.1.closing.none_sole end.link (link_within g end.link x end.to is.kept (end_leads g x place ends end is.kept marked.list marked.there))
-          (in_block ∙ sym closed.1.in_block) (sym (marked_role g d w x place ends end mark is.kept says marked) ∙ sole))
-          (subst (λ (b : ℕ). slice_get wanted b ≡ Some true) (sym (mark_block ∙ in_block)) begins.in_wanted.marked)
-          (λ kept. mark_block ∙ in_block ∙ begins.kept_to kept ∙ sym block_is)
-      | inr back ↦
-          test_leads_back g d w dir x place ends end mark is.kept says marked back
-          (subst (λ (e : End). LeadsOn w dir x e) same begins.leads_on)
-    ]
+  pub taken_on : IsWayOn it own x place end → IsTaken
+  taken_on on = (
+    (λ sole.
+        more_not_sole it.g root it.w end.link is on.in_wanted.more
+        (link_within it.g end.link x end.to is.kept (end_leads it.g x place ends end is.kept marked.list marked.there)) (sym role_is ∙ sole)),
+    subst (λ (b : ℕ). slice_get it.wanted b ≡ Some true) (sym block_is) on.in_wanted.marked,
+    (λ kept. block_is ∙ on.kept_to kept ∙ sym kept_is),
+  )
+
+  pub no_way_back : goes_on it.dir mark.way x end.to ≡ false → IsWayOn it own x place end → ⊥
+  no_way_back back on = test_leads_back it.g d it.w it.dir x place ends end mark is.kept says marked back on.step.leads_on

@@ -1,13 +1,16 @@
 -- What a tile is aimed by, and what it knows then.
-use Rattle.std.specs.Prelude.{◌≡◌, ◌<◌, ◌*◌, ℕ, length}
+use Rattle.std.specs.Prelude.{◌≡◌, ◌<◌, ◌*◌, ℕ, List, Some, length, slice_get, true}
 use Rattle.mrt_graph.specs.GraphInvariant.{IsTopology}
 use Rattle.link_direction.specs.Directions.{Directions}
 use Rattle.inc_dec_spf.specs.declared.aiming.Aiming.{Aiming}
 use Rattle.inc_dec_spf.specs.Against.{against}
+use Rattle.inc_dec_spf.specs.BlockAims.{IsAimOf, aim_at}
+use Rattle.inc_dec_spf.specs.FirstLink.{HasLinksAt, LiesInOneBlock}
 use Rattle.inc_dec_spf.specs.HasDirections.{AreDirections, HasDirections}
-use Rattle.inc_dec_spf.specs.TileEntries.{TileEntries}
+use Rattle.inc_dec_spf.specs.LeastPath.{HaveCommonBlockOfMoreLinks}
+use Rattle.inc_dec_spf.specs.Side.{AreCosts}
 use Rattle.inc_dec_spf.specs.Turns.{AreTurns}
-use Rattle.inc_dec_spf.specs.Ways.{IsReadyFrom, IsWantedBlock}
+use Rattle.inc_dec_spf.specs.Ways.{IsReadyFrom, IsWantedBlock, sought}
 
 -- a graph with its directions, its nodes by the turns of the other direction, so many aims of each block, and marks on the
 -- blocks that are wanted
@@ -19,7 +22,22 @@ pub record IsAiming (aiming : Aiming) (width : ℕ) : Type 0 where
   pub aims : length aiming.aims.now ≡ length aiming.graph.now.ids * width
   pub a_mark_each : length aiming.wanted.now ≡ length aiming.graph.now.ids
 
--- the costs of each node from its own block, where that is wanted, to what the block aims at are known
-pub record AreOwnCosts (aiming : Aiming) (w : Directions) (tile : TileEntries) : Type 0 where
-  pub each : (y : ℕ) → y < length aiming.graph.now.ids → IsWantedBlock aiming.graph.now w aiming.wanted.now (w.block y)
-      → IsReadyFrom aiming.graph.now w aiming.dir aiming.aims.now tile.width (65536 * length aiming.graph.now.ids) tile.costs y
+-- so many costs for each node, none more than far
+pub record AreRows (aiming : Aiming) (width : ℕ) (costs : List ℕ) : Type 0 where
+  pub one_each : length costs ≡ length aiming.graph.now.ids * width
+  pub most : AreCosts costs
+
+-- node y has its costs from its own block, where that is wanted, and its links, where it lies in no other block of more than one
+pub record HasOwnWays (aiming : Aiming) (w : Directions) (width : ℕ) (costs links : List ℕ) (y : ℕ) : Type 0 where
+  pub ready : IsWantedBlock (sought aiming w) (w.block y) → IsReadyFrom aiming w width costs y
+  pub linked : LiesInOneBlock aiming.graph.now w y → HasLinksAt aiming.graph.now w aiming.wanted.now aiming.dir aiming.aims.now width links y
+
+-- so has each node, by whatever directions the lists say
+abbrev pub HaveOwnWays : Aiming → ℕ → List ℕ → List ℕ → Type 0
+HaveOwnWays aiming width costs links =
+    (root y : ℕ) (w : Directions) → AreDirections aiming.graph.now aiming.directed.now root w → y < length aiming.graph.now.ids → HasOwnWays aiming w width costs links y
+
+-- node s aims at t, at the one place that there is, over blocks that are wanted
+pub record IsAimedAt (aiming : Aiming) (w : Directions) (s t : ℕ) : Type 0 where
+  pub aims : IsAimOf aiming.graph.now w (aim_at aiming.aims.now 1 0) s t
+  pub wanted : (k h : ℕ) → HaveCommonBlockOfMoreLinks aiming.graph.now w s t k h → slice_get aiming.wanted.now k ≡ Some true

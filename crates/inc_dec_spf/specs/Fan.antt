@@ -1,5 +1,5 @@
 -- Fans: the ends by which some sources side by side begin the least paths to all nodes.
-use Rattle.std.specs.Prelude.{◌≡◌, ◌≢◌, ◌<◌, ◌≤◌, ◌+◌, ◌*◌, ℕ, Bool, true, List, Some, length, slice_get, slice_index}
+use Rattle.std.specs.Prelude.{◌≡◌, ◌≢◌, ◌<◌, ◌≤◌, ◌+◌, ◌*◌, ℕ, List, Some, length, slice_get, slice_index}
 use Rattle.std.specs.Option.{option_map_or}
 use Rattle.mrt_graph.specs.declared.link.End.{End}
 use Rattle.mrt_graph.specs.Topology.{Topology}
@@ -13,11 +13,6 @@ use Rattle.inc_dec_spf.specs.Side.{hop_by}
 -- the link of the end at a place; no link where there is none
 abbrev pub link_at : List End → ℕ → ℕ
 link_at ends place = option_map_or (λ end. end.link) (slice_get ends place) no_link
-
--- each of the sources from number `first` on is marked, and its head
-pub record AreStops (g : Topology) (w : Directions) (first width : ℕ) (stops : List Bool) : Type 0 where
-  pub sources : (j : ℕ) → j < width → first + j < length g.ids → slice_get stops (first + j) ≡ Some true
-  pub heads : (j : ℕ) → j < width → first + j < length g.ids → slice_get stops (w.head (first + j)) ≡ Some true
 
 -- on the way from s to t: the least cost, and the link that begins a path of this cost; far and no link where no path leads to t
 pub record IsFirstHop (g : Topology) (w : Directions) (dir : Dir) (s t cost link : ℕ) : Type 0 where

@@ -7,6 +7,7 @@ pub record Known : Type 0 where
   pub cost : ℕ
   pub place : ℕ
 
+-- this cost and this place
 abbrev pub known : ℕ → ℕ → Known
 known cost place = record { cost = cost; place = place }
 
@@ -14,6 +15,7 @@ known cost place = record { cost = cost; place = place }
 abbrev pub no_place : ℕ
 no_place = 65535
 
+-- no way is known
 abbrev pub nothing : Known
 nothing = known far no_place
 
@@ -34,17 +36,16 @@ first_of new old =
 abbrev pub IsNoLater : Known → Known → Type 0
 IsNoLater one other = (one.cost < other.cost) ⊎ ((one.cost ≡ other.cost) × (one.place ≤ other.place))
 
--- so many costs and places; where a cost is far, nothing is known
-pub record AreLanes (count : ℕ) (costs places : List ℕ) : Type 0 where
-  pub one_cost_each : length costs ≡ count
-  pub one_place_each : length places ≡ count
+-- as many places as costs; where a cost is far, nothing is known
+pub record AreLanes (costs places : List ℕ) : Type 0 where
+  pub one_place_each : length places ≡ length costs
   pub none : (i : ℕ) → far ≤ slice_index costs i → known_at costs places i ≡ nothing
 
--- costs that are not far are at most so high
-pub record AreLow (bound : ℕ) (costs : List ℕ) : Type 0 where
-  pub each : (i : ℕ) → slice_index costs i < far → slice_index costs i ≤ bound
+-- costs that are not far are so low that any metric may be added
+abbrev pub AreLow : List ℕ → Type 0
+AreLow costs = (i : ℕ) → slice_index costs i < far → slice_index costs i + 65536 ≤ far
 
--- at each place that is known then which comes first, of what was known there and all that is offered
+-- at each place that is known afterwards which comes first, of what was known there and all that is offered
 pub record AreOffered (Offer : ℕ → Known → Type 0) (before after : ℕ → Known) : Type 0 where
   pub from : (i : ℕ) → (after i ≡ before i) ⊎ (((after i).cost < far) × Offer i (after i))
   pub kept : (i : ℕ) → IsNoLater (after i) (before i)
@@ -65,9 +66,3 @@ pub record IsOver (costs places : List ℕ) (metric at i : ℕ) (offer : Known) 
 pub record OfAny (Of : ℕ → ℕ → Known → Type 0) (i : ℕ) (offer : Known) : Type 0 where
   pub index : ℕ
   pub is : Of index i offer
-
--- so many places at which nothing was known, after offers
-pub record AreBegun (Offer : ℕ → Known → Type 0) (count : ℕ) (found : ℕ → Known) : Type 0 where
-  pub before : ℕ → Known
-  pub blank : (i : ℕ) → i < count → before i ≡ nothing
-  pub offered : AreOffered Offer before found

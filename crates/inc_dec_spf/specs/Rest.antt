@@ -18,4 +18,4 @@ Rest g w dir k h y (end ∷ ends) t = (y ≢ h) × Path g w dir k h y (end ∷ e
 -- the least cost of what is left from y to t in block k, whose head is h; far where nothing leads there
 pub record IsRestCost (g : Topology) (w : Directions) (dir : Dir) (k h y t cost : ℕ) : Type 0 where
   pub reached : cost < far → (rest : List End) × Rest g w dir k h y rest t × (cost_of rest ≡ cost)
-  pub least : (rest : List End) → Rest g w dir k h y rest t → (cost ≤ cost_of rest) × (cost < far)
+  pub least : (rest : List End) → Rest g w dir k h y rest t → cost ≤ cost_of rest

@@ -1,5 +1,5 @@
 -- Least costs side by side: one for each of some nodes.
-use Rattle.std.specs.Prelude.{◌≡◌, ◌==◌, ◌<◌, ◌≤◌, ◌+◌, ℕ, List, Option, Some, None, length, nat_lt, slice_get, if◌then◌else◌}
+use Rattle.std.specs.Prelude.{◌≡◌, ◌==◌, ◌<◌, ◌≤◌, ◌⊎◌, ◌+◌, ◌*◌, ℕ, List, Option, Some, None, length, nat_lt, slice_get, slice_index, if◌then◌else◌}
 use Rattle.mrt_graph.specs.declared.link.End.{End}
 use Rattle.inc_dec_spf.specs.declared.reach.Hop.{Hop}
 use Rattle.inc_dec_spf.specs.FirstLink.{no_link}
@@ -21,13 +21,25 @@ cost_at y t = if y == t then 0 else far
 abbrev pub left_onward : ℕ → ℕ → ℕ → ℕ
 left_onward x aim left = if aim == x then far else left
 
--- each cost was replaced where the way over an end is less: Left says what is left after the end
-pub record AreTaken (Left : ℕ → ℕ → Type 0) (metric link : ℕ) (costs links costs' links' : List ℕ) : Type 0 where
-  pub one_cost_each : length costs' ≡ length costs
-  pub one_link_each : length links' ≡ length links
-  pub each : (j old old_link : ℕ) → slice_get costs j ≡ Some old → slice_get links j ≡ Some old_link
-      → (left : ℕ) × Left j left × (slice_get costs' j ≡ Some (lesser (left + metric) old))
-      × (slice_get links' j ≡ Some (link_of_lesser (left + metric) old link old_link))
+-- the cost from x to an aim: none at x itself
+abbrev pub cost_from : ℕ → ℕ → ℕ → ℕ
+cost_from x aim cost = if aim == x then 0 else cost
+
+-- none is more than far
+abbrev pub AreCosts : List ℕ → Type 0
+AreCosts costs = (i : ℕ) → slice_index costs i ≤ far
+
+-- each cost was replaced where the way over an end is less, after which so much is left
+pub record AreTaken (left : ℕ → ℕ) (metric link : ℕ) (costs links costs' links' : List ℕ) : Type 0 where
+  pub each : (j : ℕ) → j < length costs → slice_index costs' j ≡ lesser (left j + metric) (slice_index costs j)
+  pub links_each : (j : ℕ) → j < length costs
+      → slice_index links' j ≡ link_of_lesser (left j + metric) (slice_index costs j) link (slice_index links j)
+
+-- the places of node x, of so many for each node, have this, and the others are as they were
+pub record IsRowPut (x width : ℕ) (row : ℕ → ℕ) (all all' : List ℕ) : Type 0 where
+  pub one_each : length all' ≡ length all
+  pub there : (j : ℕ) → j < width → slice_index all' (x * width + j) ≡ row j
+  pub elsewhere : (i : ℕ) → (i < x * width) ⊎ (x * width + width ≤ i) → slice_index all' i ≡ slice_index all i
 
 -- over the end at place `place`: Begins says of which cost there are ways that begin with the end at a place
 pub record IsFirstWay (Begins : ℕ → ℕ → Type 0) (ends : List End) (count cost link : ℕ) : Type 0 where
@@ -45,7 +57,7 @@ pub record IsLeastWay (Begins : ℕ → ℕ → Type 0) (ends : List End) (count
   pub most : cost ≤ far
   pub reached : cost < far → IsFirstWay Begins ends count cost link
   pub unreached : far ≤ cost → link ≡ no_link
-  pub least : (place other : ℕ) → place < count → Begins place other → (cost ≤ other) × (cost < far)
+  pub least : (place other : ℕ) → place < count → Begins place other → cost ≤ other
 
 -- the hop of a least cost and its link; none where it is far
 abbrev pub hop_by : ℕ → ℕ → Option Hop

@@ -1,6 +1,6 @@
 -- The entries of a tile.
-use Rattle.std.specs.Prelude.{◌≡◌, ◌≤◌, ◌*◌, ℕ, List, Some, length, slice_get}
-use Rattle.inc_dec_spf.specs.Rest.{far}
+use Rattle.std.specs.Prelude.{◌≡◌, ◌*◌, ℕ, List, length}
+use Rattle.inc_dec_spf.specs.Side.{AreCosts}
 
 -- for each of so many nodes, and for each of so many places side by side, a cost and a link
 pub record TileEntries : Type 0 where
@@ -16,5 +16,5 @@ tile_entries nodes width costs links = record { nodes = nodes; width = width; co
 pub record AreTileEntries (nodes width room : ℕ) (costs links : List ℕ) : Type 0 where
   pub one_cost_each : length costs ≡ nodes * width
   pub one_link_each : length links ≡ nodes * width
-  pub most : (i cost : ℕ) → slice_get costs i ≡ Some cost → cost ≤ far
+  pub most : AreCosts costs
   pub one_place_each : room ≡ width

@@ -1,7 +1,12 @@
-//! What a tile is aimed by.
+//! What a tile is aimed by, and what its blocks aim at.
 
+ghost use Rattle.std.specs.Prelude.{◌≡◌, ◌<◌, ◌≤◌, ◌+◌, ◌*◌, ◌⊎◌, ◌↔◌, ℕ, IsTrue, Some, length, slice_get, slice_index, true};
+ghost use Rattle.link_direction.specs.{CommonBlock.HaveCommonBlock, Directions.Directions};
+ghost use Rattle.inc_dec_spf.specs.{BlockAims.AreHeadAims, HasDirections.AreDirections, HasDirections.HasDirections};
+
+use crate::fan::mark;
 use crate::reach::Dir;
-use mrt_graph::{Directed, Graph, NodeNo};
+use mrt_graph::{Directed, Graph, NodeNo, Place};
 
 /// A graph with its directions; up or down; the nodes by the turns of the other direction; what the blocks aim at, side by
 /// side, of which those of block k stand from k times their number on; and marks on the blocks that are wanted: those over
@@ -14,4 +19,52 @@ pub struct Aiming<'a> {
     pub turns: &'a [NodeNo],
     pub aims: &'a [NodeNo],
     pub wanted: &'a [bool],
+}
+
+/// Each block aims at its head, at each of so many places.
+pub fn put_heads(g: &Graph, d: &Directed, width: usize, aims: &mut [NodeNo])
+    requires directed { HasDirections g.now d.now }
+    requires room { length aims.old ≡ length g.now.ids * width }
+    ensures room { length aims.new ≡ length aims.old }
+    ensures heads { (root : ℕ) (w : Directions) → AreDirections g.now d.now root w
+        → AreHeadAims g.now w width aims.new }
+{
+    for n in 0..g.node_count() {
+        let place = d.place(NodeNo::new(n));
+        put_all(place.block.get() as usize * width, width, place.head, aims);
+    }
+}
+
+/// Puts a node at so many places from `at` on.
+fn put_all(at: usize, width: usize, node: NodeNo, aims: &mut [NodeNo])
+    requires { at + width ≤ length aims.old }
+    ensures there { (j : ℕ) → j < width → slice_index aims.new (at + j) ≡ node }
+    ensures elsewhere { (i : ℕ) → (i < at) ⊎ (at + width ≤ i)
+        → slice_index aims.new i ≡ slice_index aims.old i }
+{
+    aims[at..at + width].fill(node);
+}
+
+/// Marks the blocks in which the target lies, and those whose head it is. (No clause tells that it marks no others.)
+pub fn mark_blocks(g: &Graph, d: &Directed, target: NodeNo, marks: &mut [bool])
+    requires directed { HasDirections g.now d.now }
+    requires target { target < length g.now.ids }
+    requires one_each { length marks.old ≡ length g.now.ids }
+    ensures { (root s k h : ℕ) (w : Directions) → AreDirections g.now d.now root w → s < length g.now.ids
+        → HaveCommonBlock w s target k h → slice_get marks.new k ≡ Some true }
+{
+    for n in 0..g.node_count() {
+        let node = NodeNo::new(n);
+        let place = d.place(node);
+        if is_at(target, node, &place) {
+            mark(marks, place.block);
+        }
+    }
+}
+
+/// Whether the target lies in the block of this node: it is the node, or its head.
+fn is_at(target: NodeNo, node: NodeNo, place: &Place) -> bool
+    ensures { IsTrue result ↔ ((node ≡ target) ⊎ (place.now.head ≡ target)) }
+{
+    node == target || place.head == target
 }

@@ -3,13 +3,13 @@
 ghost use Rattle.std.specs.Prelude.{◌≡◌, ◌≢◌, ◌<◌, ◌≤◌, ◌+◌, ◌*◌, ℕ, IfOk, Some, length, slice_get, slice_index, false, true};
 ghost use Rattle.mrt_graph.specs.GraphInvariant.{IsTopology};
 ghost use Rattle.link_direction.specs.Directions.{Directions};
-ghost use Rattle.inc_dec_spf.specs.Fan.{AreInFan, AreStops, HasFirstLinks, IsFirstHop, IsOpen, link_at};
+ghost use Rattle.inc_dec_spf.specs.Fan.{AreInFan, HasFirstLinks, IsFirstHop, IsOpen, link_at};
 ghost use Rattle.inc_dec_spf.specs.{FanEntries.FanEntries, FanEntries.fan_entries, HasDirections.AreDirections, HasDirections.HasDirections};
-ghost use Rattle.inc_dec_spf.specs.{FirstLink.IsFirstLink, LeastPath.IsHop, Offers.PassesOn, Rest.far, Turns.AreTurns};
+ghost use Rattle.inc_dec_spf.specs.{FirstLink.IsFirstLink, LeastPath.IsHop, Rest.far, Turns.AreTurns};
 ghost use Rattle.inc_dec_spf.specs.Known.{AreLanes, known_at, no_place};
-ghost use Rattle.inc_dec_spf.specs.Opening.{AreFirstOffered, IsKeptOnward, IsOpening};
+ghost use Rattle.inc_dec_spf.specs.Opening.{AreFirstOffered, AreStops, GoOn, IsKeptOnward, IsOpening, Stop};
 
-use crate::beside::{NO_PLACE, offer_begun, offer_on};
+use crate::offers::{NO_PLACE, offer_begun, offer_on};
 use crate::reach::{Dir, Hop};
 use crate::side::{FAR, NO_LINK, hop_by};
 use mrt_graph::{Directed, End, Graph, LinkNo, NoMemory, NodeNo};
@@ -195,14 +195,11 @@ fn begin(opening: &Opening, width: usize, costs: &mut [u32], places: &mut [u16],
     requires costs { length costs.old ≡ length opening.now.graph.now.ids * width }
     requires places { length places.old ≡ length opening.now.graph.now.ids * width }
     requires stops { length stops.old ≡ length opening.now.graph.now.ids }
-    ensures lanes { AreLanes (length opening.now.graph.now.ids * width) costs.new places.new }
-    ensures begun { (root : ℕ) (w : Directions) → AreDirections opening.now.graph.now opening.now.directed.now root w
-        → AreFirstOffered opening.now w width costs.new places.new }
-    ensures one_stop_each { length stops.new ≡ length stops.old }
-    ensures stops { (root : ℕ) (w : Directions) → AreDirections opening.now.graph.now opening.now.directed.now root w
-        → AreStops opening.now.graph.now w opening.now.first width stops.new }
+    ensures begun { AreFirstOffered opening.now width costs.new places.new }
+    ensures stops { AreStops opening.now width stops.new }
 {
-    forget(costs, places);
+    costs.fill(FAR);
+    places.fill(NO_PLACE);
     stops.fill(false);
     for j in 0..source_count(opening, width) {
         let source = NodeNo::new(opening.first.get() + j as u16);
@@ -212,21 +209,9 @@ fn begin(opening: &Opening, width: usize, costs: &mut [u32], places: &mut [u16],
     }
 }
 
-/// No way is known.
-fn forget(costs: &mut [u32], places: &mut [u16])
-    ensures one_cost_each { length costs.new ≡ length costs.old }
-    ensures one_place_each { length places.new ≡ length places.old }
-    ensures none { (i : ℕ) → i < length costs.old → slice_index costs.new i ≡ far }
-    ensures no_places { (i : ℕ) → i < length places.old → slice_index places.new i ≡ no_place }
-{
-    costs.fill(FAR);
-    places.fill(NO_PLACE);
-}
-
 /// Marks node v.
 pub fn mark(marks: &mut [bool], v: NodeNo)
     requires { v < length marks.old }
-    ensures one_each { length marks.new ≡ length marks.old }
     ensures marked { slice_get marks.new v ≡ Some true }
     ensures stay { (i : ℕ) → slice_get marks.old i ≡ Some true → slice_get marks.new i ≡ Some true }
 {
@@ -243,18 +228,10 @@ fn sweep(
     from_places: &mut [u16],
 )
     requires opening { IsOpening opening.now }
-    requires one_stop_each { length stops.now ≡ length opening.now.graph.now.ids }
-    requires stops { (root : ℕ) (w : Directions) → AreDirections opening.now.graph.now opening.now.directed.now root w
-        → AreStops opening.now.graph.now w opening.now.first (length from_costs.old) stops.now }
+    requires stops { AreStops opening.now (length from_costs.old) stops.now }
     requires from_places { length from_places.old ≡ length from_costs.old }
-    requires lanes { AreLanes (length opening.now.graph.now.ids * length from_costs.old) costs.old places.old }
-    requires begun { (root : ℕ) (w : Directions) → AreDirections opening.now.graph.now opening.now.directed.now root w
-        → AreFirstOffered opening.now w (length from_costs.old) costs.old places.old }
-    ensures costs { length costs.new ≡ length costs.old }
-    ensures places { length places.new ≡ length places.old }
-    ensures from_costs { length from_costs.new ≡ length from_costs.old }
-    ensures from_places { length from_places.new ≡ length from_places.old }
-    ensures open { (root : ℕ) (w : Directions) → AreDirections opening.now.graph.now opening.now.directed.now root w
+    requires begun { AreFirstOffered opening.now (length from_costs.old) costs.old places.old }
+    ensures { (root : ℕ) (w : Directions) → AreDirections opening.now.graph.now opening.now.directed.now root w
         → IsOpen opening.now.graph.now w opening.now.dir opening.now.first
         (fan_entries (length stops.now) (length from_costs.old) costs.new places.new) }
 {
@@ -290,8 +267,8 @@ fn take_from(
 )
     requires room { x * length from_costs.old + length from_costs.old ≤ length costs.now }
     requires from_places { length from_places.old ≡ length from_costs.old }
-    requires lanes { AreLanes (length costs.now) costs.now places.now }
-    ensures lanes { AreLanes (length from_costs.old) from_costs.new from_places.new }
+    requires lanes { AreLanes costs.now places.now }
+    ensures lanes { AreLanes from_costs.new from_places.new }
     ensures taken { (j : ℕ) → j < length from_costs.old
         → known_at from_costs.new from_places.new j ≡ known_at costs.now places.now (x * length from_costs.old + j) }
 {
@@ -301,7 +278,8 @@ fn take_from(
     from_places.copy_from_slice(&places[at..at + width]);
 }
 
-/// Keeps what is known of x for the sources whose paths that come to x go on.
+/// Keeps what is known of x for the sources whose paths that come to x go on. It forgets what is known for the others: x is the
+/// source, or the head of its block.
 fn keep_onward(
     opening: &Opening,
     x: NodeNo,
@@ -310,28 +288,16 @@ fn keep_onward(
     from_places: &mut [u16],
 )
     requires opening { IsOpening opening.now }
-    requires node { x < length stops.now }
-    requires stops { (root : ℕ) (w : Directions) → AreDirections opening.now.graph.now opening.now.directed.now root w
-        → AreStops opening.now.graph.now w opening.now.first (length from_costs.old) stops.now }
-    requires lanes { AreLanes (length from_costs.old) from_costs.old from_places.old }
-    ensures lanes { AreLanes (length from_costs.old) from_costs.new from_places.new }
+    requires node { x < length opening.now.graph.now.ids }
+    requires stops { AreStops opening.now (length from_costs.old) stops.now }
+    requires lanes { AreLanes from_costs.old from_places.old }
+    ensures lanes { AreLanes from_costs.new from_places.new }
     ensures onward { (j : ℕ) → IsKeptOnward opening.now x (length from_costs.old) j (known_at from_costs.old from_places.old j)
         (known_at from_costs.new from_places.new j) }
 {
-    if stops[x.get() as usize] {
-        forget_stopped(opening, x, from_costs, from_places);
+    if !stops[x.get() as usize] {
+        return;
     }
-}
-
-/// Forgets what is known for the sources whose paths that come to x do not go on: x is the source, or the head of its
-/// block.
-fn forget_stopped(opening: &Opening, x: NodeNo, from_costs: &mut [u32], from_places: &mut [u16])
-    requires opening { IsOpening opening.now }
-    requires lanes { AreLanes (length from_costs.old) from_costs.old from_places.old }
-    ensures lanes { AreLanes (length from_costs.old) from_costs.new from_places.new }
-    ensures onward { (j : ℕ) → IsKeptOnward opening.now x (length from_costs.old) j (known_at from_costs.old from_places.old j)
-        (known_at from_costs.new from_places.new j) }
-{
     for j in 0..source_count(opening, from_costs.len()) {
         let source = NodeNo::new(opening.first.get() + j as u16);
         if is_stop(opening, source, x) {
@@ -345,10 +311,8 @@ fn forget_stopped(opening: &Opening, x: NodeNo, from_costs: &mut [u32], from_pla
 fn is_stop(opening: &Opening, source: NodeNo, x: NodeNo) -> bool
     requires opening { IsOpening opening.now }
     requires source { source < length opening.now.graph.now.ids }
-    ensures goes { result ≡ false → (root : ℕ) (w : Directions)
-        → AreDirections opening.now.graph.now opening.now.directed.now root w → PassesOn w source x }
-    ensures stops { result ≡ true → (root : ℕ) (w : Directions)
-        → AreDirections opening.now.graph.now opening.now.directed.now root w → ¬ PassesOn w source x }
+    ensures goes { result ≡ false → GoOn opening.now source x }
+    ensures stops { result ≡ true → Stop opening.now source x }
 {
     source == x || opening.directed.place(source).head == x
 }

@@ -2,31 +2,23 @@
 #![tactic(auto)]
 
 mod aiming;
-mod beside;
 mod fan;
-mod head_aims;
 mod least_paths;
 mod offers;
-mod own_costs;
 mod path_law;
 mod reach;
 mod side;
 mod tile;
-mod to_target;
-mod turns;
 mod ways;
 
-pub use aiming::Aiming;
+pub use aiming::{Aiming, put_heads};
 pub use fan::Fan;
-pub use head_aims::put_heads;
-pub use least_paths::spf;
+pub use least_paths::{spf, spf_to};
 pub use offers::is_sole;
 pub use path_law::{
     no_node_is_both_above_and_below, one_hop_for_each_node, one_reach_to_each_node,
     paths_lead_to_the_head_and_back,
 };
-pub use reach::{Dir, Hop, Reach};
+pub use reach::{Dir, Hop, Reach, nodes_by_turn};
 pub use side::NO_LINK;
 pub use tile::Tile;
-pub use to_target::spf_to;
-pub use turns::nodes_by_turn;

@@ -1,6 +1,11 @@
-//! Where the paths from a node lead, and those to a node begin.
+//! Up and down, the nodes by their turns, and where the paths from a node lead or those to a node begin.
 
-use mrt_graph::{LinkNo, NodeNo};
+ghost use Rattle.std.specs.Prelude.{◌≡◌, ◌≤◌, ℕ, IfOk, length};
+ghost use Rattle.link_direction.specs.Directions.{Directions};
+ghost use Rattle.inc_dec_spf.specs.{HasDirections.AreDirections, HasDirections.HasDirections, Turns.AreTurns, Turns.turn_at};
+
+use mrt_graph::{Directed, Graph, LinkNo, NoMemory, NodeNo};
+use std::alloc::Global;
 use std::marker::Model;
 
 /// Along the directions of links, or against them.
@@ -22,6 +27,40 @@ impl Dir {
             Dir::Up => Dir::Down,
             Dir::Down => Dir::Up,
         }
+    }
+}
+
+/// The nodes by their turns: up, by ascending order; down, by descending order.
+///
+/// It takes time in proportion to the nodes.
+pub fn nodes_by_turn(
+    alloc: Global,
+    g: &Graph,
+    d: &Directed,
+    dir: Dir,
+) -> Result<Vec<NodeNo>, NoMemory>
+    requires { HasDirections g.now d.now }
+    ensures { (root : ℕ) (w : Directions) → AreDirections g.now d.now root w
+        → IfOk result (λ turns. AreTurns g.now w dir turns.items) }
+{
+    let count = g.node_count();
+    let mut turns = vec![in alloc; NodeNo::new(0); count as usize]?;
+    for n in 0..count {
+        let node = NodeNo::new(n);
+        turns[turn(d.order(node), count, dir)] = node;
+    }
+    Ok(turns)
+}
+
+/// The turn of a node with this order, of so many nodes.
+fn turn(order: u16, count: u16, dir: Dir) -> usize
+    requires low { 1 ≤ order }
+    requires high { order ≤ count }
+    ensures { result ≡ turn_at dir count order }
+{
+    match dir {
+        Dir::Up => order as usize - 1,
+        Dir::Down => count as usize - order as usize,
     }
 }
 

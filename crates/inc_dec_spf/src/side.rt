@@ -1,8 +1,7 @@
 //! Least costs to some nodes side by side.
 
-ghost use Rattle.std.specs.Prelude.{◌≡◌, ◌<◌, ◌≤◌, ◌+◌, ◌^◌, ℕ, Some, length, slice_get, slice_index};
-ghost use Rattle.inc_dec_spf.specs.Rest.{far};
-ghost use Rattle.inc_dec_spf.specs.Side.{AreTaken, cost_at, hop_by, left_onward, lesser, link_of_lesser};
+ghost use Rattle.std.specs.Prelude.{◌≡◌, length, slice_index};
+ghost use Rattle.inc_dec_spf.specs.Side.{AreCosts, AreTaken, cost_at, hop_by, left_onward, lesser, link_of_lesser};
 
 use crate::reach::Hop;
 use mrt_graph::{End, LinkNo, NodeNo};
@@ -26,10 +25,8 @@ pub struct Leg {
 pub fn take_over(left: &[u32], metric: u16, link: LinkNo, costs: &mut [u32], links: &mut [LinkNo])
     requires one_left_each { length left.now ≡ length costs.old }
     requires one_link_each { length links.old ≡ length costs.old }
-    requires most { (j cost : ℕ) → slice_get left.now j ≡ Some cost → cost ≤ far }
-    ensures small { metric < 2 ^ 16 }
-    ensures taken { AreTaken (λ j cost. slice_get left.now j ≡ Some cost) metric link costs.old links.old costs.new
-        links.new }
+    requires most { AreCosts left.now }
+    ensures { AreTaken (λ j. slice_index left.now j) metric link costs.old links.old costs.new links.new }
 {
     for j in 0..costs.len() {
         let cost = left[j] + metric as u32;
@@ -62,9 +59,8 @@ pub fn take_onward(
     requires one_aim_each { length aims.now ≡ length costs.old }
     requires one_left_each { length left.now ≡ length costs.old }
     requires one_link_each { length links.old ≡ length costs.old }
-    requires most { (j cost : ℕ) → slice_get left.now j ≡ Some cost → cost ≤ far }
-    ensures small { leg.now.end.metric < 2 ^ 16 }
-    ensures taken { AreTaken (λ j cost. cost ≡ left_onward leg.now.node (slice_index aims.now j) (slice_index left.now j))
+    requires most { AreCosts left.now }
+    ensures { AreTaken (λ j. left_onward leg.now.node (slice_index aims.now j) (slice_index left.now j))
         leg.now.end.metric leg.now.end.link costs.old links.old costs.new links.new }
 {
     let x = leg.node;
@@ -96,9 +92,7 @@ pub fn take_last(
 )
     requires one_aim_each { length aims.now ≡ length costs.old }
     requires one_link_each { length links.old ≡ length costs.old }
-    ensures small { metric < 2 ^ 16 }
-    ensures taken { AreTaken (λ j cost. cost ≡ cost_at to (slice_index aims.now j)) metric link costs.old links.old
-        costs.new links.new }
+    ensures { AreTaken (λ j. cost_at to (slice_index aims.now j)) metric link costs.old links.old costs.new links.new }
 {
     for j in 0..costs.len() {
         let cost = cost_at(to, aims[j]) + metric as u32;
@@ -119,8 +113,5 @@ fn cost_at(y: NodeNo, aim: NodeNo) -> u32
 pub fn hop_by(cost: u32, link: LinkNo) -> Option<Hop>
     ensures { result ≡ hop_by cost link }
 {
-    if cost < FAR {
-        return Some(Hop { cost, link });
-    }
-    None
+    (cost < FAR).then_some(Hop { cost, link })
 }

@@ -1,16 +1,13 @@
 //! Tiles: the links by which all nodes begin the least paths to some nodes side by side.
 
-ghost use Rattle.std.specs.Prelude.{◌≡◌, ◌≢◌, ◌<◌, ◌+◌, ◌*◌, ℕ, IfOk, Some, length, slice_get, true};
+ghost use Rattle.std.specs.Prelude.{◌≡◌, ◌<◌, ◌+◌, ◌*◌, ℕ, IfOk, Some, length, slice_get};
 ghost use Rattle.link_direction.specs.Directions.{Directions};
-ghost use Rattle.inc_dec_spf.specs.{Aiming.AreOwnCosts, Aiming.IsAiming, BlockAims.IsAimOf, BlockAims.aim_at, HasDirections.AreDirections};
-ghost use Rattle.inc_dec_spf.specs.{LeastPath.HaveCommonBlockOfMoreLinks, LeastPath.IsHop, Tile.IsAimed, Tile.IsTile};
-ghost use Rattle.inc_dec_spf.specs.FirstLink.{AreOthersInOneBlock, HasLinksAt, LiesInOneBlock};
+ghost use Rattle.inc_dec_spf.specs.{Aiming.AreRows, Aiming.IsAiming, HasDirections.AreDirections, Tile.IsAimed, Tile.IsTile};
+ghost use Rattle.inc_dec_spf.specs.FirstLink.{AreOthersInOneBlock, HasLinksAt};
 
 use crate::aiming::Aiming;
-use crate::own_costs::{keep, take_own_ways};
-use crate::reach::Hop;
-use crate::side::{FAR, NO_LINK, hop_by};
-use crate::ways::take_ways;
+use crate::side::{FAR, NO_LINK};
+use crate::ways::{keep, take_own_ways, take_ways};
 use mrt_graph::{Graph, LinkNo, NoMemory, NodeNo};
 use std::alloc::Global;
 use std::marker::Model;
@@ -73,88 +70,14 @@ impl Tile {
             → AreOthersInOneBlock aiming.now.graph.now w heads.now
             → IsAimed aiming.now.graph.now w aiming.now.wanted.now aiming.now.dir aiming.now.aims.now self.new }
     {
-        self.take_costs(aiming);
-        for n in 0..aiming.graph.node_count() {
-            if heads[n as usize] {
-                self.take_links(aiming, NodeNo::new(n));
-            }
-        }
-    }
-
-    /// Takes the costs of all nodes, each in its own block where that is wanted, to what the block aims at, and the links of those
-    /// that have no other block of more than one link.
-    pub(crate) fn take_costs(&mut self, aiming: &Aiming)
-        requires aiming { IsAiming aiming.now self.old.width }
-        requires nodes { self.old.nodes ≡ length aiming.now.graph.now.ids }
-        ensures nodes { self.new.nodes ≡ self.old.nodes }
-        ensures width { self.new.width ≡ self.old.width }
-        ensures costs { (root : ℕ) (w : Directions) → AreDirections aiming.now.graph.now aiming.now.directed.now root w
-            → AreOwnCosts aiming.now w self.new }
-        ensures links { (root y : ℕ) (w : Directions) → AreDirections aiming.now.graph.now aiming.now.directed.now root w
-            → y < length aiming.now.graph.now.ids → LiesInOneBlock aiming.now.graph.now w y
-            → HasLinksAt aiming.now.graph.now w aiming.now.wanted.now aiming.now.dir aiming.now.aims.now self.new.width self.new.links y }
-    {
-        take_own_ways(
+        take_all(
             aiming,
+            heads,
             &mut self.all_costs,
             &mut self.all_links,
             &mut self.costs,
             &mut self.links,
         );
-    }
-
-    /// Takes the links of s in all its wanted blocks, where the costs of all nodes were taken.
-    fn take_links(&mut self, aiming: &Aiming, s: NodeNo)
-        requires aiming { IsAiming aiming.now self.old.width }
-        requires nodes { self.old.nodes ≡ length aiming.now.graph.now.ids }
-        requires node { s < length aiming.now.graph.now.ids }
-        ensures nodes { self.new.nodes ≡ self.old.nodes }
-        ensures width { self.new.width ≡ self.old.width }
-        ensures costs { self.new.costs ≡ self.old.costs }
-        ensures links { (root : ℕ) (w : Directions) → AreDirections aiming.now.graph.now aiming.now.directed.now root w
-            → AreOwnCosts aiming.now w self.old
-            → HasLinksAt aiming.now.graph.now w aiming.now.wanted.now aiming.now.dir aiming.now.aims.now self.new.width self.new.links s }
-        ensures others { (y : ℕ) (w : Directions) → y ≢ s
-            → HasLinksAt aiming.now.graph.now w aiming.now.wanted.now aiming.now.dir aiming.now.aims.now self.old.width self.old.links y
-            → HasLinksAt aiming.now.graph.now w aiming.now.wanted.now aiming.now.dir aiming.now.aims.now self.new.width self.new.links y }
-    {
-        take_ways(
-            aiming,
-            s,
-            false,
-            &self.all_costs,
-            &mut self.costs,
-            &mut self.links,
-        );
-        let at = s.get() as usize * self.costs.len();
-        keep(at, &self.links, &mut self.all_links);
-    }
-
-    /// The hop of s to the first of what its blocks aim at, in all its wanted blocks that do not aim at s itself, where the costs
-    /// of all nodes were taken.
-    pub(crate) fn hop_from(&mut self, aiming: &Aiming, s: NodeNo) -> Option<Hop>
-        requires aiming { IsAiming aiming.now self.old.width }
-        requires nodes { self.old.nodes ≡ length aiming.now.graph.now.ids }
-        requires some { 0 < self.old.width }
-        requires node { s < length aiming.now.graph.now.ids }
-        ensures nodes { self.new.nodes ≡ self.old.nodes }
-        ensures width { self.new.width ≡ self.old.width }
-        ensures costs { self.new.costs ≡ self.old.costs }
-        ensures hop { (root t : ℕ) (w : Directions) → AreDirections aiming.now.graph.now aiming.now.directed.now root w
-            → AreOwnCosts aiming.now w self.old
-            → ((k h : ℕ) → HaveCommonBlockOfMoreLinks aiming.now.graph.now w s t k h → slice_get aiming.now.wanted.now k ≡ Some true)
-            → IsAimOf aiming.now.graph.now w (aim_at aiming.now.aims.now self.old.width 0) s t
-            → IsHop aiming.now.graph.now w aiming.now.dir s t result }
-    {
-        take_ways(
-            aiming,
-            s,
-            false,
-            &self.all_costs,
-            &mut self.costs,
-            &mut self.links,
-        );
-        hop_by(self.costs[0], self.links[0])
     }
 
     /// The links of node s, for the nodes that it is aimed at. Over a block that is not marked they are what an earlier aim
@@ -168,5 +91,35 @@ impl Tile {
         let width = self.costs.len();
         let at = s.get() as usize * width;
         &self.all_links[at..at + width]
+    }
+}
+
+/// Takes the links of all nodes, over the wanted blocks, to what these aim at: of those that are not marked, in their own blocks
+/// alone.
+fn take_all(
+    aiming: &Aiming,
+    heads: &[bool],
+    all_costs: &mut [u32],
+    all_links: &mut [LinkNo],
+    costs: &mut [u32],
+    links: &mut [LinkNo],
+)
+    requires aiming { IsAiming aiming.now (length costs.old) }
+    requires heads { length heads.now ≡ length aiming.now.graph.now.ids }
+    requires one_link_each { length links.old ≡ length costs.old }
+    requires rows { AreRows aiming.now (length costs.old) all_costs.old }
+    requires all_links { length all_links.old ≡ length all_costs.old }
+    ensures rows { AreRows aiming.now (length costs.old) all_costs.new }
+    ensures linked { (root s : ℕ) (w : Directions) → AreDirections aiming.now.graph.now aiming.now.directed.now root w
+        → AreOthersInOneBlock aiming.now.graph.now w heads.now → s < length aiming.now.graph.now.ids
+        → HasLinksAt aiming.now.graph.now w aiming.now.wanted.now aiming.now.dir aiming.now.aims.now (length costs.old) all_links.new s }
+{
+    take_own_ways(aiming, all_costs, all_links, costs, links);
+    for n in 0..aiming.graph.node_count() {
+        if heads[n as usize] {
+            let s = NodeNo::new(n);
+            take_ways(aiming, s, false, all_costs, costs, links);
+            keep(s, links, all_links);
+        }
     }
 }

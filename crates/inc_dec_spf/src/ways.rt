@@ -1,10 +1,11 @@
-//! The least ways from a node over its ends, when what is left after each end is known.
+//! The least ways from nodes over their ends, to some nodes side by side.
 
-ghost use Rattle.std.specs.Prelude.{◌≡◌, ◌≢◌, ◌<◌, ◌≤◌, ◌*◌, ◌^◌, ◌↔◌, ℕ, List, IsTrue, Some, length, slice_get, true};
-ghost use Rattle.mrt_graph.specs.{declared.cert.Role.TheVariants.Sole, declared.link.End.End};
+ghost use Rattle.std.specs.Prelude.{◌≡◌, ◌≢◌, ◌<◌, ◌≤◌, ◌+◌, ◌*◌, ◌↔◌, ℕ, IsTrue, Some, length, slice_get, slice_index, true};
+ghost use Rattle.mrt_graph.specs.declared.cert.Role.TheVariants.{Sole};
 ghost use Rattle.link_direction.specs.Directions.{Directions, Says};
-ghost use Rattle.inc_dec_spf.specs.{Aiming.IsAiming, FirstLink.no_link, HasDirections.AreDirections, Rest.far, Side.AreTaken};
-ghost use Rattle.inc_dec_spf.specs.Ways.{AreLeast, AreReady, IsLeftAt};
+ghost use Rattle.inc_dec_spf.specs.{BlockAims.aim_at, FirstLink.no_link, Rest.far, Ways.AreLeastWays, Ways.left_at};
+ghost use Rattle.inc_dec_spf.specs.Aiming.{AreRows, HaveOwnWays, IsAiming};
+ghost use Rattle.inc_dec_spf.specs.Side.{AreCosts, AreTaken, IsRowPut, cost_from};
 
 use crate::aiming::Aiming;
 use crate::offers::{is_sole, leads_on};
@@ -23,19 +24,12 @@ pub fn take_ways(
     requires aiming { IsAiming aiming.now (length costs.old) }
     requires node { x < length aiming.now.graph.now.ids }
     requires one_link_each { length links.old ≡ length costs.old }
-    requires rows { length all.now ≡ length aiming.now.graph.now.ids * length costs.old }
-    requires most { (i cost : ℕ) → slice_get all.now i ≡ Some cost → cost ≤ far }
-    ensures one_each { length costs.new ≡ length costs.old }
-    ensures one_link_each { length links.new ≡ length costs.old }
-    ensures most { (j cost : ℕ) → slice_get costs.new j ≡ Some cost → cost ≤ far }
-    ensures least { (root bound : ℕ) (w : Directions) (ends : List End)
-        → AreDirections aiming.now.graph.now aiming.now.directed.now root w → bound < 2 ^ 30
-        → AreReady aiming.now.graph.now w aiming.now.wanted.now aiming.now.dir own aiming.now.aims.now (length costs.old) bound all.now x
-        → slice_get aiming.now.graph.now.ends x ≡ Some ends
-        → AreLeast aiming.now.graph.now w aiming.now.wanted.now aiming.now.dir own aiming.now.aims.now (length costs.old) bound x ends
-        (length ends) costs.new links.new }
+    requires rows { AreRows aiming.now (length costs.old) all.now }
+    ensures most { AreCosts costs.new }
+    ensures least { AreLeastWays aiming.now own (length costs.old) all.now x costs.new links.new }
 {
-    forget(costs, links);
+    costs.fill(FAR);
+    links.fill(LinkNo::new(NO_LINK));
     let kept = aiming.directed.place(x).block;
     for end in aiming.graph.ends(x) {
         let mark = aiming.directed.mark(end.link);
@@ -55,17 +49,6 @@ pub fn take_ways(
     }
 }
 
-/// No way is known.
-fn forget(costs: &mut [u32], links: &mut [LinkNo])
-    ensures one_each { length costs.new ≡ length costs.old }
-    ensures one_link_each { length links.new ≡ length links.old }
-    ensures none { (j cost : ℕ) → slice_get costs.new j ≡ Some cost → cost ≡ far }
-    ensures no_links { (j link : ℕ) → slice_get links.new j ≡ Some link → link ≡ no_link }
-{
-    costs.fill(FAR);
-    links.fill(LinkNo::new(NO_LINK));
-}
-
 /// Whether ways are taken over a link of this role in this block: the link is not sole, the block is marked, and where ways
 /// are kept to block `kept`, it is that one.
 fn takes_link(role: Role, marked: bool, block: NodeNo, kept: NodeNo, own: bool) -> bool
@@ -80,26 +63,88 @@ fn take_leg(aiming: &Aiming, leg: &Leg, all: &[u32], costs: &mut [u32], links: &
     requires node { leg.now.end.to < length aiming.now.graph.now.ids }
     requires block { leg.now.block < length aiming.now.graph.now.ids }
     requires one_link_each { length links.old ≡ length costs.old }
-    requires rows { length all.now ≡ length aiming.now.graph.now.ids * length costs.old }
-    requires most { (i cost : ℕ) → slice_get all.now i ≡ Some cost → cost ≤ far }
-    requires most_so_far { (j cost : ℕ) → slice_get costs.old j ≡ Some cost → cost ≤ far }
-    ensures small { leg.now.end.metric < 2 ^ 16 }
-    ensures taken { (w : Directions) → Says aiming.now.graph.now aiming.now.directed.now w
-        → AreTaken (IsLeftAt w leg.now.own leg.now.node aiming.now.aims.now (length costs.old) all.now leg.now.block
-        leg.now.end.to) leg.now.end.metric leg.now.end.link costs.old links.old costs.new links.new }
+    requires rows { AreRows aiming.now (length costs.old) all.now }
+    requires most { AreCosts costs.old }
+    ensures { (w : Directions) → Says aiming.now.graph.now aiming.now.directed.now w
+        → AreTaken (left_at aiming.now w leg.now.own leg.now.node leg.now.block leg.now.end.to all.now (length costs.old))
+        leg.now.end.metric leg.now.end.link costs.old links.old costs.new links.new }
 {
-    let own = leg.own;
-    let block = leg.block;
     let end = &leg.end;
     let width = costs.len();
-    let at = block.get() as usize * width;
+    let at = leg.block.get() as usize * width;
     let aims = &aiming.aims[at..at + width];
     let at = end.to.get() as usize * width;
-    if aiming.directed.place(end.to).block != block {
-        take_last(end.to, aims, end.metric, end.link, costs, links);
-    } else if own {
-        take_over(&all[at..at + width], end.metric, end.link, costs, links);
+    let left = &all[at..at + width];
+    if aiming.directed.place(end.to).block == leg.block {
+        if leg.own {
+            take_over(left, end.metric, end.link, costs, links);
+        } else {
+            take_onward(leg, aims, left, costs, links);
+        }
     } else {
-        take_onward(leg, aims, &all[at..at + width], costs, links);
+        take_last(end.to, aims, end.metric, end.link, costs, links);
+    }
+}
+
+/// Takes the least costs of each node, in its own block where that is wanted, to the aims of its block, side by side, and the
+/// links by which it begins the ways of these costs.
+///
+/// The turns are those of the other direction, so whatever a node leads to has its turn before it.
+pub fn take_own_ways(
+    aiming: &Aiming,
+    all_costs: &mut [u32],
+    all_links: &mut [LinkNo],
+    costs: &mut [u32],
+    links: &mut [LinkNo],
+)
+    requires aiming { IsAiming aiming.now (length costs.old) }
+    requires one_link_each { length links.old ≡ length costs.old }
+    requires rows { AreRows aiming.now (length costs.old) all_costs.old }
+    requires all_links { length all_links.old ≡ length all_costs.old }
+    ensures rows { AreRows aiming.now (length costs.old) all_costs.new }
+    ensures own { HaveOwnWays aiming.now (length costs.old) all_costs.new all_links.new }
+{
+    for x in aiming.turns {
+        let block = aiming.directed.place(*x).block;
+        let marked = aiming.wanted[block.get() as usize];
+        if marked {
+            take_ways(aiming, *x, true, all_costs, costs, links);
+            keep_costs(aiming, *x, block, costs, all_costs);
+            keep(*x, links, all_links);
+        }
+    }
+}
+
+/// Keeps the costs of x, whose block is this one, among those of all nodes. At x itself, where its block aims at it, nothing
+/// is left.
+fn keep_costs(aiming: &Aiming, x: NodeNo, block: NodeNo, costs: &[u32], all: &mut [u32])
+    requires aims { block * length costs.now + length costs.now ≤ length aiming.now.aims.now }
+    requires room { x * length costs.now + length costs.now ≤ length all.old }
+    ensures { IsRowPut x (length costs.now)
+        (λ j. cost_from x (aim_at aiming.now.aims.now (length costs.now) j block) (slice_index costs.now j)) all.old all.new }
+{
+    let width = costs.len();
+    let from = block.get() as usize * width;
+    let at = x.get() as usize * width;
+    for j in 0..width {
+        all[at + j] = cost_from(x, aiming.aims[from + j], costs[j]);
+    }
+}
+
+/// The cost from x to what is aimed at: none at x itself. (A value rather than a choice to write: so some are written at once.)
+fn cost_from(x: NodeNo, aim: NodeNo, cost: u32) -> u32
+    ensures { result ≡ cost_from x aim cost }
+{
+    if aim == x { 0 } else { cost }
+}
+
+/// Keeps the links of x among those of all nodes.
+pub fn keep(x: NodeNo, own: &[LinkNo], all: &mut [LinkNo])
+    requires { x * length own.now + length own.now ≤ length all.old }
+    ensures { IsRowPut x (length own.now) (λ j. slice_index own.now j) all.old all.new }
+{
+    let at = x.get() as usize * own.len();
+    for j in 0..own.len() {
+        all[at + j] = own[j];
     }
 }

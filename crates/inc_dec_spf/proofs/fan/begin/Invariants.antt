@@ -1,18 +1,17 @@
-use Rattle.std.proofs.Common.{◌≡◌, ◌+◌, ◌*◌, ℕ, length}
+use Rattle.std.proofs.Common.{◌+◌, ℕ}
 use Rattle.link_direction.specs.Directions.{Directions}
-use Rattle.inc_dec_spf.specs.Fan.{AreStops}
 use Rattle.inc_dec_spf.specs.HasDirections.{AreDirections}
 use Rattle.inc_dec_spf.specs.Known.{AreLanes, AreOffered, OfAny, known_at}
 use Rattle.inc_dec_spf.specs.Offers.{IsFirstOffer}
+use Rattle.inc_dec_spf.specs.Opening.{AreStops}
 use Rattle.inc_dec_spf.proofs.Offering.{OfFirst}
 use Rattle.inc_dec_spf.proofs.fan.begin.Given as goal
 
 abbrev pub invariant-loop-j : goal.invariant-loop-j
 invariant-loop-j l = record {
-  lanes : AreLanes (length l.opening.graph.now.ids * l.width) l.costs l.places;
+  lanes : AreLanes l.costs l.places;
   begun : (root : ℕ) (w : Directions) → AreDirections l.opening.graph.now l.opening.directed.now root w
-      → AreOffered (OfFirst l.j (λ k. OfAny (IsFirstOffer l.opening.graph.now w l.opening.dir (l.opening.first + k) l.width k)))
+      → AreOffered (OfFirst l.j (λ k. OfAny (IsFirstOffer l.opening w (l.opening.first + k) l.width k)))
       (known_at l.initial.costs l.initial.places) (known_at l.costs l.places);
-  one_stop_each : length l.stops ≡ length l.initial.stops;
-  stops : (root : ℕ) (w : Directions) → AreDirections l.opening.graph.now l.opening.directed.now root w → AreStops l.opening.graph.now w l.opening.first l.j l.stops;
+  stops : AreStops l.opening l.j l.stops;
 }

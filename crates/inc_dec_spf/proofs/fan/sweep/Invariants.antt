@@ -1,18 +1,14 @@
-use Rattle.std.proofs.Common.{◌≡◌, ◌<◌, ◌+◌, ◌*◌, ℕ, length}
+use Rattle.std.proofs.Common.{◌<◌, ◌+◌, ℕ, length}
 use Rattle.link_direction.specs.Directions.{Directions}
 use Rattle.inc_dec_spf.specs.HasDirections.{AreDirections}
-use Rattle.inc_dec_spf.specs.Known.{AreLanes, AreLow, known_at}
+use Rattle.inc_dec_spf.specs.Known.{AreLanes, known_at}
 use Rattle.inc_dec_spf.proofs.LanesSwept.{lane}
 use Rattle.inc_dec_spf.proofs.PathsSwept.{IsSwept}
 use Rattle.inc_dec_spf.proofs.fan.sweep.Given as goal
 
 abbrev pub invariant-loop-x : goal.invariant-loop-x
 invariant-loop-x l = record {
-  lanes : AreLanes (length l.opening.graph.now.ids * length l.initial.from_costs) l.costs l.places;
-  from_costs : length l.from_costs ≡ length l.initial.from_costs;
-  from_places : length l.from_places ≡ length l.initial.from_places;
-  low : AreLow (65535 * (l.x-index + 1)) l.costs;
+  lanes : AreLanes l.costs l.places;
   swept : (root j : ℕ) (w : Directions) → AreDirections l.opening.graph.now l.opening.directed.now root w → j < length l.initial.from_costs
-      → l.opening.first + j < length l.opening.graph.now.ids
       → IsSwept l.opening.graph.now root w l.opening.dir (l.opening.first + j) l.x-index (lane (length l.initial.from_costs) j (known_at l.costs l.places));
 }

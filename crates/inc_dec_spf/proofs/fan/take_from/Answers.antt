@@ -2,13 +2,12 @@ use Rattle.std.proofs.Common.{◌≡◌, ◌<◌, ◌≤◌, ◌+◌, ◌*◌, �
 use Rattle.std.specs.List.{slice_range}
 use Rattle.std.proofs.lemmas.Bool.{cases_lt}
 use Rattle.std.proofs.lemmas.List.{get_or_past}
-use Rattle.inc_dec_spf.specs.Known.{AreLanes, known, known_at}
-use Rattle.inc_dec_spf.specs.Rest.{far}
+use Rattle.inc_dec_spf.specs.Known.{AreLanes, known_at}
 use Rattle.inc_dec_spf.proofs.SideBySide.{range_index, range_length}
 use Rattle.inc_dec_spf.proofs.fan.take_from.Goals as goal
 
 -- a copy of the entries of one node
-module _ (costs places from_costs from_places : List ℕ) (at n : ℕ) (room : at + n ≤ length costs) (are : AreLanes (length costs) costs places)
+module _ (costs places from_costs from_places : List ℕ) (at n : ℕ) (room : at + n ≤ length costs) (are : AreLanes costs places)
     (made : from_costs ≡ slice_range costs at (at + n)) (made_places : from_places ≡ slice_range places at (at + n)) where
   room_places : at + n ≤ length places
   room_places = omega (arith, room, are.one_place_each)
@@ -19,10 +18,9 @@ module _ (costs places from_costs from_places : List ℕ) (at n : ℕ) (room : a
   copied : (i : ℕ) → i < n → known_at from_costs from_places i ≡ known_at costs places (at + i)
   copied i inside = rw (made, made_places, range_index costs at n i room inside, range_index places at n i room_places inside) refl
 
-  copy : AreLanes n from_costs from_places
+  copy : AreLanes from_costs from_places
   copy = record {
-    one_cost_each = long;
-    one_place_each = ap (λ (xs : List ℕ). length xs) made_places ∙ range_length places at n room_places;
+    one_place_each = ap (λ (xs : List ℕ). length xs) made_places ∙ range_length places at n room_places ∙ sym long;
     none = λ i above. elim (cases_lt i n) [
       | inl inside ↦
           let cost : get_or from_costs i 0 ≡ get_or costs (at + i) 0 = rw (made, range_index costs at n i room inside) refl in

@@ -1,128 +1,127 @@
-use Rattle.std.proofs.Common.{◌≡◌, ◌∙◌, ◌<◌, ℕ, Bool, false, true, List, Some, get_or, length, slice_get, inl, inr, refl, sym, ap, subst, arith}
-use Rattle.std.proofs.lemmas.Option.{get_or_from_slice_get, same_Some, slice_get-get_or, slice_get_read}
+use Rattle.std.proofs.Common.{rules, ◌≡◌, ◌∙◌, ◌<◌, ℕ, Bool, false, true, List, Some, get_or, length, slice_get, refl, sym, ap, subst, arith}
+use Rattle.std.proofs.lemmas.List.{get_or-replicate}
+use Rattle.std.proofs.lemmas.Option.{same_Some, slice_get-get_or, slice_get_read}
 use Rattle.mrt_graph.specs.declared.gadag.Mark.{Mark}
 use Rattle.mrt_graph.specs.declared.link.End.{End}
 use Rattle.mrt_graph.specs.DirectedLists.{DirectedLists}
 use Rattle.mrt_graph.specs.GraphInvariant.{IsTopology}
 use Rattle.mrt_graph.specs.Topology.{Topology}
-use Rattle.link_direction.specs.Directions.{Directions}
-use Rattle.inc_dec_spf.specs.HasDirections.{AreDirections}
 use Rattle.mrt_graph.proofs.EndsAt.{end_leads}
+use Rattle.inc_dec_spf.specs.HasDirections.{HasDirections}
+use Rattle.inc_dec_spf.specs.Rest.{far}
 use Rattle.inc_dec_spf.specs.Side.{AreTaken}
-use Rattle.inc_dec_spf.specs.Ways.{AreLeast, IsLeftAt}
-use Rattle.inc_dec_spf.proofs.EndCosts.{all_passed, all_taken_over, step_ready}
+use Rattle.inc_dec_spf.specs.Ways.{AreLeast, left_at, sought}
+use Rattle.link_direction.proofs.ClosedBlocks.{IsOrdered, inside_of_link}
 use Rattle.link_direction.proofs.TwoNodes.{place_says}
+use Rattle.inc_dec_spf.proofs.EndCosts.{IsWayOn, all_passed, all_taken_over}
 use Rattle.inc_dec_spf.proofs.Marks.{IsMarkedEnd, marked_block}
-use Rattle.link_direction.proofs.ClosedBlocks.{inside_of_link}
-use Rattle.inc_dec_spf.proofs.SideBySide.{most_kept}
-use Rattle.inc_dec_spf.proofs.WaysOn.{no_way_on, way_on}
+use Rattle.inc_dec_spf.proofs.SideBySide.{far_costs, most_kept}
+use Rattle.inc_dec_spf.proofs.WaysOn.{no_way_back, taken_on, way_on}
 use Rattle.inc_dec_spf.proofs.ways.take_ways.Goals as goal
 use Rattle.inc_dec_spf.proofs.ways.take_ways.Goals.{then-takes_link+then-leads_on, else-takes_link, else-takes_link-via-then-takes_link+else-leads_on, else-takes_link-via-else-takes_link}
 
 -- the block of an end's link is named by a node
-block_within : (g : Topology) (d : DirectedLists) (root : ℕ) (w : Directions) (x place : ℕ) (ends : List End) (end : End) (mark : Mark) → IsTopology g
-    → AreDirections g d root w → IsMarkedEnd g d x place ends end mark → mark.block < length g.ids
-block_within g d root w x place ends end mark kept are marked =
-    let onward = end_leads g x place ends end kept marked.list marked.there in
-    let it = inside_of_link g root w end.link x end.to (record { kept = kept; ordered = are.ordered }) onward in
-    subst (λ (b : ℕ). b < length g.ids) (it.in_block ∙ sym (marked_block g d w x place ends end mark kept are.says marked))
-    (are.ordered.heads.block_within it.m it.within)
+block_within : (g : Topology) (d : DirectedLists) (x place : ℕ) (ends : List End) (end : End) (mark : Mark) → IsTopology g → HasDirections g d → slice_get g.ends x ≡ Some ends
+    → place < length ends → end ≡ get_or ends place end → slice_get d.marks end.link ≡ Some mark → mark.block < length g.ids
+block_within g d x place ends end mark kept has list below read at =
+    let marked : IsMarkedEnd g d x place ends end mark = record { list = list; there = slice_get_read ends (length ends) place end refl below read; marked = at } in
+    let it = inside_of_link g has.root has.directions end.link x end.to (record { kept = kept; ordered = has.are.ordered }) (end_leads g x place ends end kept list marked.there) in
+    subst (λ (b : ℕ). b < length g.ids) (it.in_block ∙ sym (marked_block g d has.directions x place ends end mark kept has.are.says marked))
+    (has.are.ordered.heads.block_within it.m it.within)
+
+pub loop-end-init : goal.loop-end-init
+loop-end-init c =
+    let width = length c.args.costs.now in
+    let costs = c.fill.ensures.after (λ y same. search rules) in
+    let links = c.fill-2.ensures.after (λ y same. search rules) in
+    rw (costs, links, c.requires.one_link_each) (record {
+      most = far_costs width;
+      least = λ root w are ready. record {
+        each = λ j below. rw (get_or-replicate width j far 0 below, get_or-replicate width j c.new.result 0 below) (record {
+          most = omega arith;
+          reached = λ low. absurd (omega (arith, low));
+          unreached = λ above. c.new.ensures;
+          least = λ place other early. absurd (omega (arith, early));
+        });
+      };
+    })
 
 pub bounds-aiming-get : goal.bounds-aiming-get
 bounds-aiming-get c =
-    let place = c.loop-end.end-index in
-    let ends = c.ends-end-items.result.now in
-    let end = c.end-item.result in
     let block_in =
-    block_within c.args.aiming.now.graph.now c.args.aiming.now.directed.now c.requires.aiming.directed.root c.requires.aiming.directed.directions c.args.x place ends end
-    c.mark-mark.result c.requires.aiming.kept c.requires.aiming.directed.are (record {
-      list = c.ends-end-items.ensures.value;
-      there = slice_get_read ends (length ends) place end refl c.loop-end-test.true c.end-item.is;
-      marked = c.mark-mark.ensures;
-    }) in
+    block_within c.args.aiming.now.graph.now c.args.aiming.now.directed.now c.args.x c.loop-end.end-index c.ends-end-items.result.now c.end-item.result c.mark-mark.result
+    c.requires.aiming.kept c.requires.aiming.directed c.ends-end-items.ensures.value c.loop-end-test.true c.end-item.is c.mark-mark.ensures in
     omega (arith, block_in, c.get.ensures.value, c.requires.aiming.a_mark_each)
 
 pub take_leg-requires-clause-block : goal.take_leg-requires-clause-block
 take_leg-requires-clause-block c =
-    let place = c.loop-end.end-index in
-    let ends = c.ends-end-items.result.now in
-    let end = c.end-item.result in
-    block_within c.args.aiming.now.graph.now c.args.aiming.now.directed.now c.requires.aiming.directed.root c.requires.aiming.directed.directions c.args.x place ends end
-    c.mark-mark.result c.requires.aiming.kept c.requires.aiming.directed.are (record {
-      list = c.ends-end-items.ensures.value;
-      there = slice_get_read ends (length ends) place end refl c.loop-end-test.true c.end-item.is;
-      marked = c.mark-mark.ensures;
-    })
+    block_within c.args.aiming.now.graph.now c.args.aiming.now.directed.now c.args.x c.loop-end.end-index c.ends-end-items.result.now c.end-item.result c.mark-mark.result
+    c.requires.aiming.kept c.requires.aiming.directed c.ends-end-items.ensures.value c.loop-end-test.true c.end-item.is c.mark-mark.ensures
 
 pub loop-end-preserved : goal.loop-end-preserved
 loop-end-preserved c =
-    let g = c.args.aiming.now.graph.now in
-    let d = c.args.aiming.now.directed.now in
+    let aiming = c.args.aiming.now in
+    let g = aiming.graph.now in
+    let d = aiming.directed.now in
+    let wanted = aiming.wanted.now in
+    let width = length c.args.costs.now in
+    let own = c.args.own in
+    let x = c.args.x in
     let place = c.loop-end.end-index in
     let ends = c.ends-end-items.result.now in
     let end = c.end-item.result in
     let mark = c.mark-mark.result in
     let kept = c.place-kept.result.block in
-    let marked : IsMarkedEnd g d c.args.x place ends end mark = record {
-      list = c.ends-end-items.ensures.value;
-      there = slice_get_read ends (length ends) place end refl c.loop-end-test.true c.end-item.is;
-      marked = c.mark-mark.ensures;
-    } in
-    let wanted = c.args.aiming.now.wanted.now in
-    let block_in : mark.block < length g.ids =
-    block_within g d c.requires.aiming.directed.root c.requires.aiming.directed.directions c.args.x place ends end mark c.requires.aiming.kept c.requires.aiming.directed.are marked in
-    let marked_at : get_or wanted c.get.result false ≡ true → slice_get wanted mark.block ≡ Some true =
-    λ set.
+    let list = c.ends-end-items.ensures.value in
+    let there = slice_get_read ends (length ends) place end refl c.loop-end-test.true c.end-item.is in
+    let marked : IsMarkedEnd g d x place ends end mark = record { list = list; there = there; marked = c.mark-mark.ensures } in
+    let block_in =
+    block_within g d x place ends end mark c.requires.aiming.kept c.requires.aiming.directed list c.loop-end-test.true c.end-item.is c.mark-mark.ensures in
+    let is_set : slice_get wanted mark.block ≡ Some (get_or wanted c.get.result false) =
     slice_get-get_or wanted mark.block false (omega (arith, block_in, c.requires.aiming.a_mark_each))
-    ∙ ap (λ (b : Bool). Some b) (ap (λ (k : ℕ). get_or wanted k false) (sym c.get.ensures.value) ∙ set) in
-    let read_at : slice_get wanted mark.block ≡ Some true → get_or wanted c.get.result false ≡ true =
-    λ set. ap (λ (k : ℕ). get_or wanted k false) c.get.ensures.value ∙ get_or_from_slice_get wanted mark.block true false set in
+    ∙ ap (λ (k : ℕ). Some (get_or wanted k false)) (sym c.get.ensures.value) in
     elim c.if-takes_link.branch [
       | then-takes_link+then-leads_on t ↦ rw (t.costs-is, t.links-is) (record {
-        one_each = (t.take_leg.ensures.taken c.requires.aiming.directed.directions c.requires.aiming.directed.are.says).one_cost_each ∙ c.loop-end.invariant.one_each;
-        one_link_each = (t.take_leg.ensures.taken c.requires.aiming.directed.directions c.requires.aiming.directed.are.says).one_link_each
-            ∙ c.loop-end.invariant.one_link_each;
-        most = most_kept _ end.metric end.link c.loop-end.costs c.loop-end.links t.take_leg.new.costs t.take_leg.new.links
-            (c.loop-end.invariant.one_link_each ∙ sym c.loop-end.invariant.one_each)
-            (t.take_leg.ensures.taken c.requires.aiming.directed.directions c.requires.aiming.directed.are.says) c.loop-end.invariant.most;
-        least = λ root bound w are low_bound ready.
+        most =
+            let has = c.requires.aiming.directed in
+            most_kept _ end.metric end.link c.loop-end.costs c.loop-end.links t.take_leg.new.costs t.take_leg.new.links t.take_leg.auto.costs
+            (t.take_leg.ensures has.directions has.are.says) c.loop-end.invariant.most;
+        least = λ root w are ready.
+            let is : IsOrdered g root w = record { kept = c.requires.aiming.kept; ordered = are.ordered } in
+            let kept_is = (place_says g d w x c.place-kept.result are.says c.requires.node c.place-kept.ensures).1 in
             let takes = c.takes_link.ensures.0 t.if-takes_link.true in
             let on =
-            way_on g d root w c.args.aiming.now.wanted.now c.args.aiming.now.dir c.args.own c.args.x place kept ends end mark (record { kept = c.requires.aiming.kept; ordered = are.ordered }) are.says
-            marked ((place_says g d w c.args.x c.place-kept.result are.says c.requires.node c.place-kept.ensures).1) takes.0
-            (marked_at takes.1) takes.2 (sym t.leads_on.ensures ∙ t.if-leads_on.true) in
-            let width = length c.args.costs.now in
-            let inside = marked_block g d w c.args.x place ends end mark c.requires.aiming.kept are.says marked in
-            all_taken_over g w c.args.aiming.now.wanted.now c.args.aiming.now.dir c.args.own c.args.aiming.now.aims.now width c.args.all.now bound c.args.x place ends end c.loop-end.costs c.loop-end.links
-            t.take_leg.new.costs t.take_leg.new.links low_bound t.take_leg.ensures.small c.loop-end.invariant.one_each c.loop-end.invariant.one_link_each on
-            (step_ready g w c.args.aiming.now.wanted.now c.args.aiming.now.dir c.args.own c.args.aiming.now.aims.now width c.args.all.now bound c.args.x place ends end ready on)
-            (subst (λ (b : ℕ). AreTaken (IsLeftAt w c.args.own c.args.x c.args.aiming.now.aims.now width c.args.all.now b end.to) end.metric end.link c.loop-end.costs c.loop-end.links
-            t.take_leg.new.costs t.take_leg.new.links) inside
-            (subst (λ (n : ℕ). AreTaken (IsLeftAt w c.args.own c.args.x c.args.aiming.now.aims.now n c.args.all.now mark.block end.to) end.metric end.link c.loop-end.costs
-            c.loop-end.links t.take_leg.new.costs t.take_leg.new.links) c.loop-end.invariant.one_each (t.take_leg.ensures.taken w are.says)))
-            (c.loop-end.invariant.least root bound w are low_bound ready);
+            way_on d root (sought aiming w) own x place kept ends end mark is are.says marked kept_is
+            (takes.0, is_set ∙ ap (λ (b : Bool). Some b) takes.1, takes.2) (sym t.leads_on.ensures ∙ t.if-leads_on.true) in
+            all_taken_over aiming w own width c.args.all.now x place ends end c.loop-end.costs c.loop-end.links t.take_leg.new.costs t.take_leg.new.links is.kept
+            (c.loop-end.auto.costs ∙ c.fill.ensures.len) there on (ready.each (w.lies_in end.link) end on.in_wanted on.step on.kept_to)
+            (subst (λ (b : ℕ). AreTaken (left_at aiming w own x b end.to c.args.all.now width) end.metric end.link c.loop-end.costs c.loop-end.links
+            t.take_leg.new.costs t.take_leg.new.links) (marked_block g d w x place ends end mark is.kept are.says marked)
+            (subst (λ (n : ℕ). AreTaken (left_at aiming w own x mark.block end.to c.args.all.now n) end.metric end.link c.loop-end.costs c.loop-end.links
+            t.take_leg.new.costs t.take_leg.new.links) (c.loop-end.auto.costs ∙ c.fill.ensures.len) (t.take_leg.ensures w are.says)))
+            (c.loop-end.invariant.least root w are ready);
       })
       | else-takes_link t ↦ rw (t.costs-is, t.links-is) (record {
-        one_each = c.loop-end.invariant.one_each;
-        one_link_each = c.loop-end.invariant.one_link_each;
         most = c.loop-end.invariant.most;
-        least = λ root bound w are low_bound ready.
-            all_passed g w c.args.aiming.now.wanted.now c.args.aiming.now.dir c.args.own c.args.aiming.now.aims.now (length c.args.costs.now) bound c.args.x place ends c.loop-end.costs c.loop-end.links
-            (no_way_on g d root w c.args.aiming.now.wanted.now c.args.aiming.now.dir c.args.own c.args.x place kept ends end mark (record { kept = c.requires.aiming.kept; ordered = are.ordered }) are.says
-            marked ((place_says g d w c.args.x c.place-kept.result are.says c.requires.node c.place-kept.ensures).1)
-            (elim t.else-takes_link.branch [
-              | else-takes_link-via-then-takes_link+else-leads_on t' ↦ inr (sym t'.leads_on.ensures ∙ t'.if-leads_on.false)
+        least = λ root w are ready.
+            let is : IsOrdered g root w = record { kept = c.requires.aiming.kept; ordered = are.ordered } in
+            let kept_is = (place_says g d w x c.place-kept.result are.says c.requires.node c.place-kept.ensures).1 in
+            let none : IsWayOn (sought aiming w) own x place end → ⊥ = λ on. elim t.else-takes_link.branch [
+              | else-takes_link-via-then-takes_link+else-leads_on t' ↦
+                  no_way_back d root (sought aiming w) own x place kept ends end mark is are.says marked kept_is (sym t'.leads_on.ensures ∙ t'.if-leads_on.false) on
               | else-takes_link-via-else-takes_link t' ↦
-                  inl (λ not_sole set kept. let takes = c.takes_link.ensures.1 (not_sole, read_at set, kept) in let no = t'.if-takes_link.false in (cc))
-            ]))
-            (c.loop-end.invariant.least root bound w are low_bound ready);
+                  let tells = taken_on d root (sought aiming w) own x place kept ends end mark is are.says marked kept_is on in
+                  let yes = c.takes_link.ensures.1 (tells.0, same_Some (get_or wanted c.get.result false) true (sym is_set ∙ tells.1), tells.2) in
+                  let no = t'.if-takes_link.false in (cc)
+            ] in
+            all_passed aiming w own width x place ends end c.loop-end.costs c.loop-end.links list there none (c.loop-end.invariant.least root w are ready);
       })
     ]
 
 pub returns-clause-least : goal.returns-clause-least
-returns-clause-least c = λ root bound w ends are low_bound ready list.
+returns-clause-least c = λ root w ends are ready list.
     let same : c.ends-end-items.result.now ≡ ends = same_Some c.ends-end-items.result.now ends (sym c.ends-end-items.ensures.value ∙ list) in
     let all : c.loop-end.end-index ≡ length c.ends-end-items.result.now = omega (arith, c.loop-end-test.false, c.loop-end.auto.end-index-end) in
-    subst (λ (es : List End). AreLeast c.args.aiming.now.graph.now w c.args.aiming.now.wanted.now c.args.aiming.now.dir c.args.own c.args.aiming.now.aims.now (length c.args.costs.now) bound c.args.x es (length es) c.loop-end.costs c.loop-end.links) same
-    (subst (λ (n : ℕ). AreLeast c.args.aiming.now.graph.now w c.args.aiming.now.wanted.now c.args.aiming.now.dir c.args.own c.args.aiming.now.aims.now (length c.args.costs.now) bound c.args.x c.ends-end-items.result.now n c.loop-end.costs c.loop-end.links)
-    all (c.loop-end.invariant.least root bound w are low_bound ready))
+    subst (λ (es : List End). AreLeast c.args.aiming.now w c.args.own (length c.args.costs.now) c.args.x es (length es) c.loop-end.costs c.loop-end.links) same
+    (subst (λ (n : ℕ). AreLeast c.args.aiming.now w c.args.own (length c.args.costs.now) c.args.x c.ends-end-items.result.now n c.loop-end.costs c.loop-end.links)
+    all (c.loop-end.invariant.least root w are ready))

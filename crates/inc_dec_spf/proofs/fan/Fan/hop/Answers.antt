@@ -1,4 +1,4 @@
-use Rattle.std.proofs.Common.{◌≡◌, sym, ◌∙◌}
+use Rattle.std.proofs.Common.{sym, ◌∙◌}
 use Rattle.std.proofs.lemmas.Bool.{eqb-false, eqb-true}
 use Rattle.inc_dec_spf.specs.LeastPath.{NotReached}
 use Rattle.inc_dec_spf.proofs.fan.Fan.hop.Goals as goal

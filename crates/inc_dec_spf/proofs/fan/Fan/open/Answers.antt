@@ -1,4 +1,4 @@
-use Rattle.std.proofs.Common.{◌≡◌, ◌∙◌, ◌+◌, ℕ, List, length, sym, ap, subst, arith}
+use Rattle.std.proofs.Common.{◌≡◌, ◌∙◌, ℕ, List, length, sym, ap, subst, arith}
 use Rattle.std.specs.Vec.{with_items}
 use Rattle.std.proofs.lemmas.List.{with_items_is}
 use Rattle.inc_dec_spf.specs.declared.fan.Opening.{Opening}
@@ -8,17 +8,16 @@ use Rattle.inc_dec_spf.specs.Opening.{AreFirstOffered}
 use Rattle.inc_dec_spf.proofs.fan.Fan.open.Goals as goal
 
 pub sweep-requires-clause-begun : goal.sweep-requires-clause-begun
-sweep-requires-clause-begun c = λ root w are.
+sweep-requires-clause-begun c =
     let fan = c.self.inside in
     let costs = c.deref_mut-4.ensures.value ∙ with_items_is fan.costs c.begin.new.costs (c.begin.auto.costs ∙ c.deref_mut.ensures.len) in
     let places = c.deref_mut-5.ensures.value ∙ with_items_is fan.places c.begin.new.places (c.begin.auto.places ∙ c.deref_mut-2.ensures.len) in
     let width : c.len-width.result ≡ length c.deref_mut-6.result.now =
     omega (arith, c.len-width.ensures, fan.from_costs.ok.0, ap (λ (xs : List ℕ). length xs) c.deref_mut-6.ensures.value) in
     let opening : Opening = record { graph = c.args.g; directed = c.args.d; dir = c.args.dir; turns = c.args.turns; first = c.args.first } in
-    subst (λ (m : ℕ). AreFirstOffered opening w m c.deref_mut-4.result.now c.deref_mut-5.result.now) width
-    (subst (λ (xs : List ℕ). AreFirstOffered opening w c.len-width.result xs c.deref_mut-5.result.now) (sym costs)
-    (subst (λ (xs : List ℕ). AreFirstOffered opening w c.len-width.result c.begin.new.costs xs) (sym places)
-    (c.begin.ensures.begun root w are)))
+    subst (λ (m : ℕ). AreFirstOffered opening m c.deref_mut-4.result.now c.deref_mut-5.result.now) width
+    (subst (λ (xs : List ℕ). AreFirstOffered opening c.len-width.result xs c.deref_mut-5.result.now) (sym costs)
+    (subst (λ (xs : List ℕ). AreFirstOffered opening c.len-width.result c.begin.new.costs xs) (sym places) c.begin.ensures.begun))
 
 pub returns-clause-open : goal.returns-clause-open
 returns-clause-open c = λ root w are.
@@ -34,9 +33,9 @@ returns-clause-open c = λ root w are.
     let costs_is = with_items_is (with_items fan.costs c.begin.new.costs) costs (c.sweep.auto.costs ∙ c.deref_mut-4.ensures.len) in
     let places_is = with_items_is (with_items fan.places c.begin.new.places) places (c.sweep.auto.places ∙ c.deref_mut-5.ensures.len) in
     let from_is : length from_after.items ≡ width =
-    ap (λ (xs : List ℕ). length xs) (with_items_is fan.from_costs from (c.sweep.auto.from_costs ∙ c.deref_mut-6.ensures.len)) ∙ c.sweep.ensures.from_costs in
+    ap (λ (xs : List ℕ). length xs) (with_items_is fan.from_costs from (c.sweep.auto.from_costs ∙ c.deref_mut-6.ensures.len)) ∙ c.sweep.auto.from_costs in
     let same = ap (λ (xs : List ℕ). fan_entries stops width xs places) (sym costs_is)
     ∙ ap (λ (xs : List ℕ). fan_entries stops width costs_after.items xs) (sym places_is)
     ∙ ap (λ (m : ℕ). fan_entries stops m costs_after.items places_after.items) (sym from_is)
     ∙ ap (λ xs. fan_entries (length xs) (length from_after.items) costs_after.items places_after.items) c.deref.ensures.value in
-    subst (λ (e : FanEntries). IsOpen c.args.g.now w c.args.dir c.args.first e) same (c.sweep.ensures.open root w are)
+    subst (λ (e : FanEntries). IsOpen c.args.g.now w c.args.dir c.args.first e) same (c.sweep.ensures root w are)
