@@ -7,7 +7,7 @@ use Rattle.link_direction.specs.Directions.{Directions}
 use Rattle.inc_dec_spf.specs.BlockAims.{IsAimOf}
 use Rattle.inc_dec_spf.specs.LeastPath.{HasMoreLinks, HaveCommonBlockOfMoreLinks}
 use Rattle.link_direction.proofs.OneBlock.{one_block}
-use Rattle.mrt_rows.specs.Chain.{AreBelow, AreWayAims, AreWayMarks, AtHome, Beside, Climbs, IsRowAim, Under}
+use Rattle.mrt_rows.specs.Chain.{AreBelow, AreWayAims, AtHome, Beside, Climbs, IsRowAim, Under}
 use Rattle.mrt_rows.proofs.ChainAims.{aim_apart, climb_low, climb_on}
 use Rattle.mrt_rows.proofs.OrderedGraphs.{OrderedGraph, is_ordered}
 
@@ -50,7 +50,7 @@ module _ (og : OrderedGraph) where
       go u k h u_within (FromHead a b c) onward = absurd (onward (ap aim (sym a) ∙ heads u u_within ∙ b))
 
   module _ (t : ℕ) (t_within : t < n) (below : List (Option ℕ)) (are : AreBelow og.g og.root w t below) (aim : ℕ → ℕ)
-      (aims : AreWayAims og.g og.root w t aim) where
+      (marks : List Bool) (aims : AreWayAims og.g og.root w t aim marks) where
     -- a node that has none below it aims at what its block does
     pub block_aim : (s : ℕ) → s < n → slice_get below s ≡ Some None → IsRowAim w below s (aim (w.block s))
     block_aim s within none = elim (aims.off s within) [
@@ -92,21 +92,21 @@ module _ (og : OrderedGraph) where
             let no = same_Some None (Some (aim (w.block u))) (sym none ∙ there) in absurd (cc)
 
     -- over a block of more than one link s aims at its head, or the block is marked
-    pub aim_marked : (marks : List Bool) → AreWayMarks og.g og.root w t marks → (s a k h : ℕ) → s < n → IsRowAim w below s a
+    pub aim_marked : (s a k h : ℕ) → s < n → IsRowAim w below s a
         → HaveCommonBlockOfMoreLinks og.g w s a k h → w.head s ≢ a → slice_get marks k ≡ Some true
-    aim_marked marks way s a k h within (Under at) share away =
+    aim_marked s a k h within (Under at) share away =
         let it = are.is_below s a at in
         let k_is =
         (one_block og.g og.root w s a k h (w.block a) s (is_ordered og) within (climb_low og t a t_within it.0).0 share.two share.common
         (FromHead refl it.2 refl)).0 in
-        ap (λ (b : ℕ). slice_get marks b) k_is ∙ way.each a it.0 it.1 (subst (λ (b : ℕ). HasMoreLinks og.g w b) k_is share.more)
-    aim_marked marks way s a k h within (Beside none at peers) share away =
+        ap (λ (b : ℕ). slice_get marks b) k_is ∙ aims.marked a it.0 it.1 (subst (λ (b : ℕ). HasMoreLinks og.g w b) k_is share.more)
+    aim_marked s a k h within (Beside none at peers) share away =
         let it = are.is_below (w.head s) a at in
         let k_is =
         (one_block og.g og.root w s a k h (w.block s) (w.head s) (is_ordered og) within (climb_low og t a t_within it.0).0 share.two share.common
         (Peers refl peers refl)).0 ∙ sym peers in
-        ap (λ (b : ℕ). slice_get marks b) k_is ∙ way.each a it.0 it.1 (subst (λ (b : ℕ). HasMoreLinks og.g w b) k_is share.more)
-    aim_marked marks way s a k h within (AtHome none no_peer home) share away = absurd (away (sym home))
+        ap (λ (b : ℕ). slice_get marks b) k_is ∙ aims.marked a it.0 it.1 (subst (λ (b : ℕ). HasMoreLinks og.g w b) k_is share.more)
+    aim_marked s a k h within (AtHome none no_peer home) share away = absurd (away (sym home))
 
     -- what s aims at, its blocks do
     pub aim_of_blocks : (s a : ℕ) → s < n → s ≢ t → IsRowAim w below s a → IsAimOf og.g w aim s a

@@ -3,13 +3,9 @@ use Rattle.std.proofs.Common.{◌≡◌, ◌≢◌, ◌⊎◌, ◌∙◌, ◌<�
 use Rattle.std.specs.Prelude.{replicate}
 use Rattle.std.proofs.lemmas.Bool.{cases_eq}
 use Rattle.std.proofs.lemmas.Option.{same_Some}
-use Rattle.mrt_graph.specs.DirectedLists.{DirectedLists}
-use Rattle.mrt_graph.specs.GraphInvariant.{IsTopology}
 use Rattle.mrt_graph.specs.Topology.{Topology}
 use Rattle.mrt_graph.proofs.ListPlaces.{set_elsewhere, set_there}
-use Rattle.link_direction.specs.Directions.{Directions, Says}
-use Rattle.link_direction.specs.OrderedGadag.{SaysOrdered}
-use Rattle.inc_dec_spf.proofs.SameDirections.{directions_are}
+use Rattle.link_direction.specs.Directions.{Directions}
 use Rattle.mrt_rows.specs.Chain.{AreBelow, Climbs, There}
 use Rattle.mrt_rows.proofs.ChainAims.{climb_on, further, root_alone}
 use Rattle.mrt_rows.proofs.OrderedGraphs.{OrderedGraph}
@@ -31,20 +27,6 @@ begun g root w t k below blank = record {
   to_c = There refl;
   is_below = λ h b at. absurd (nothing k h b (subst (λ (xs : List (Option ℕ)). slice_get xs h ≡ Some (Some b)) blank at));
   all = λ b to_b other. inr to_b;
-}
-
--- the graph with what is said of it
-abbrev pub graph_by : (g : Topology) (root : ℕ) (d : DirectedLists) (w : Directions) → IsTopology g → SaysOrdered g root d → Says g d w → OrderedGraph
-graph_by g root d w kept has says = record {
-  g = g;
-  root = root;
-  w = w;
-  kept = kept;
-  ordered = (directions_are g d w kept (record {
-    root = root;
-    directions = has.directions;
-    are = record { says = has.says; ordered = has.ordered };
-  }) says).ordered;
 }
 
 module _ (og : OrderedGraph) (t c : ℕ) (below : List (Option ℕ)) (so_far : IsClimbed og.g og.root og.w t c below) where

@@ -32,5 +32,5 @@ climbed g root w held below one_each are = record {
   a_mark_each = are.a_mark_each;
   up = are.up;
   down = are.down;
-  aimed = λ j t at inside. let aimed = are.aimed j t at inside in record { aims = aimed.aims; marks = aimed.marks; up = aimed.up; down = aimed.down };
+  aimed = λ j t at inside. let aimed = are.aimed j t at inside in record { aims = aimed.aims; up = aimed.up; down = aimed.down };
 }

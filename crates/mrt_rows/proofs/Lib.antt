@@ -15,7 +15,6 @@ pub mod Counting
 pub mod Filling
 pub mod HeadWays
 pub mod HeldColumns
-pub mod HomeRows
 pub mod HopsExist
 pub mod LinesHold
 pub mod MarkedHeads
@@ -30,6 +29,7 @@ pub mod OneRow
 pub mod OrderedGraphs
 pub mod OtherLines
 pub mod PushedWords
+pub mod Rooting
 pub mod RowOver
 pub mod RowTags
 pub mod RowsExist
@@ -38,13 +38,11 @@ pub mod RowsOfColumns
 pub mod RowsPut
 pub mod RulesHold
 pub mod Sharing
-pub mod SoleBlocks
 pub mod SoleRows
 pub mod SoundColumns
 pub mod SourceCert
 pub mod TheColumns
 pub mod WayAims
 pub mod Ways
-pub mod WayMarks
 pub mod WaysBegun
 pub mod WholeCert

@@ -5,16 +5,16 @@ use Rattle.link_direction.specs.CommonBlock.{FromHead, ToHead}
 use Rattle.inc_dec_spf.specs.declared.reach.Dir.{Dir}
 use Rattle.inc_dec_spf.specs.declared.reach.Dir.TheVariants.{Down, Up}
 use Rattle.inc_dec_spf.specs.FirstLink.{Begins, BeginsNone, IsFirstLink, no_link}
-use Rattle.mrt_rows.specs.declared.members.Home.{Home}
-use Rattle.mrt_rows.specs.Put.{IsHome, IsMemberRow, IsOwnRow, NoneOfOneLink}
-use Rattle.mrt_rows.specs.RowLines.{BeginsOver, NoWay}
+use Rattle.mrt_rows.specs.declared.row_over.FirstLinks.{FirstLinks}
+use Rattle.mrt_rows.specs.Put.{AreFirstLinks, AreInCommonBlockOfMoreLinks, IsMemberRow, IsOwnRow, NoneOfOneLink}
+use Rattle.mrt_rows.specs.RowLines.{AreMembers, BeginsOver, NoWay}
 use Rattle.mrt_rows.proofs.HeadWays.{way_from_head, way_home}
 use Rattle.mrt_rows.proofs.LinesHold.{has_head, with_head}
 use Rattle.mrt_rows.proofs.NearRows.{are_members, member_ring, ring_by}
 use Rattle.mrt_rows.proofs.OrderedGraphs.{OrderedGraph}
 use Rattle.mrt_rows.proofs.Sharing.{none_of_peers}
 use Rattle.mrt_rows.proofs.Ways.{Ring, Way, inside_itself}
-use Rattle.mrt_rows.proofs.WaysBegun.{Sharing, more_of, no_way, share}
+use Rattle.mrt_rows.proofs.WaysBegun.{Sharing, no_way, share}
 
 -- where a way leads on, the first link begins the least one
 first_begins : (og : OrderedGraph) (m : ℕ) (dir : Dir) (s v link : ℕ) → Ring og m → Sharing og m s v → Way og m dir s v
@@ -73,73 +73,86 @@ module _ (og : OrderedGraph) (s t : ℕ) (s_within : s < length og.g.ids) (t_wit
         }
 
   -- another node of the block
-  module _ (same_block : og.w.block s ≡ og.w.block t) where
+  module _ (same_block : og.w.block s ≡ og.w.block t) (links home : FirstLinks) (first : AreFirstLinks og.g og.w s t links)
+      (is_home : AreFirstLinks og.g og.w s (og.w.head s) home) where
     more : NoneOfOneLink og.g og.w s t
     more = none_of_peers og s t s_within t_within two same_block
 
     ring_here : Ring og s
     ring_here = member_ring og s t s_within t_within two more same_block
 
+    members : AreMembers og.g og.w s t (og.w.block s) (og.w.head s)
+    members = are_members og s t s_within t_within two more same_block
+
+    shares : AreInCommonBlockOfMoreLinks og.g og.w s t
+    shares = record { block = og.w.block s; head = og.w.head s; share = members.share }
+
+    with_home : Sharing og s s (og.w.head s)
+    with_home = with_head og s s ring_here (inside_itself og s ring_here)
+
+    home_shares : AreInCommonBlockOfMoreLinks og.g og.w s (og.w.head s)
+    home_shares = record { block = og.w.block s; head = og.w.head s; share = share og s s (og.w.head s) ring_here with_home }
+
     home_begins : (dir : Dir) (link : ℕ) → IsFirstLink og.g og.w dir s (og.w.head s) link → BeginsOver og.g og.w dir s (og.w.head s) link
-    home_begins dir link is =
-        first_begins og s dir s (og.w.head s) link ring_here (with_head og s s ring_here (inside_itself og s ring_here)) (way_home og s dir ring_here) is
+    home_begins dir link is = first_begins og s dir s (og.w.head s) link ring_here with_home (way_home og s dir ring_here) is
 
-    pub below_row : (a : ℕ) (home : Home) → a ≢ no_link → IsFirstLink og.g og.w Up s t a → IsHome og.g og.w s home
-        → IsOwnRow og.g og.root og.w s t (record { blue = a; red = home.down; tag = tags.Below })
-    below_row a home other is_a is_home = record {
+    pub below_row : links.up ≢ no_link → IsOwnRow og.g og.root og.w s t (record { blue = links.up; red = home.down; tag = tags.Below })
+    below_row other = record {
       line = λ rows. record {
         block = og.w.block s;
         head = og.w.head s;
-        members = are_members og s t s_within t_within two more same_block;
-        blue = begins_over og Up s t a other is_a;
-        red = home_begins Down home.down (is_home.down (more_of og s ring_here));
+        members = members;
+        blue = begins_over og Up s t links.up other (first.up shares);
+        red = home_begins Down home.down (is_home.down home_shares);
       };
     }
 
-    pub above_row : (a b : ℕ) (home : Home) → a ≡ no_link → b ≢ no_link → IsFirstLink og.g og.w Up s t a → IsFirstLink og.g og.w Down s t b
-        → IsHome og.g og.w s home → IsOwnRow og.g og.root og.w s t (record { blue = home.up; red = b; tag = tags.Above })
-    above_row a b home none other is_a is_b is_home = record {
+    pub above_row : links.up ≡ no_link → links.down ≢ no_link
+        → IsOwnRow og.g og.root og.w s t (record { blue = home.up; red = links.down; tag = tags.Above })
+    above_row none other = record {
       line = λ rows. record {
         block = og.w.block s;
         head = og.w.head s;
-        members = are_members og s t s_within t_within two more same_block;
-        none_up = none_over og Up s t a none is_a;
-        blue = home_begins Up home.up (is_home.up (more_of og s ring_here));
-        red = begins_over og Down s t b other is_b;
+        members = members;
+        none_up = none_over og Up s t links.up none (first.up shares);
+        blue = home_begins Up home.up (is_home.up home_shares);
+        red = begins_over og Down s t links.down other (first.down shares);
       };
     }
 
-    pub unordered_row : (a b : ℕ) (home : Home) → a ≡ no_link → b ≡ no_link → IsFirstLink og.g og.w Up s t a → IsFirstLink og.g og.w Down s t b
-        → IsHome og.g og.w s home → IsOwnRow og.g og.root og.w s t (record { blue = home.down; red = home.up; tag = tags.Unordered })
-    unordered_row a b home none_up none_down is_a is_b is_home = record {
+    pub unordered_row : links.up ≡ no_link → links.down ≡ no_link
+        → IsOwnRow og.g og.root og.w s t (record { blue = home.down; red = home.up; tag = tags.Unordered })
+    unordered_row none_up none_down = record {
       line = λ rows. record {
         block = og.w.block s;
         head = og.w.head s;
-        members = are_members og s t s_within t_within two more same_block;
-        none_up = none_over og Up s t a none_up is_a;
-        none_down = none_over og Down s t b none_down is_b;
-        blue = home_begins Down home.down (is_home.down (more_of og s ring_here));
-        red = home_begins Up home.up (is_home.up (more_of og s ring_here));
+        members = members;
+        none_up = none_over og Up s t links.up none_up (first.up shares);
+        none_down = none_over og Down s t links.down none_down (first.down shares);
+        blue = home_begins Down home.down (is_home.down home_shares);
+        red = home_begins Up home.up (is_home.up home_shares);
       };
     }
 
-pub member_below : (a b : ℕ) (home : Home) → a ≢ no_link → IsMemberRow a b home (record { blue = a; red = home.down; tag = tags.Below })
-member_below a b home other = record {
-  own = λ g root s t w kept ordered s_within t_within two same is_a is_b is_home.
-      below_row (record { g = g; root = root; w = w; kept = kept; ordered = ordered }) s t s_within t_within two same a home other is_a is_home;
+pub member_below : (links home : FirstLinks) → links.up ≢ no_link
+    → IsMemberRow links home (record { blue = links.up; red = home.down; tag = tags.Below })
+member_below links home other = record {
+  own = λ g root s t w kept ordered s_within t_within two same first is_home.
+      below_row (record { g = g; root = root; w = w; kept = kept; ordered = ordered }) s t s_within t_within two same links home first is_home other;
 }
 
-pub member_above : (a b : ℕ) (home : Home) → a ≡ no_link → b ≢ no_link → IsMemberRow a b home (record { blue = home.up; red = b; tag = tags.Above })
-member_above a b home none other = record {
-  own = λ g root s t w kept ordered s_within t_within two same is_a is_b is_home.
-      above_row (record { g = g; root = root; w = w; kept = kept; ordered = ordered }) s t s_within t_within two same a b home none other is_a
-      is_b is_home;
+pub member_above : (links home : FirstLinks) → links.up ≡ no_link → links.down ≢ no_link
+    → IsMemberRow links home (record { blue = home.up; red = links.down; tag = tags.Above })
+member_above links home none other = record {
+  own = λ g root s t w kept ordered s_within t_within two same first is_home.
+      above_row (record { g = g; root = root; w = w; kept = kept; ordered = ordered }) s t s_within t_within two same links home first is_home
+      none other;
 }
 
-pub member_unordered : (a b : ℕ) (home : Home) → a ≡ no_link → b ≡ no_link
-    → IsMemberRow a b home (record { blue = home.down; red = home.up; tag = tags.Unordered })
-member_unordered a b home none_up none_down = record {
-  own = λ g root s t w kept ordered s_within t_within two same is_a is_b is_home.
-      unordered_row (record { g = g; root = root; w = w; kept = kept; ordered = ordered }) s t s_within t_within two same a b home none_up
-      none_down is_a is_b is_home;
+pub member_unordered : (links home : FirstLinks) → links.up ≡ no_link → links.down ≡ no_link
+    → IsMemberRow links home (record { blue = home.down; red = home.up; tag = tags.Unordered })
+member_unordered links home none_up none_down = record {
+  own = λ g root s t w kept ordered s_within t_within two same first is_home.
+      unordered_row (record { g = g; root = root; w = w; kept = kept; ordered = ordered }) s t s_within t_within two same links home first is_home
+      none_up none_down;
 }

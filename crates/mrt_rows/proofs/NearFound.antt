@@ -1,26 +1,14 @@
 -- The near rows of a source, one destination after another.
-use Rattle.std.proofs.Common.{◌≡◌, ◌≢◌, ◌∙◌, ◌<◌, ◌+◌, ◌++◌, ◌==◌, ℕ, Bool, false, zero, suc, true, List, [], ◌∷◌, Option, Some, None, length, not, set, slice_get, take, get_or, refl, sym, ap, subst, arith, append-nil, inl, inr}
-use Rattle.std.proofs.lemmas.Bool.{cases_eq, ne_eqb}
-use Rattle.std.proofs.lemmas.Option.{slice_get_read}
+use Rattle.std.proofs.Common.{◌≡◌, ◌≢◌, ◌∙◌, ◌<◌, ◌+◌, ◌++◌, ◌==◌, ℕ, Bool, false, zero, suc, true, List, [], ◌∷◌, Option, Some, None, length, not, set, take, refl, sym, ap, subst, arith, append-nil, inl, inr}
+use Rattle.std.proofs.lemmas.Bool.{cases_eq, eqb-false, ne_eqb, not-true}
 use Rattle.mrt_graph.specs.declared.cert.Row.{Row}
 use Rattle.mrt_graph.specs.declared.cert.Tag.{Tag}
 use Rattle.mrt_graph.specs.declared.cert.Tag.TheVariants as tags
-use Rattle.mrt_graph.specs.declared.gadag.Place.{Place}
-use Rattle.mrt_graph.specs.DirectedLists.{DirectedLists}
 use Rattle.mrt_graph.specs.Tags.{is_near, same_tag}
-use Rattle.mrt_graph.specs.Topology.{Topology}
-use Rattle.link_direction.specs.CommonBlock.{ToHead}
-use Rattle.link_direction.specs.Directions.{Directions, Says}
-use Rattle.inc_dec_spf.specs.declared.reach.Dir.TheVariants.{Down, Up}
-use Rattle.inc_dec_spf.specs.LeastPath.{HasMoreLinks}
-use Rattle.mrt_rows.specs.declared.members.Home.{Home}
-use Rattle.mrt_rows.specs.NearOf.{Apart, AreLinked, InCommon, IsNearRow, IsPlaceOf, near_first, near_in}
-use Rattle.mrt_rows.specs.Put.{IsHome, AreInCommonBlockOfMoreLinks}
+use Rattle.mrt_rows.specs.NearOf.{Apart, InCommon, IsNearRow, near_first, near_in}
 use Rattle.mrt_rows.specs.RowLines.{LineOf}
 use Rattle.mrt_rows.specs.RowsOf.{HasRow}
 use Rattle.mrt_rows.proofs.CarriedRows.{carried_tag, row_near}
-use Rattle.mrt_rows.proofs.MarkedHeads.{not_own_head}
-use Rattle.link_direction.proofs.TwoNodes.{place_says}
 use Rattle.mrt_rows.proofs.OrderedGraphs.{OrderedGraph}
 
 -- a row that is not carried is near
@@ -93,26 +81,6 @@ same_by a b differ is fails = elim (cases_eq a b) [
   | inr other ↦ let yes : differ ≡ true = rw (ne_eqb a b other) at is in absurd (cc)
 ]
 
--- what was read at a place
-pub read_at : (xs : List ℕ) (i at x : ℕ) → i < length xs → at ≡ i → x ≡ get_or xs at x → slice_get xs i ≡ Some x
-read_at xs i at x within same read = slice_get_read xs (length xs) i x refl within (subst (λ (k : ℕ). x ≡ get_or xs k x) same read)
-
--- a place that was read is as the directions say
-pub place_of : (g : Topology) (d : DirectedLists) (w : Directions) (v : ℕ) (place : Place) → Says g d w → v < length g.ids → slice_get d.places v ≡ Some place
-    → IsPlaceOf w v place
-place_of g d w v place says within at = let it = place_says g d w v place says within at in record { head = it.0; block = it.1 }
-
--- the links home are those for the head
-pub home_linked : (og : OrderedGraph) (s : ℕ) (up down : List ℕ) (home : Home) → s < length og.g.ids → AreLinked og.g og.w Up s up
-    → AreLinked og.g og.w Down s down → slice_get up (og.w.head s) ≡ Some home.up → slice_get down (og.w.head s) ≡ Some home.down → IsHome og.g og.w s home
-home_linked og s up down home s_within ups downs at_up at_down = record {
-  up = λ more. ups.each (og.w.head s) home.up at_up (shares more);
-  down = λ more. downs.each (og.w.head s) home.down at_down (shares more);
-}
-  where
-    shares : HasMoreLinks og.g og.w (og.w.block s) → AreInCommonBlockOfMoreLinks og.g og.w s (og.w.head s)
-    shares more = record {
-      block = og.w.block s;
-      head = og.w.head s;
-      share = record { two = not_own_head og s s_within more; common = ToHead refl refl refl; more = more };
-    }
+-- and two that do
+pub differ_by : (a b : ℕ) (differ : Bool) → differ ≡ not (a == b) → differ ≡ true → a ≢ b
+differ_by a b differ is holds = eqb-false a b (not-true (a == b) (sym is ∙ holds))

@@ -1,40 +1,51 @@
 -- What the blocks aim at, as the way to the root is gone head by head.
-use Rattle.std.proofs.Common.{◌≡◌, ◌≢◌, ◌⊎◌, ◌∙◌, ◌<◌, ◌≤◌, ◌+◌, ◌*◌, ℕ, List, length, set, inl, inr, refl, sym, ap, subst, arith}
+use Rattle.std.proofs.Common.{◌≡◌, ◌≢◌, ◌⊎◌, ◌∙◌, ◌<◌, ◌≤◌, ◌+◌, ◌*◌, ℕ, Bool, true, List, Some, length, set, slice_get, inl, inr, refl, sym, ap, subst, arith}
 use Rattle.std.proofs.lemmas.Bool.{cases_eq, cases_lt}
 use Rattle.std.proofs.lemmas.List.{get_or-set_other, get_or-set_same}
 use Rattle.mrt_graph.specs.Topology.{Topology}
 use Rattle.link_direction.specs.Directions.{Directions}
 use Rattle.inc_dec_spf.specs.BlockAims.{aim_at}
+use Rattle.inc_dec_spf.specs.LeastPath.{HasMoreLinks}
 use Rattle.inc_dec_spf.proofs.SideBySide.{row_within}
 use Rattle.mrt_rows.specs.Chain.{AreWayAims, Climbs, IsOnWay, There}
 use Rattle.mrt_rows.proofs.ChainAims.{climb_low, climb_on, further, root_alone}
 use Rattle.mrt_rows.proofs.OrderedGraphs.{OrderedGraph}
 
--- where the way from t has come to c, the nodes that it has passed are aimed at by their blocks
-pub record IsGone (g : Topology) (root : ℕ) (w : Directions) (t c : ℕ) (aim : ℕ → ℕ) : Type 0 where
+-- where the way from t has come to c, the nodes that it has passed are aimed at by their blocks, and these are marked
+pub record IsGone (g : Topology) (root : ℕ) (w : Directions) (t c : ℕ) (aim : ℕ → ℕ) (marks : List Bool) : Type 0 where
   pub to_c : Climbs root w t c
-  pub on : (b : ℕ) → Climbs root w t b → b ≢ root → ((aim (w.block b) ≡ b) × (w.order c ≤ w.order (w.head b))) ⊎ Climbs root w c b
+  pub on : (b : ℕ) → Climbs root w t b → b ≢ root
+      → ((aim (w.block b) ≡ b) × (HasMoreLinks g w (w.block b) → slice_get marks (w.block b) ≡ Some true) × (w.order c ≤ w.order (w.head b)))
+      ⊎ Climbs root w c b
   pub off : (y : ℕ) → y < length g.ids → (aim (w.block y) ≡ w.head y) ⊎ IsOnWay root w t y (aim (w.block y))
 
-pub none_gone : (g : Topology) (root : ℕ) (w : Directions) (t : ℕ) (aim : ℕ → ℕ) → ((y : ℕ) → y < length g.ids → aim (w.block y) ≡ w.head y)
-    → IsGone g root w t t aim
-none_gone g root w t aim heads = record { to_c = There refl; on = λ b to_b other. inr to_b; off = λ y within. inl (heads y within) }
+pub none_gone : (g : Topology) (root : ℕ) (w : Directions) (t : ℕ) (aim : ℕ → ℕ) (marks : List Bool)
+    → ((y : ℕ) → y < length g.ids → aim (w.block y) ≡ w.head y) → IsGone g root w t t aim marks
+none_gone g root w t aim marks heads = record { to_c = There refl; on = λ b to_b other. inr to_b; off = λ y within. inl (heads y within) }
 
-module _ (og : OrderedGraph) (t c : ℕ) (t_within : t < length og.g.ids) (aim : ℕ → ℕ) (so_far : IsGone og.g og.root og.w t c aim) where
+module _ (og : OrderedGraph) (t c : ℕ) (t_within : t < length og.g.ids) (aim : ℕ → ℕ) (marks : List Bool)
+    (so_far : IsGone og.g og.root og.w t c aim marks) where
   pub one_gone : c < length og.g.ids → c ≢ og.root → (after : ℕ → ℕ) → after (og.w.block c) ≡ c
-      → ((k : ℕ) → k ≢ og.w.block c → after k ≡ aim k) → IsGone og.g og.root og.w t (og.w.head c) after
-  one_gone within other after there elsewhere = record {
+      → ((k : ℕ) → k ≢ og.w.block c → after k ≡ aim k) → (now : List Bool)
+      → (HasMoreLinks og.g og.w (og.w.block c) → slice_get now (og.w.block c) ≡ Some true)
+      → ((k : ℕ) → slice_get marks k ≡ Some true → slice_get now k ≡ Some true) → IsGone og.g og.root og.w t (og.w.head c) after now
+  one_gone within other after there elsewhere now marked stay = record {
     to_c = climb_on og.root og.w t c so_far.to_c other;
     on = λ b to_b b_other. elim (so_far.on b to_b b_other) [
       | inl it ↦ elim (cases_eq (og.w.block b) (og.w.block c)) [
         | inl same ↦
             let head = og.ordered.heads.one_head b c (climb_low og t b t_within to_b).0 within same in
-            absurd (omega (arith, it.1, ap og.w.order head, lower))
-        | inr apart ↦ inl (elsewhere (og.w.block b) apart ∙ it.0, omega (arith, it.1, lower))
+            absurd (omega (arith, it.2, ap og.w.order head, lower))
+        | inr apart ↦
+            inl (elsewhere (og.w.block b) apart ∙ it.0, (λ more. stay (og.w.block b) (it.1 more)), omega (arith, it.2, lower))
       ]
       | inr ahead ↦ elim (cases_eq b c) [
         | inl same ↦
-            inl (ap after (ap og.w.block same) ∙ there ∙ sym same, omega (arith, ap og.w.order (ap og.w.head same)))
+            inl (
+              ap after (ap og.w.block same) ∙ there ∙ sym same,
+              subst (λ (v : ℕ). HasMoreLinks og.g og.w (og.w.block v) → slice_get now (og.w.block v) ≡ Some true) (sym same) marked,
+              omega (arith, ap og.w.order (ap og.w.head same)),
+            )
         | inr differ ↦ inr (further og c b differ ahead).1
       ]
     ];
@@ -52,24 +63,29 @@ module _ (og : OrderedGraph) (t c : ℕ) (t_within : t < length og.g.ids) (aim :
       lower : og.w.order (og.w.head c) < og.w.order c
       lower = og.ordered.heads.lower c within other
 
-  pub all_gone : c ≡ og.root → AreWayAims og.g og.root og.w t aim
+  pub all_gone : c ≡ og.root → AreWayAims og.g og.root og.w t aim marks
   all_gone at_root = record {
     on = λ b to_b b_other. elim (so_far.on b to_b b_other) [
       | inl it ↦ it.0
       | inr ahead ↦ absurd (b_other (root_alone og.root og.w c b at_root ahead))
     ];
     off = so_far.off;
+    marked = λ b to_b b_other. elim (so_far.on b to_b b_other) [
+      | inl it ↦ it.1
+      | inr ahead ↦ absurd (b_other (root_alone og.root og.w c b at_root ahead))
+    ];
   }
 
--- aims that are the same
-pub way_aims_too : (g : Topology) (root : ℕ) (w : Directions) (t : ℕ) (aim after : ℕ → ℕ) → ((k : ℕ) → after k ≡ aim k)
-    → AreWayAims g root w t aim → AreWayAims g root w t after
-way_aims_too g root w t aim after same are = record {
+-- aims that are the same, and more marks
+pub way_aims_too : (g : Topology) (root : ℕ) (w : Directions) (t : ℕ) (aim after : ℕ → ℕ) (marks now : List Bool) → ((k : ℕ) → after k ≡ aim k)
+    → ((k : ℕ) → slice_get marks k ≡ Some true → slice_get now k ≡ Some true) → AreWayAims g root w t aim marks → AreWayAims g root w t after now
+way_aims_too g root w t aim after marks now same stay are = record {
   on = λ c to_c other. same (w.block c) ∙ are.on c to_c other;
   off = λ y within. elim (are.off y within) [
     | inl home ↦ inl (same (w.block y) ∙ home)
     | inr it ↦ inr (subst (λ (a : ℕ). IsOnWay root w t y a) (sym (same (w.block y))) it)
   ];
+  marked = λ c to_c other more. stay (w.block c) (are.marked c to_c other more);
 }
 
 -- places of different blocks, and different places of one block, are not the same

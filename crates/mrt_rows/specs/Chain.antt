@@ -32,19 +32,13 @@ pub record IsOnWay (root : ℕ) (w : Directions) (t y c : ℕ) : Type 0 where
   pub not_root : c ≢ root
   pub in_block : w.block c ≡ w.block y
 
--- each block aims at its node on the way from t to the root, or at its head where it has none
-pub record AreWayAims (g : Topology) (root : ℕ) (w : Directions) (t : ℕ) (aim : ℕ → ℕ) : Type 0 where
+-- each block aims at its node on the way from t to the root, or at its head where it has none; and the blocks of more than one
+-- link in which the nodes on the way lie are marked
+pub record AreWayAims (g : Topology) (root : ℕ) (w : Directions) (t : ℕ) (aim : ℕ → ℕ) (marks : List Bool) : Type 0 where
   pub on : (c : ℕ) → Climbs root w t c → c ≢ root → aim (w.block c) ≡ c
   pub off : (y : ℕ) → y < length g.ids → (aim (w.block y) ≡ w.head y) ⊎ IsOnWay root w t y (aim (w.block y))
-
--- the blocks of more than one link in which the nodes on the way from t to the root lie are marked
-pub record AreWayMarks (g : Topology) (root : ℕ) (w : Directions) (t : ℕ) (marks : List Bool) : Type 0 where
-  pub each : (c : ℕ) → Climbs root w t c → c ≢ root → HasMoreLinks g w (w.block c) → slice_get marks (w.block c) ≡ Some true
-
--- so for each of these destinations
-pub record AreBlockMarks (g : Topology) (root : ℕ) (w : Directions) (targets : List ℕ) (marks : List Bool) : Type 0 where
-  pub each : (j t : ℕ) → slice_get targets j ≡ Some t → AreWayMarks g root w t marks
+  pub marked : (c : ℕ) → Climbs root w t c → c ≢ root → HasMoreLinks g w (w.block c) → slice_get marks (w.block c) ≡ Some true
 
 -- at each place, the blocks aim so for the destination there
-pub record AreBlockAims (g : Topology) (root : ℕ) (w : Directions) (targets aims : List ℕ) : Type 0 where
-  pub each : (j t : ℕ) → slice_get targets j ≡ Some t → AreWayAims g root w t (aim_at aims (length targets) j)
+pub record AreBlockAims (g : Topology) (root : ℕ) (w : Directions) (targets aims : List ℕ) (marks : List Bool) : Type 0 where
+  pub each : (j t : ℕ) → slice_get targets j ≡ Some t → AreWayAims g root w t (aim_at aims (length targets) j) marks

@@ -3,9 +3,8 @@ use Rattle.std.specs.Prelude.{◌≡◌, ◌≢◌, ◌<◌, ℕ, List, Option, 
 use Rattle.mrt_graph.specs.declared.cert.Row.{Row}
 use Rattle.mrt_graph.specs.Certificate.{Certificate, row_of}
 use Rattle.mrt_graph.specs.Column.{rows_of_column}
-use Rattle.mrt_graph.specs.DirectedLists.{DirectedLists}
 use Rattle.mrt_graph.specs.Topology.{Topology}
-use Rattle.link_direction.specs.Directions.{Directions, Says}
+use Rattle.link_direction.specs.Directions.{Directions}
 use Rattle.mrt_rows.specs.RowsOf.{HasRow}
 
 -- at the place of s stands its row for t: that for t among rows of s that are as the table says
@@ -19,10 +18,6 @@ pub record IsColumnOf (g : Topology) (root : ℕ) (w : Directions) (t : ℕ) (co
   pub one_each : length column ≡ length g.ids
   pub at_destination : slice_get column t ≡ Some None
   pub each : (s : ℕ) → s < length g.ids → s ≢ t → HasItsRow g root w t column s
-
--- so by the directions of a graph
-pub record IsColumnBy (g : Topology) (root : ℕ) (d : DirectedLists) (t : ℕ) (column : List (Option Row)) : Type 0 where
-  pub each : (w : Directions) → Says g d w → IsColumnOf g root w t column
 
 -- the column has a certificate's rows of all nodes for t
 pub record HasRowsFor (cert : Certificate) (t : ℕ) (column : List (Option Row)) : Type 0 where

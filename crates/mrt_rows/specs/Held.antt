@@ -1,22 +1,20 @@
 -- What is held between the columns of two destinations, and aimed at one.
 use Rattle.std.specs.Prelude.{◌≡◌, ◌<◌, ◌*◌, ℕ, List, Some, length, slice_get}
 use Rattle.mrt_graph.specs.DirectedLists.{DirectedLists}
-use Rattle.mrt_graph.specs.GraphInvariant.{IsTopology}
 use Rattle.mrt_graph.specs.Topology.{Topology}
-use Rattle.link_direction.specs.Directions.{Directions, Says}
-use Rattle.link_direction.specs.OrderedGadag.{SaysOrdered}
+use Rattle.link_direction.specs.Directions.{Directions}
 use Rattle.inc_dec_spf.specs.declared.reach.Dir.TheVariants.{Down, Up}
 use Rattle.inc_dec_spf.specs.Tile.{IsAimed, IsTile}
 use Rattle.mrt_rows.specs.declared.column.Columns.{Columns}
 use Rattle.mrt_rows.specs.declared.column.Target.{Target}
-use Rattle.mrt_rows.specs.Chain.{AreBelow, AreBlockAims, AreBlockMarks}
+use Rattle.mrt_rows.specs.Chain.{AreBelow, AreBlockAims}
 use Rattle.mrt_rows.specs.Common.{AreCommon}
+use Rattle.mrt_rows.specs.Said.{AreRooted, directions_of}
 
 -- what the blocks aim at for the destinations in their places; marks on the blocks of more than one link on the way from
 -- one of these to the root; and tiles that are aimed so in the marked blocks
 pub record AreTilesAimed (g : Topology) (root : ℕ) (w : Directions) (held : Columns) : Type 0 where
-  pub aims : AreBlockAims g root w held.targets.items held.aims.items
-  pub marks : AreBlockMarks g root w held.targets.items held.wanted.items
+  pub aims : AreBlockAims g root w held.targets.items held.aims.items held.wanted.items
   pub up : IsAimed g w held.wanted.items Up held.aims.items held.up
   pub down : IsAimed g w held.wanted.items Down held.aims.items held.down
 
@@ -39,9 +37,8 @@ AreHeld g root w held = AreHeldFor g root w held held.targets.items
 -- by the directions of the graph: the tiles are aimed at the destination at its place, and the nodes on its way to the root
 -- are below their heads
 pub record AreAimed (g : Topology) (root : ℕ) (d : DirectedLists) (columns : Columns) (to : Target) : Type 0 where
-  pub kept : IsTopology g
-  pub directed : SaysOrdered g root d
+  pub rooted : AreRooted g root d
   pub within : to.node < length g.ids
-  pub held : (w : Directions) → Says g d w → AreHeld g root w columns
-  pub below : (w : Directions) → Says g d w → AreBelow g root w to.node columns.below.items
+  pub held : AreHeld g root (directions_of g d) columns
+  pub below : AreBelow g root (directions_of g d) to.node columns.below.items
   pub place : slice_get columns.targets.items to.at ≡ Some to.node

@@ -3,7 +3,6 @@ pub mod Chain
 pub mod ColumnOf
 pub mod Common
 pub mod DirectedFrom
-pub mod FirstLinks
 pub mod Held
 pub mod Making
 pub mod NearOf
@@ -14,5 +13,6 @@ pub mod RowLines
 pub mod RowsFound
 pub mod RowsOf
 pub mod RowsTo
+pub mod Said
 pub mod Source
 pub mod TheColumn

@@ -7,9 +7,8 @@ use Rattle.mrt_graph.specs.Tags.{is_near}
 use Rattle.mrt_graph.specs.Topology.{Topology}
 use Rattle.link_direction.specs.CommonBlock.{HaveCommonBlock}
 use Rattle.link_direction.specs.Directions.{Directions}
-use Rattle.inc_dec_spf.specs.declared.reach.Dir.{Dir}
-use Rattle.inc_dec_spf.specs.FirstLink.{IsFirstLink, no_link}
-use Rattle.mrt_rows.specs.Put.{IsOwnRow, AreInCommonBlockOfMoreLinks}
+use Rattle.inc_dec_spf.specs.FirstLink.{no_link}
+use Rattle.mrt_rows.specs.Put.{IsOwnRow}
 use Rattle.mrt_rows.specs.RowLines.{HasOneLink}
 
 -- of the rows of node s in a certificate, those that are near, by ascending destination
@@ -49,7 +48,3 @@ pub record AreSoles (g : Topology) (w : Directions) (soles : List ℕ) : Type 0 
 pub record IsPlaceOf (w : Directions) (v : ℕ) (place : Place) : Type 0 where
   pub head : place.head ≡ w.head v
   pub block : place.block ≡ w.block v
-
--- the links by which s begins the least paths to the nodes with which it has a block of more than one link in common
-pub record AreLinked (g : Topology) (w : Directions) (dir : Dir) (s : ℕ) (links : List ℕ) : Type 0 where
-  pub each : (t link : ℕ) → slice_get links t ≡ Some link → AreInCommonBlockOfMoreLinks g w s t → IsFirstLink g w dir s t link

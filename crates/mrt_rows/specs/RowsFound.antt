@@ -2,7 +2,7 @@
 use Rattle.std.specs.Prelude.{ℕ, List}
 use Rattle.mrt_graph.specs.declared.cert.Row.{Row}
 use Rattle.mrt_graph.specs.DirectedLists.{DirectedLists}
-use Rattle.mrt_rows.specs.declared.making.Making.{Making}
+use Rattle.mrt_rows.specs.declared.of_source.Making.{Making}
 
 -- the root, the directions from it, what makes the rows, room for so many, and the rows that were found last
 pub record RowsFound : Type 0 where

@@ -4,11 +4,11 @@ use Rattle.mrt_graph.specs.Topology.{Topology}
 use Rattle.link_direction.specs.Directions.{Directions}
 use Rattle.mrt_rows.specs.declared.row_over.Source.{Source}
 use Rattle.mrt_rows.specs.NearOf.{IsPlaceOf, IsSoleOf}
-use Rattle.mrt_rows.specs.Put.{IsHome}
+use Rattle.mrt_rows.specs.Put.{AreFirstLinks}
 
 -- its place, the sole link of its block and its links home are as the directions say
 pub record IsSourceBy (g : Topology) (w : Directions) (source : Source) : Type 0 where
   pub within : source.node < length g.ids
   pub place : IsPlaceOf w source.node source.place
   pub sole : IsSoleOf g w source.node source.sole
-  pub home : IsHome g w source.node source.home
+  pub home : AreFirstLinks g w source.node (w.head source.node) source.home

@@ -1,19 +1,16 @@
 //! The columns of destinations.
 
-ghost use Rattle.std.specs.Prelude.{◌≡◌, ◌≢◌, ◌<◌, ℕ, [], IfOk, IfSome, Some, length, slice_get, true};
-ghost use Rattle.mrt_graph.specs.GraphInvariant.{IsTopology};
-ghost use Rattle.link_direction.specs.{Directions.Directions, Directions.Says, OrderedGadag.SaysOrdered};
-ghost use Rattle.inc_dec_spf.specs.{declared.reach.Dir.TheVariants.Down, declared.reach.Dir.TheVariants.Up, BlockAims.IsAimOf, BlockAims.aim_at};
-ghost use Rattle.inc_dec_spf.specs.{LeastPath.HaveCommonBlockOfMoreLinks, Tile.IsAimed};
-ghost use Rattle.mrt_rows.specs.{Chain.AreBelow, Chain.IsRowAim, ColumnOf.IsRowIn, NearOf.IsNearRow};
-ghost use Rattle.mrt_rows.specs.Held.{AreAimed, AreHeld, AreHeldFor};
+ghost use Rattle.std.specs.Prelude.{◌≡◌, ◌≢◌, ◌<◌, ◌*◌, ℕ, [], IfOk, IfSome, Some, length, slice_get, true};
+ghost use Rattle.inc_dec_spf.specs.BlockAims.{aim_at};
+ghost use Rattle.mrt_rows.specs.Chain.{AreBelow, AreBlockAims, AreWayAims, IsRowAim};
+ghost use Rattle.mrt_rows.specs.{ColumnOf.IsRowIn, NearOf.AreSoles, NearOf.IsNearRow};
+ghost use Rattle.mrt_rows.specs.{Held.AreAimed, Held.AreHeld, Held.AreHeldFor, Said.IsNode, Said.IsRooted, Said.words_of};
 
-use crate::block_aims::{mark_ways, put_block_aims};
-use crate::chain::put_below;
-use crate::common::{Common, common_of};
-use crate::row_over::{Source, row_home, row_over};
-use inc_dec_spf::{Aiming, Dir, Tile};
-use mrt_graph::{Directed, Graph, NoMemory, NodeNo, Row};
+use crate::common::{Common, mark};
+use crate::directed::Rooted;
+use crate::row_over::{FirstLinks, row_home};
+use inc_dec_spf::{Aiming, Dir, Tile, put_heads};
+use mrt_graph::{LinkNo, NoMemory, NodeNo, Row};
 use std::alloc::Global;
 
 /// So many destinations are taken side by side.
@@ -26,9 +23,9 @@ pub struct Target {
     pub at: usize,
 }
 
-/// What the columns of all destinations have in common, and the room in which they are made: the nodes below others on the way
-/// from one of them to the root; some destinations side by side, what the blocks aim at for them, marks on the blocks of more
-/// than one link on the way from one of them to the root, and tiles that are aimed so in the marked blocks.
+/// What the rows of all nodes have in common, and the room in which columns are made: the nodes below others on the way from one
+/// destination to the root; some destinations side by side, what the blocks aim at for them, marks on the blocks of more than
+/// one link on the way from one of them to the root, and tiles that are aimed so in the marked blocks.
 #[derive(Drop)]
 pub struct Columns {
     pub common: Common,
@@ -44,26 +41,20 @@ impl Columns {
     /// What the columns have in common, and room for so many destinations side by side.
     ///
     /// It takes time in proportion to the nodes and the links.
-    pub fn new(
-        alloc: Global,
-        g: &Graph,
-        root: NodeNo,
-        d: &Directed,
-        width: u16,
-    ) -> Result<Columns, NoMemory>
-        requires ordered { SaysOrdered g.now root d.now }
+    pub fn new(alloc: Global, rooted: &Rooted, width: u16) -> Result<Columns, NoMemory>
+        requires rooted { IsRooted rooted.now }
         requires some { 0 < width }
-        ensures { (w : Directions) → Says g.now d.now w → IfOk result (AreHeld g.now root w) }
+        ensures { IfOk result (AreHeld rooted.now.graph.now rooted.now.root (words_of rooted.now)) }
     {
-        let count = g.node_count();
-        let common = common_of(alloc, g, d)?;
+        let count = rooted.graph.node_count();
+        let common = Common::new(alloc, rooted)?;
         let below = vec![in alloc; None; count as usize]?;
         // there is no such node, so nothing is aimed at yet
         let targets = vec![in alloc; NodeNo::new(count); width as usize]?;
-        let aims = vec![in alloc; root; count as usize * width as usize]?;
+        let aims = vec![in alloc; rooted.root; count as usize * width as usize]?;
         let wanted = vec![in alloc; false; count as usize]?;
-        let up = Tile::new(alloc, g, width)?;
-        let down = Tile::new(alloc, g, width)?;
+        let up = Tile::new(alloc, rooted.graph, width)?;
+        let down = Tile::new(alloc, rooted.graph, width)?;
         Ok(Columns {
             common,
             below,
@@ -79,75 +70,56 @@ impl Columns {
     ///
     /// Where the tiles are not aimed at `to`, they are aimed at it and the next nodes by number, the marked ones among them if
     /// there are marks, in time in proportion to the links times the width. It takes no memory.
-    pub fn aim(
-        &mut self,
-        g: &Graph,
-        root: NodeNo,
-        d: &Directed,
-        to: NodeNo,
-        marks: Option<&[bool]>,
-    ) -> Target
-        requires kept { IsTopology g.now }
-        requires directed { SaysOrdered g.now root d.now }
-        requires to { to < length g.now.ids }
-        requires marks { IfSome marks (λ marks. length marks.now ≡ length g.now.ids) }
-        requires held { (w : Directions) → Says g.now d.now w → AreHeld g.now root w self.old }
+    pub fn aim(&mut self, rooted: &Rooted, to: NodeNo, marks: Option<&[bool]>) -> Target
+        requires rooted { IsRooted rooted.now }
+        requires to { IsNode rooted.now to }
+        requires marks { IfSome marks (λ marks. length marks.now ≡ length rooted.now.graph.now.ids) }
+        requires held { AreHeld rooted.now.graph.now rooted.now.root (words_of rooted.now) self.old }
         ensures node { result.node ≡ to }
-        ensures aimed { AreAimed g.now root d.now self.new result }
+        ensures aimed { AreAimed rooted.now.graph.now rooted.now.root rooted.now.directed.now self.new result }
     {
-        let at = self.place_for(g, root, d, to, marks);
-        put_below(g, root, d, to, &mut self.below);
+        let at = self.place_for(rooted, to, marks);
+        put_below(rooted, to, &mut self.below);
         Target { node: to, at }
     }
 
     /// The place of `to` among the destinations that the tiles are aimed at; they are aimed anew where it has none.
-    fn place_for(
-        &mut self,
-        g: &Graph,
-        root: NodeNo,
-        d: &Directed,
-        to: NodeNo,
-        marks: Option<&[bool]>,
-    ) -> usize
-        requires kept { IsTopology g.now }
-        requires directed { SaysOrdered g.now root d.now }
-        requires to { to < length g.now.ids }
-        requires marks { IfSome marks (λ marks. length marks.now ≡ length g.now.ids) }
-        requires held { (w : Directions) → Says g.now d.now w → AreHeld g.now root w self.old }
-        ensures held { (w : Directions) → Says g.now d.now w → AreHeld g.now root w self.new }
+    fn place_for(&mut self, rooted: &Rooted, to: NodeNo, marks: Option<&[bool]>) -> usize
+        requires rooted { IsRooted rooted.now }
+        requires to { IsNode rooted.now to }
+        requires marks { IfSome marks (λ marks. length marks.now ≡ length rooted.now.graph.now.ids) }
+        requires held { AreHeld rooted.now.graph.now rooted.now.root (words_of rooted.now) self.old }
+        ensures held { AreHeld rooted.now.graph.now rooted.now.root (words_of rooted.now) self.new }
         ensures place { slice_get self.new.targets.items result ≡ Some to }
     {
         match place_of(&self.targets, to) {
             Some(at) => at,
             None => {
-                take_next(marks, g.node_count(), to, &mut self.targets);
-                self.aim_tiles(g, root, d);
+                take_next(marks, rooted.graph.node_count(), to, &mut self.targets);
+                self.aim_tiles(rooted);
                 0
             }
         }
     }
 
     /// Aims the tiles at the destinations in their places.
-    fn aim_tiles(&mut self, g: &Graph, root: NodeNo, d: &Directed)
-        requires kept { IsTopology g.now }
-        requires directed { SaysOrdered g.now root d.now }
-        requires within { (j t : ℕ) → slice_get self.old.targets.items j ≡ Some t → t < length g.now.ids }
-        requires held { (w : Directions) → Says g.now d.now w → AreHeldFor g.now root w self.old [] }
-        ensures held { (w : Directions) → Says g.now d.now w → AreHeld g.now root w self.new }
+    fn aim_tiles(&mut self, rooted: &Rooted)
+        requires rooted { IsRooted rooted.now }
+        requires within { (j t : ℕ) → slice_get self.old.targets.items j ≡ Some t → IsNode rooted.now t }
+        requires held { AreHeldFor rooted.now.graph.now rooted.now.root (words_of rooted.now) self.old [] }
+        ensures held { AreHeld rooted.now.graph.now rooted.now.root (words_of rooted.now) self.new }
         ensures targets { self.new.targets.items ≡ self.old.targets.items }
     {
-        put_block_aims(g, root, d, &self.targets, &mut self.aims);
-        mark_ways(
-            g,
-            root,
-            d,
+        put_ways(
+            rooted,
             &self.common.soles,
             &self.targets,
+            &mut self.aims,
             &mut self.wanted,
         );
         let up = Aiming {
-            graph: g,
-            directed: d,
+            graph: rooted.graph,
+            directed: rooted.directed,
             dir: Dir::Up,
             turns: self.common.against_order.as_slice(),
             aims: self.aims.as_slice(),
@@ -155,8 +127,8 @@ impl Columns {
         };
         self.up.aim(&up, &self.common.heads);
         let down = Aiming {
-            graph: g,
-            directed: d,
+            graph: rooted.graph,
+            directed: rooted.directed,
             dir: Dir::Down,
             turns: self.common.by_order.as_slice(),
             aims: self.aims.as_slice(),
@@ -166,89 +138,50 @@ impl Columns {
     }
 
     /// The row of `s` for `to`, by its row for what it aims at.
-    pub fn row(&self, g: &Graph, root: NodeNo, d: &Directed, s: NodeNo, to: Target) -> Option<Row>
-        requires aimed { AreAimed g.now root d.now self.now to }
-        requires source { s < length g.now.ids }
+    pub fn row(&self, rooted: &Rooted, s: NodeNo, to: Target) -> Option<Row>
+        requires aimed { AreAimed rooted.now.graph.now rooted.now.root rooted.now.directed.now self.now to }
+        requires source { IsNode rooted.now s }
         requires two { s ≢ to.node }
-        ensures { (w : Directions) → Says g.now d.now w → IsRowIn g.now root w s to.node result }
+        ensures { IsRowIn rooted.now.graph.now rooted.now.root (words_of rooted.now) s to.node result }
     {
-        let aim = self.aim_of(g, root, d, s, to.node);
-        let target = Target {
-            node: aim,
-            at: to.at,
-        };
-        let row = self.aimed_row(g, root, d, s, target)?;
+        let aim = self.aim_of(rooted, s, to);
+        let row = self.aimed_row(rooted, s, to, aim)?;
         if aim == to.node {
             return Some(row);
         }
         Some(row.carried())
     }
 
-    /// What s aims at: the node below it on the way from `to` to the root; the one that lies in its block; or its head.
-    fn aim_of(&self, g: &Graph, root: NodeNo, d: &Directed, s: NodeNo, to: NodeNo) -> NodeNo
-        requires kept { IsTopology g.now }
-        requires directed { SaysOrdered g.now root d.now }
-        requires source { s < length g.now.ids }
-        requires to { to < length g.now.ids }
-        requires below { (w : Directions) → Says g.now d.now w
-            → AreBelow g.now root w to self.now.below.items }
-        ensures { (w : Directions) → Says g.now d.now w → IsRowAim w self.now.below.items s result }
+    /// What s aims at: the node below it on the way from the destination to the root, or else what its block aims at.
+    fn aim_of(&self, rooted: &Rooted, s: NodeNo, to: Target) -> NodeNo
+        requires aimed { AreAimed rooted.now.graph.now rooted.now.root rooted.now.directed.now self.now to }
+        requires source { IsNode rooted.now s }
+        ensures { IsRowAim (words_of rooted.now) self.now.below.items s result }
     {
         if let Some(under) = self.below[s.get() as usize] {
             return under;
         }
-        let here = d.place(s);
-        if let Some(beside) = self.below[here.head.get() as usize] {
-            if d.place(beside).block == here.block {
-                return beside;
-            }
-        }
-        here.head
+        let at = rooted.place(s).block.get() as usize * self.targets.len();
+        self.aims[at + to.at]
     }
 
     /// The row of `s` for what it aims at. The links home are held.
-    fn aimed_row(
-        &self,
-        g: &Graph,
-        root: NodeNo,
-        d: &Directed,
-        s: NodeNo,
-        aim: Target,
-    ) -> Option<Row>
-        requires kept { IsTopology g.now }
-        requires directed { SaysOrdered g.now root d.now }
-        requires source { s < length g.now.ids }
-        requires aim { aim.node < length g.now.ids }
-        requires two { s ≢ aim.node }
-        requires place { aim.at < length self.now.targets.items }
-        requires held { (w : Directions) → Says g.now d.now w → AreHeld g.now root w self.now }
-        ensures { (w : Directions) → Says g.now d.now w
-            → IsAimed g.now w self.now.wanted.items Up self.now.aims.items self.now.up
-            → IsAimed g.now w self.now.wanted.items Down self.now.aims.items self.now.down
-            → ((k h : ℕ) → HaveCommonBlockOfMoreLinks g.now w s aim.node k h → w.head s ≢ aim.node
-            → slice_get self.now.wanted.items k ≡ Some true)
-            → IsAimOf g.now w (aim_at self.now.aims.items (length self.now.targets.items) aim.at) s aim.node
-            → IsNearRow g.now root w s aim.node result }
+    fn aimed_row(&self, rooted: &Rooted, s: NodeNo, to: Target, aim: NodeNo) -> Option<Row>
+        requires aimed { AreAimed rooted.now.graph.now rooted.now.root rooted.now.directed.now self.now to }
+        requires source { IsNode rooted.now s }
+        requires two { s ≢ to.node }
+        requires aim { IsRowAim (words_of rooted.now) self.now.below.items s aim }
+        ensures { IsNearRow rooted.now.graph.now rooted.now.root (words_of rooted.now) s aim result }
     {
-        let at = s.get() as usize;
-        let here = d.place(s);
-        let source = Source {
-            node: s,
-            place: here,
-            sole: self.common.soles[at],
-            home: self.common.homes[at],
-        };
-        if here.head == aim.node {
-            return Some(row_home(source.sole, &source.home));
+        let source = self.common.source(rooted, s);
+        if source.place.head == aim {
+            return Some(row_home(&source));
         }
-        row_over(
-            &source,
-            aim.node,
-            &d.place(aim.node),
-            self.common.soles[aim.node.get() as usize],
-            self.up.links_of(s)[aim.at],
-            self.down.links_of(s)[aim.at],
-        )
+        let links = FirstLinks {
+            up: self.up.links_of(s)[to.at],
+            down: self.down.links_of(s)[to.at],
+        };
+        self.common.row(rooted, &source, aim, &links)
     }
 }
 
@@ -293,5 +226,86 @@ fn is_marked(marks: Option<&[bool]>, n: u16) -> bool
     match marks {
         Some(marks) => marks[n as usize],
         None => true,
+    }
+}
+
+/// Puts what each block aims at for each of the destinations, at the places of the block: its node on the way from the
+/// destination to the root, or its head where none lies in it; and marks the blocks of more than one link on the ways.
+fn put_ways(
+    rooted: &Rooted,
+    soles: &[LinkNo],
+    targets: &[NodeNo],
+    aims: &mut [NodeNo],
+    marks: &mut [bool],
+)
+    requires rooted { IsRooted rooted.now }
+    requires soles { AreSoles rooted.now.graph.now (words_of rooted.now) soles.now }
+    requires within { (j t : ℕ) → slice_get targets.now j ≡ Some t → IsNode rooted.now t }
+    requires room { length aims.old ≡ length rooted.now.graph.now.ids * length targets.now }
+    requires a_mark_each { length marks.old ≡ length rooted.now.graph.now.ids }
+    ensures room { length aims.new ≡ length aims.old }
+    ensures a_mark_each { length marks.new ≡ length rooted.now.graph.now.ids }
+    ensures aims { AreBlockAims rooted.now.graph.now rooted.now.root (words_of rooted.now) targets.now aims.new marks.new }
+{
+    let width = targets.len();
+    put_heads(rooted.graph, rooted.directed, width, aims);
+    marks.fill(false);
+    for at in 0..width {
+        let to = Target {
+            node: targets[at],
+            at,
+        };
+        put_way(rooted, soles, to, width, aims, marks);
+    }
+}
+
+/// The block of each node on the way from a destination to the root aims at it, at the place of this, and is marked if it has
+/// more links.
+fn put_way(
+    rooted: &Rooted,
+    soles: &[LinkNo],
+    to: Target,
+    width: usize,
+    aims: &mut [NodeNo],
+    marks: &mut [bool],
+)
+    requires rooted { IsRooted rooted.now }
+    requires soles { AreSoles rooted.now.graph.now (words_of rooted.now) soles.now }
+    requires to { IsNode rooted.now to.node }
+    requires place { to.at < width }
+    requires room { length aims.old ≡ length rooted.now.graph.now.ids * width }
+    requires a_mark_each { length marks.old ≡ length rooted.now.graph.now.ids }
+    ensures room { length aims.new ≡ length aims.old }
+    ensures a_mark_each { length marks.new ≡ length rooted.now.graph.now.ids }
+    ensures way { ((y : ℕ) → IsNode rooted.now y
+        → aim_at aims.old width to.at ((words_of rooted.now).block y) ≡ (words_of rooted.now).head y)
+        → AreWayAims rooted.now.graph.now rooted.now.root (words_of rooted.now) to.node (aim_at aims.new width to.at) marks.new }
+    ensures others { (i k : ℕ) → i < width → i ≢ to.at
+        → aim_at aims.new width i k ≡ aim_at aims.old width i k }
+    ensures stay { (k : ℕ) → slice_get marks.old k ≡ Some true → slice_get marks.new k ≡ Some true }
+{
+    let mut c = to.node;
+    while c != rooted.root {
+        let place = rooted.place(c);
+        let at = place.block.get() as usize * width;
+        aims[at + to.at] = c;
+        mark(place.block, soles[c.get() as usize], marks);
+        c = place.head;
+    }
+}
+
+/// Puts for each node the node below it on the way from `to` to the root.
+fn put_below(rooted: &Rooted, to: NodeNo, below: &mut [Option<NodeNo>])
+    requires rooted { IsRooted rooted.now }
+    requires to { IsNode rooted.now to }
+    requires one_each { length below.old ≡ length rooted.now.graph.now.ids }
+    ensures { AreBelow rooted.now.graph.now rooted.now.root (words_of rooted.now) to below.new }
+{
+    below.fill(None);
+    let mut c = to;
+    while c != rooted.root {
+        let head = rooted.place(c).head;
+        below[head.get() as usize] = Some(c);
+        c = head;
     }
 }

@@ -3,24 +3,24 @@
 ghost use Rattle.std.specs.Prelude.{◌≡◌, ◌<◌, IfOk, Some, length, slice_get};
 ghost use Rattle.mrt_graph.specs.Column.{ColumnSound};
 ghost use Rattle.link_direction.specs.{Directions.Directions, Directions.Says, OrderedGadag.SaysOrdered};
-ghost use Rattle.mrt_rows.specs.{Held.AreAimed, ColumnOf.IsColumnBy, ColumnOf.IsColumnOf, TheColumn.TheColumn, TheColumn.no_choice};
+ghost use Rattle.mrt_rows.specs.{ColumnOf.IsColumnOf, Held.AreAimed, TheColumn.TheColumn, TheColumn.no_choice};
+ghost use Rattle.mrt_rows.specs.Said.{directions_of, words_of};
 
 use crate::column::{Columns, Target};
+use crate::directed::Rooted;
 use crate::rows_law::columns_are_sound;
 use mrt_graph::{Column, Directed, Graph, NoMemory, NodeNo, Row, RowsOf};
 use std::alloc::Global;
 use std::marker::Model;
 
-/// The rows of all nodes for one destination, each of which is made when it is asked for: the graph, its root and its
+/// The rows of all nodes for one destination, each of which is made when it is asked for: the graph with its root and its
 /// directions, and what its columns have in common, which is aimed at the destination.
 #[derive(Drop)]
 pub struct ColumnView<'a> {
-    graph: &'a Graph,
-    root: NodeNo,
-    directed: &'a Directed,
+    rooted: Rooted<'a>,
     columns: &'a Columns,
     to: Target,
-    ghost column: { TheColumn graph.now root directed.now to.node } by { no_choice graph.now root directed.now to.node },
+    ghost column: { TheColumn rooted.graph.now rooted.root (words_of rooted) to.node } by { no_choice rooted.graph.now rooted.root (words_of rooted) to.node },
 }
 
 impl<'a> Model for ColumnView<'a> {
@@ -32,7 +32,7 @@ impl<'a> Model for ColumnView<'a> {
 
     ghost view = { λ v. v.column.0 };
 
-    ghost invariant = { λ v. AreAimed v.graph.now v.root v.directed.now v.columns.now v.to };
+    ghost invariant = { λ v. AreAimed v.rooted.graph.now v.rooted.root v.rooted.directed.now v.columns.now v.to };
 }
 
 impl<'a> ColumnView<'a> {
@@ -45,12 +45,14 @@ impl<'a> ColumnView<'a> {
         to: Target,
     ) -> ColumnView<'a>
         requires { AreAimed graph.now root directed.now columns.now to }
-        ensures { IsColumnBy graph.now root directed.now to.node result }
+        ensures { IsColumnOf graph.now root (directions_of graph.now directed.now) to.node result }
     {
         ColumnView {
-            graph,
-            root,
-            directed,
+            rooted: Rooted {
+                graph,
+                root,
+                directed,
+            },
             columns,
             to,
         }
@@ -66,8 +68,7 @@ impl<'a> ColumnView<'a> {
         if s == self.to.node {
             return None;
         }
-        self.columns
-            .row(self.graph, self.root, self.directed, s, self.to)
+        self.columns.row(&self.rooted, s, self.to)
     }
 
     /// The column with its rows made.
@@ -76,7 +77,7 @@ impl<'a> ColumnView<'a> {
     pub fn held(&self, alloc: Global) -> Result<Column, NoMemory>
         ensures { IfOk result (λ column. column ≡ self.now) }
     {
-        let count = self.graph.node_count();
+        let count = self.rooted.graph.node_count();
         let mut rows = Vec::with_capacity(alloc, count as usize)?;
         for n in 0..count {
             rows.push_reserved(self.row(NodeNo::new(n)));
@@ -117,8 +118,13 @@ pub fn column_of(
     columns_are_sound();
     // what each graph keeps is told by reading it
     let _count = g.node_count();
-    let mut columns = Columns::new(alloc, g, root, d, 1)?;
-    let aimed = columns.aim(g, root, d, to, None);
+    let rooted = Rooted {
+        graph: g,
+        root,
+        directed: d,
+    };
+    let mut columns = Columns::new(alloc, &rooted, 1)?;
+    let aimed = columns.aim(&rooted, to, None);
     let column = ColumnView::new(g, root, d, &columns, aimed).held(alloc)?;
     Ok(column)
 }

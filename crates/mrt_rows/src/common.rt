@@ -1,47 +1,207 @@
-//! What the columns of all destinations have in common.
+//! What the rows of all nodes have in common.
 
-ghost use Rattle.std.specs.Prelude.{ℕ, IfOk};
-ghost use Rattle.link_direction.specs.Directions.{Directions};
-ghost use Rattle.inc_dec_spf.specs.HasDirections.{AreDirections, HasDirections};
-ghost use Rattle.mrt_rows.specs.Common.{AreCommon};
+ghost use Rattle.std.specs.Prelude.{◌≡◌, ◌≢◌, ◌<◌, ℕ, IfOk, Some, false, length, slice_get, true};
+ghost use Rattle.inc_dec_spf.specs.declared.reach.Dir.TheVariants.{Down, Up};
+ghost use Rattle.inc_dec_spf.specs.{Against.against, FirstLink.no_link, Turns.AreTurns};
+ghost use Rattle.mrt_rows.specs.{Common.AreCommon, Said.IsNode, Said.IsRooted, Said.words_of, Source.IsSourceBy};
+ghost use Rattle.mrt_rows.specs.NearOf.{AreSoles, IsNearRow, IsSoleOf};
+ghost use Rattle.mrt_rows.specs.Put.{AreFirstLinks, AreHeadsMarked, AreHomes, AreInCommonBlockOfMoreLinks, HasHomeLinks};
 
-use crate::heads::mark_heads;
-use crate::homes::homes_of;
-use crate::members::Home;
-use crate::soles::take_soles;
-use inc_dec_spf::{Dir, NO_LINK, nodes_by_turn};
-use mrt_graph::{Directed, Graph, LinkNo, NoMemory, NodeNo};
+use crate::directed::Rooted;
+use crate::row_over::{FirstLinks, Source, end_row, member_row, row_home};
+use inc_dec_spf::{Aiming, Dir, NO_LINK, Tile, is_sole, nodes_by_turn, put_heads};
+use mrt_graph::{LinkNo, NoMemory, NodeNo, Relation, Row, Tag, relation_of};
 use std::alloc::Global;
 
-/// The nodes by their turns, marks on the heads of blocks, the sole links, and the links home of all nodes.
+/// The nodes by their turns, marks on the heads of the blocks of more than one link, the sole links, and the links home of all
+/// nodes.
 #[derive(Drop)]
 pub struct Common {
     pub by_order: Vec<NodeNo>,
     pub against_order: Vec<NodeNo>,
     pub heads: Vec<bool>,
     pub soles: Vec<LinkNo>,
-    pub homes: Vec<Home>,
+    pub homes: Vec<FirstLinks>,
 }
 
-/// What they have in common.
-pub fn common_of(alloc: Global, g: &Graph, d: &Directed) -> Result<Common, NoMemory>
-    requires { HasDirections g.now d.now }
-    ensures { (root : ℕ) (w : Directions) → AreDirections g.now d.now root w
-        → IfOk result (AreCommon g.now w) }
+impl Common {
+    /// What they have in common.
+    ///
+    /// It takes time in proportion to the nodes and the links.
+    pub fn new(alloc: Global, rooted: &Rooted) -> Result<Common, NoMemory>
+        requires { IsRooted rooted.now }
+        ensures { IfOk result (AreCommon rooted.now.graph.now (words_of rooted.now)) }
+    {
+        let count = rooted.graph.node_count() as usize;
+        let by_order = nodes_by_turn(alloc, rooted.graph, rooted.directed, Dir::Up)?;
+        let against_order = nodes_by_turn(alloc, rooted.graph, rooted.directed, Dir::Down)?;
+        let none = LinkNo::new(NO_LINK);
+        let mut soles = vec![in alloc; none; count]?;
+        let mut heads = vec![in alloc; false; count]?;
+        take_soles(rooted, &mut soles, &mut heads);
+        let up = home_tile(alloc, rooted, Dir::Up, &against_order, &heads)?;
+        let down = home_tile(alloc, rooted, Dir::Down, &by_order, &heads)?;
+        let home = FirstLinks {
+            up: none,
+            down: none,
+        };
+        let mut homes = vec![in alloc; home; count]?;
+        take_homes(rooted, &up, &down, &mut homes);
+        Ok(Common {
+            by_order,
+            against_order,
+            heads,
+            soles,
+            homes,
+        })
+    }
+
+    /// Node s, with what its rows are made from.
+    pub fn source(&self, rooted: &Rooted, s: NodeNo) -> Source
+        requires rooted { IsRooted rooted.now }
+        requires common { AreCommon rooted.now.graph.now (words_of rooted.now) self.now }
+        requires node { IsNode rooted.now s }
+        ensures node { result.node ≡ s }
+        ensures source { IsSourceBy rooted.now.graph.now (words_of rooted.now) result }
+    {
+        let at = s.get() as usize;
+        Source {
+            node: s,
+            place: rooted.place(s),
+            sole: self.soles[at],
+            home: self.homes[at],
+        }
+    }
+
+    /// The row of a source for t, by its first links to it. `None` where they have no block in common.
+    pub fn row(
+        &self,
+        rooted: &Rooted,
+        source: &Source,
+        t: NodeNo,
+        links: &FirstLinks,
+    ) -> Option<Row>
+        requires rooted { IsRooted rooted.now }
+        requires common { AreCommon rooted.now.graph.now (words_of rooted.now) self.now }
+        requires source { IsSourceBy rooted.now.graph.now (words_of rooted.now) source.now }
+        requires target { IsNode rooted.now t }
+        requires two { source.now.node ≢ t }
+        requires links { AreFirstLinks rooted.now.graph.now (words_of rooted.now) source.now.node t links.now }
+        ensures { IsNearRow rooted.now.graph.now rooted.now.root (words_of rooted.now) source.now.node t result }
+    {
+        match relation_of(source.node, &source.place, t, &rooted.place(t)) {
+            Relation::OneBlock => Some(member_row(links, &source.home)),
+            Relation::ToHead => Some(row_home(source)),
+            Relation::FromHead => Some(end_row(self.soles[t.get() as usize], links, Tag::Top)),
+            Relation::Apart => None,
+        }
+    }
+
+    /// Whether s may lie in a block of more than one link, which is its own or one that it heads.
+    pub fn is_among_more(&self, rooted: &Rooted, s: NodeNo) -> bool
+        requires common { AreCommon rooted.now.graph.now (words_of rooted.now) self.now }
+        requires node { IsNode rooted.now s }
+        ensures { result ≡ false → (t : ℕ) → IsNode rooted.now t
+            → ¬ AreInCommonBlockOfMoreLinks rooted.now.graph.now (words_of rooted.now) s t }
+    {
+        let at = s.get() as usize;
+        if self.heads[at] {
+            return true;
+        }
+        self.soles[at].get() == NO_LINK
+    }
+}
+
+/// Takes of each node the one link of its block, where that has no other, and else marks its head.
+fn take_soles(rooted: &Rooted, soles: &mut [LinkNo], heads: &mut [bool])
+    requires rooted { IsRooted rooted.now }
+    requires a_sole_each { length soles.old ≡ length rooted.now.graph.now.ids }
+    requires a_mark_each { length heads.old ≡ length rooted.now.graph.now.ids }
+    ensures soles { AreSoles rooted.now.graph.now (words_of rooted.now) soles.new }
+    ensures a_mark_each { length heads.new ≡ length rooted.now.graph.now.ids }
+    ensures heads { AreHeadsMarked rooted.now.graph.now (words_of rooted.now) heads.new }
 {
-    let count = g.node_count() as usize;
-    let by_order = nodes_by_turn(alloc, g, d, Dir::Up)?;
-    let against_order = nodes_by_turn(alloc, g, d, Dir::Down)?;
-    let mut heads = vec![in alloc; false; count]?;
-    mark_heads(g, d, &mut heads);
-    let mut soles = vec![in alloc; LinkNo::new(NO_LINK); count]?;
-    take_soles(g, d, &mut soles);
-    let homes = homes_of(alloc, g, d, &by_order, &against_order, &heads)?;
-    Ok(Common {
-        by_order,
-        against_order,
-        heads,
-        soles,
-        homes,
-    })
+    for n in 0..rooted.graph.node_count() {
+        let v = NodeNo::new(n);
+        let sole = sole_of(rooted, v);
+        soles[n as usize] = sole;
+        mark(rooted.place(v).head, sole, heads);
+    }
+}
+
+/// The one link of the block of node v; none where that has more, or v is the root.
+fn sole_of(rooted: &Rooted, v: NodeNo) -> LinkNo
+    requires rooted { IsRooted rooted.now }
+    requires node { IsNode rooted.now v }
+    ensures { IsSoleOf rooted.now.graph.now (words_of rooted.now) v result }
+{
+    let block = rooted.place(v).block;
+    for end in rooted.graph.ends(v) {
+        let mark = rooted.directed.mark(end.link);
+        if is_sole(mark.role) && mark.block == block {
+            return end.link;
+        }
+    }
+    LinkNo::new(NO_LINK)
+}
+
+/// Marks a node or a block, where there is no sole link.
+pub fn mark(v: NodeNo, sole: LinkNo, marks: &mut [bool])
+    requires { v < length marks.old }
+    ensures one_each { length marks.new ≡ length marks.old }
+    ensures marked { sole ≡ no_link → slice_get marks.new v ≡ Some true }
+    ensures stay { (k : ℕ) → slice_get marks.old k ≡ Some true → slice_get marks.new k ≡ Some true }
+{
+    if sole.get() == NO_LINK {
+        marks[v.get() as usize] = true;
+    }
+}
+
+/// A tile of width one in which each block aims at its head, by the nodes by the turns of the other direction.
+fn home_tile(
+    alloc: Global,
+    rooted: &Rooted,
+    dir: Dir,
+    turns: &[NodeNo],
+    heads: &[bool],
+) -> Result<Tile, NoMemory>
+    requires rooted { IsRooted rooted.now }
+    requires turns { AreTurns rooted.now.graph.now (words_of rooted.now) (against dir) turns.now }
+    requires a_mark_each { length heads.now ≡ length rooted.now.graph.now.ids }
+    requires heads { AreHeadsMarked rooted.now.graph.now (words_of rooted.now) heads.now }
+    ensures { IfOk result (HasHomeLinks rooted.now.graph.now (words_of rooted.now) dir) }
+{
+    let count = rooted.graph.node_count() as usize;
+    let mut aims = vec![in alloc; rooted.root; count]?;
+    put_heads(rooted.graph, rooted.directed, 1, &mut aims);
+    let wanted = vec![in alloc; true; count]?;
+    let mut tile = Tile::new(alloc, rooted.graph, 1)?;
+    let aiming = Aiming {
+        graph: rooted.graph,
+        directed: rooted.directed,
+        dir,
+        turns,
+        aims: aims.as_slice(),
+        wanted: wanted.as_slice(),
+    };
+    tile.aim(&aiming, heads);
+    Ok(tile)
+}
+
+/// Takes the links home of all nodes from two such tiles.
+fn take_homes(rooted: &Rooted, up: &Tile, down: &Tile, homes: &mut [FirstLinks])
+    requires rooted { IsRooted rooted.now }
+    requires up { HasHomeLinks rooted.now.graph.now (words_of rooted.now) Up up.now }
+    requires down { HasHomeLinks rooted.now.graph.now (words_of rooted.now) Down down.now }
+    requires one_each { length homes.old ≡ length rooted.now.graph.now.ids }
+    ensures one_each { length homes.new ≡ length rooted.now.graph.now.ids }
+    ensures homes { AreHomes rooted.now.graph.now (words_of rooted.now) homes.new }
+{
+    for n in 0..rooted.graph.node_count() {
+        let s = NodeNo::new(n);
+        homes[n as usize] = FirstLinks {
+            up: up.links_of(s)[0],
+            down: down.links_of(s)[0],
+        };
+    }
 }

@@ -3,13 +3,32 @@
 ghost use Rattle.std.specs.Prelude.{◌<◌, IfOk, length};
 ghost use Rattle.mrt_graph.specs.GraphInvariant.{IsTopology};
 ghost use Rattle.link_direction.specs.OrderedGadag.{SaysOrdered};
-ghost use Rattle.mrt_rows.specs.DirectedFrom.{IsDirectedFrom};
+ghost use Rattle.mrt_rows.specs.{DirectedFrom.IsDirectedFrom, NearOf.IsPlaceOf, Said.IsNode, Said.IsRooted, Said.words_of};
 
 use gadag_ears::ears;
 use link_direction::direct;
 use lowpoint_dfs::search;
-use mrt_graph::{Directed, Graph, NoMemory, NodeNo};
+use mrt_graph::{Directed, Graph, NoMemory, NodeNo, Place};
 use std::alloc::Global;
+
+/// A graph, its root, and its directions from it.
+#[derive(Clone, Copy)]
+pub struct Rooted<'a> {
+    pub graph: &'a Graph,
+    pub root: NodeNo,
+    pub directed: &'a Directed,
+}
+
+impl<'a> Rooted<'a> {
+    /// The head and the block of node v.
+    pub fn place(&self, v: NodeNo) -> Place
+        requires rooted { IsRooted self.now }
+        requires node { IsNode self.now v }
+        ensures { IsPlaceOf (words_of self.now) v result }
+    {
+        self.directed.place(v)
+    }
+}
 
 /// The order of a graph's nodes and the directions of its links: the search from a root, the ears, and the order.
 ///

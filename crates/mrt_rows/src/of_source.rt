@@ -1,18 +1,149 @@
-//! The rows of one node.
+//! The rows of one node, and of one after another.
 
-ghost use Rattle.std.specs.Prelude.{◌≡◌, ◌≢◌, ◌<◌, ℕ, IfOk, Some, length, slice_get};
+ghost use Rattle.std.specs.Prelude.{◌≡◌, ◌≢◌, ◌<◌, ◌≤◌, ◌+◌, ◌↔◌, ℕ, Option, IfOk, IsTrue, None, Some, length, slice_get, take};
 ghost use Rattle.std.specs.Option.{option_map};
-ghost use Rattle.mrt_graph.specs.{GraphInvariant.IsTopology, Tags.carried, Topology.Topology};
-ghost use Rattle.link_direction.specs.{Directions.Directions, Directions.Says, OrderedGadag.IsOrderedGadag, OrderedGadag.SaysOrdered};
-ghost use Rattle.inc_dec_spf.specs.{declared.reach.Dir.TheVariants.Up, HasDirections.AreDirections, HasDirections.HasDirections, Turns.AreTurns};
-ghost use Rattle.mrt_rows.specs.{ColumnOf.IsRowIn, FirstLinks.AreFirstLinks, NearOf.IsNearRow, RowsOf.AreRowsOf, Source.IsSourceBy};
+ghost use Rattle.mrt_graph.specs.{declared.cert.Row.Row, Tags.carried};
+ghost use Rattle.link_direction.specs.{Directions.Directions, Directions.Says, OrderedGadag.SaysOrdered};
+ghost use Rattle.mrt_rows.specs.{ColumnOf.IsRowIn, Making.IsMaking, Making.IsOpenFor, Put.AreFirstLinks, RowsOf.AreRowsOf, RowsOf.HasRow};
+ghost use Rattle.mrt_rows.specs.NearOf.{IsNearRow, IsPlaceOf, near_first};
+ghost use Rattle.mrt_rows.specs.{Said.IsNode, Said.IsRooted, Said.words_of, Source.IsSourceBy};
 
-use crate::first_links::FirstLinks;
-use crate::making::Making;
-use crate::row_over::{Source, end_row, row_home, row_to, source_of};
-use inc_dec_spf::NO_LINK;
-use mrt_graph::{Directed, Graph, LinkNo, NoMemory, NodeNo, Row, Tag, carrier_of};
+use crate::common::Common;
+use crate::directed::Rooted;
+use crate::row_over::{FirstLinks, Source, row_home};
+use inc_dec_spf::{Dir, Fan, NO_LINK};
+use mrt_graph::{Directed, Graph, LinkNo, NoMemory, NodeNo, Row, Tag, carrier_of, relation_of};
 use std::alloc::Global;
+
+/// What the rows of all nodes have in common, and the first links of so many sources side by side: the fans are open from the
+/// nodes from number `first` on, from none where there is no such node.
+#[derive(Drop)]
+pub struct Making {
+    pub common: Common,
+    pub width: u16,
+    pub first: u16,
+    pub up: Fan,
+    pub down: Fan,
+}
+
+impl Making {
+    /// What makes the rows of each source, so many of them side by side.
+    pub fn new(alloc: Global, rooted: &Rooted, width: u16) -> Result<Making, NoMemory>
+        requires rooted { IsRooted rooted.now }
+        requires some { 0 < width }
+        ensures made { IfOk result (IsMaking rooted.now.graph.now (words_of rooted.now)) }
+        ensures width { IfOk result (λ making. making.width ≡ width) }
+    {
+        let common = Common::new(alloc, rooted)?;
+        let up = Fan::new(alloc, rooted.graph, width)?;
+        let down = Fan::new(alloc, rooted.graph, width)?;
+        Ok(Making {
+            common,
+            width,
+            first: rooted.graph.node_count(),
+            up,
+            down,
+        })
+    }
+
+    /// Opens the fans from as many nodes as they have places for, s among them, unless they are open so, or s lies in no block of
+    /// more than one link.
+    pub fn open_for(&mut self, rooted: &Rooted, s: NodeNo)
+        requires rooted { IsRooted rooted.now }
+        requires made { IsMaking rooted.now.graph.now (words_of rooted.now) self.old }
+        requires node { IsNode rooted.now s }
+        ensures width { self.new.width ≡ self.old.width }
+        ensures made { IsMaking rooted.now.graph.now (words_of rooted.now) self.new }
+        ensures open { IsOpenFor rooted.now.graph.now (words_of rooted.now) self.new s }
+    {
+        if self.is_open_from(s) || !self.common.is_among_more(rooted, s) {
+            return;
+        }
+        self.first = s.get() - s.get() % self.width;
+        let at = NodeNo::new(self.first);
+        let d = rooted.directed;
+        self.up
+            .open(rooted.graph, d, Dir::Up, &self.common.by_order, at);
+        self.down
+            .open(rooted.graph, d, Dir::Down, &self.common.against_order, at);
+    }
+
+    /// Whether the fans are open from s.
+    fn is_open_from(&self, s: NodeNo) -> bool
+        ensures { IsTrue result ↔ ((self.now.first ≤ s) × (s < self.now.first + self.now.width)) }
+    {
+        self.first <= s.get() && s.get() - self.first < self.width
+    }
+
+    /// The row of a source for t. `None` where they have no block in common.
+    pub fn row(&self, rooted: &Rooted, source: &Source, t: NodeNo) -> Option<Row>
+        requires rooted { IsRooted rooted.now }
+        requires made { IsMaking rooted.now.graph.now (words_of rooted.now) self.now }
+        requires open { IsOpenFor rooted.now.graph.now (words_of rooted.now) self.now source.now.node }
+        requires source { IsSourceBy rooted.now.graph.now (words_of rooted.now) source.now }
+        requires target { IsNode rooted.now t }
+        requires two { source.now.node ≢ t }
+        ensures { IsNearRow rooted.now.graph.now rooted.now.root (words_of rooted.now) source.now.node t result }
+    {
+        if relation_of(source.node, &source.place, t, &rooted.place(t)).is_apart() {
+            return None;
+        }
+        let links = self.links(rooted, source.node, t);
+        self.common.row(rooted, source, t, &links)
+    }
+
+    /// The first links of s to t, where the fans are open from it.
+    fn links(&self, rooted: &Rooted, s: NodeNo, t: NodeNo) -> FirstLinks
+        requires rooted { IsRooted rooted.now }
+        requires made { IsMaking rooted.now.graph.now (words_of rooted.now) self.now }
+        requires open { IsOpenFor rooted.now.graph.now (words_of rooted.now) self.now s }
+        requires source { IsNode rooted.now s }
+        requires target { IsNode rooted.now t }
+        requires two { s ≢ t }
+        ensures { AreFirstLinks rooted.now.graph.now (words_of rooted.now) s t result }
+    {
+        if !self.is_open_from(s) {
+            let none = LinkNo::new(NO_LINK);
+            return FirstLinks {
+                up: none,
+                down: none,
+            };
+        }
+        let first = NodeNo::new(self.first);
+        FirstLinks {
+            up: self.up.link(rooted.graph, first, s, t),
+            down: self.down.link(rooted.graph, first, s, t),
+        }
+    }
+
+    /// Puts the rows of s for the nodes with which it has a block in common, by ascending destination, from the first place on,
+    /// and tells how many there are.
+    pub fn put_near_rows(&self, rooted: &Rooted, s: NodeNo, room: &mut [Row]) -> usize
+        requires rooted { IsRooted rooted.now }
+        requires made { IsMaking rooted.now.graph.now (words_of rooted.now) self.now }
+        requires open { IsOpenFor rooted.now.graph.now (words_of rooted.now) self.now s }
+        requires node { IsNode rooted.now s }
+        requires room { length room.old ≡ length rooted.now.graph.now.ids }
+        ensures room { length room.new ≡ length room.old }
+        ensures within { result ≤ length room.new }
+        ensures rows { (rows : ℕ → Option Row)
+            → ((t : ℕ) → IsNode rooted.now t → s ≢ t → HasRow rooted.now.graph.now rooted.now.root (words_of rooted.now) s rows t)
+            → rows s ≡ None → take result room.new ≡ near_first rows (length rooted.now.graph.now.ids) }
+    {
+        let source = self.common.source(rooted, s);
+        let mut found = 0;
+        for n in 0..rooted.graph.node_count() {
+            let t = NodeNo::new(n);
+            if t != s {
+                if let Some(row) = self.row(rooted, &source, t) {
+                    room[found] = row;
+                    found += 1;
+                }
+            }
+        }
+        found
+    }
+}
 
 /// The rows of `source` for all other nodes, by ascending destination.
 ///
@@ -30,77 +161,63 @@ pub fn rows_of(
         → IfOk result (λ rows. AreRowsOf g.now root w source rows.items) }
 {
     let count = g.node_count() as usize;
-    let mut making = Making::new(alloc, g, d, 1)?;
-    making.take_links(g, d, source);
-    let none = LinkNo::new(NO_LINK);
-    let no_row = end_row(none, none, none, Tag::Carried);
-    let mut rows = vec![in alloc; no_row; count]?;
-    put_rows(g, root, d, &making.by_order, &making.links, &mut rows);
+    let rooted = Rooted {
+        graph: g,
+        root,
+        directed: d,
+    };
+    let mut making = Making::new(alloc, &rooted, 1)?;
+    making.open_for(&rooted, source);
+    let link = LinkNo::new(0);
+    let none_yet = Row {
+        blue: link,
+        red: link,
+        tag: Tag::Carried,
+    };
+    let mut rows = vec![in alloc; none_yet; count]?;
+    put_rows(&rooted, &making, source, &mut rows);
     rows.remove(source.get() as usize);
     Ok(rows)
 }
 
-/// Puts the rows of a source for all other nodes, each at the place of its destination.
+/// Puts the rows of s for all other nodes, each at the place of its destination.
 ///
 /// A row may be carried from the row for the carrier. The carrier is the destination's head, which has a lower order, so
 /// that its row is there already; or, for the root, whose turn comes first, the head of the source: its row is put before all.
-fn put_rows(
-    g: &Graph,
-    root: NodeNo,
-    d: &Directed,
-    nodes: &[NodeNo],
-    links: &FirstLinks,
-    rows: &mut [Row],
-)
-    requires links { AreFirstLinks g.now d.now links.now }
-    requires nodes { (from : ℕ) (w : Directions) → AreDirections g.now d.now from w
-        → AreTurns g.now w Up nodes.now }
-    requires one_each { length rows.old ≡ length g.now.ids }
-    ensures one_each { length rows.new ≡ length g.now.ids }
-    ensures rows { (w : Directions) (t : ℕ) → AreDirections g.now d.now root w → t < length g.now.ids
-        → links.now.source ≢ t → IsRowIn g.now root w links.now.source t (slice_get rows.new t) }
+fn put_rows(rooted: &Rooted, making: &Making, s: NodeNo, rows: &mut [Row])
+    requires rooted { IsRooted rooted.now }
+    requires made { IsMaking rooted.now.graph.now (words_of rooted.now) making.now }
+    requires open { IsOpenFor rooted.now.graph.now (words_of rooted.now) making.now s }
+    requires node { IsNode rooted.now s }
+    requires one_each { length rows.old ≡ length rooted.now.graph.now.ids }
+    ensures one_each { length rows.new ≡ length rooted.now.graph.now.ids }
+    ensures rows { (t : ℕ) → IsNode rooted.now t → s ≢ t
+        → IsRowIn rooted.now.graph.now rooted.now.root (words_of rooted.now) s t (slice_get rows.new t) }
 {
-    let source = source_of(g, d, links);
-    put_home(&source, rows);
-    for t in nodes {
-        if *t != links.source {
-            let from = carried_to(g, root, d, &source, *t, rows);
-            let near = row_to(g, d, links, &source, *t);
+    let source = making.common.source(rooted, s);
+    let home = source.place.head.get() as usize;
+    rows[home] = row_home(&source);
+    for t in &making.common.by_order {
+        if *t != s {
+            let from = carried_to(rooted, &source, *t, rows);
+            let near = making.row(rooted, &source, *t);
             rows[t.get() as usize] = near.unwrap_or(from);
         }
     }
 }
 
-/// Puts the row of a source for the head of its block.
-fn put_home(source: &Source, rows: &mut [Row])
-    requires { source.now.place.head < length rows.old }
-    ensures one_each { length rows.new ≡ length rows.old }
-    ensures home { (g : Topology) (root : ℕ) (w : Directions) → IsTopology g → IsOrderedGadag g root w
-        → IsSourceBy g w source.now → source.now.node ≢ root
-        → IsNearRow g root w source.now.node (w.head source.now.node) (slice_get rows.new source.now.place.head) }
-{
-    rows[source.place.head.get() as usize] = row_home(source.sole, &source.home);
-}
-
 /// The row for `t` as it is carried: from that for the carrier.
-fn carried_to(
-    g: &Graph,
-    root: NodeNo,
-    d: &Directed,
-    source: &Source,
-    t: NodeNo,
-    rows: &[Row],
-) -> Row
-    requires directed { HasDirections g.now d.now }
-    requires source { (from : ℕ) (w : Directions) → AreDirections g.now d.now from w → IsSourceBy g.now w source.now }
-    requires target { t < length g.now.ids }
-    requires one_each { length rows.now ≡ length g.now.ids }
-    ensures to_other { (from : ℕ) (w : Directions) → AreDirections g.now d.now from w → t ≢ root
-        → Some result ≡ option_map carried (slice_get rows.now (w.head t)) }
-    ensures to_root { (from : ℕ) (w : Directions) → AreDirections g.now d.now from w → t ≡ root
-        → Some result ≡ option_map carried (slice_get rows.now (w.head source.now.node)) }
+fn carried_to(rooted: &Rooted, source: &Source, t: NodeNo, rows: &[Row]) -> Row
+    requires rooted { IsRooted rooted.now }
+    requires source { IsPlaceOf (words_of rooted.now) source.now.node source.now.place }
+    requires node { IsNode rooted.now source.now.node }
+    requires target { IsNode rooted.now t }
+    requires one_each { length rows.now ≡ length rooted.now.graph.now.ids }
+    ensures to_other { t ≢ rooted.now.root
+        → Some result ≡ option_map carried (slice_get rows.now ((words_of rooted.now).head t)) }
+    ensures to_root { t ≡ rooted.now.root
+        → Some result ≡ option_map carried (slice_get rows.now ((words_of rooted.now).head source.now.node)) }
 {
-    let there = d.place(t);
-    let by = carrier_of(root, &source.place, t, &there);
+    let by = carrier_of(rooted.root, &source.place, t, &rooted.place(t));
     rows[by.get() as usize].carried()
 }

@@ -4,13 +4,12 @@ ghost use Rattle.std.specs.Prelude.{◌≡◌, ◌<◌, ℕ, IfOk, IfSome, lengt
 ghost use Rattle.mrt_graph.specs.{declared.cert.CertFile.CertFile, Column.ColumnSound, GraphInvariant.IsTopology};
 ghost use Rattle.mrt_rows.specs.{CertOf.IsCertOf, ColumnOf.HasRowsFor, Rooted.AreAimedAt, Rooted.MakeColumns, RowsTo.AreRowsTo};
 
+use crate::certificate::{all_links, all_nodes};
 use crate::column::{Columns, Target, WIDTH};
 use crate::column_view::ColumnView;
-use crate::directed::directions;
+use crate::directed::{Rooted, directions};
 use crate::rows_law::{columns_are_of_one_certificate, columns_are_sound, one_certificate};
-use crate::rows_to::RowsTo;
-use crate::words::{all_links, all_nodes};
-use mrt_graph::{CertLink, CertNode, Directed, Graph, NoMemory, NodeNo};
+use mrt_graph::{CertLink, CertNode, Column, Directed, Graph, NoMemory, NodeNo, Row, RowsOf};
 use std::alloc::Global;
 use std::marker::Model;
 
@@ -62,7 +61,12 @@ impl RootedColumns {
         columns_are_of_one_certificate();
         let width = destinations.max(1).min(WIDTH as usize) as u16;
         let directed = directions(alloc, g, root)?;
-        let columns = Columns::new(alloc, g, root, &directed, width)?;
+        let rooted = Rooted {
+            graph: g,
+            root,
+            directed: &directed,
+        };
+        let columns = Columns::new(alloc, &rooted, width)?;
         // nothing is aimed at yet
         let to = Target { node: root, at: 0 };
         Ok(RootedColumns {
@@ -95,10 +99,12 @@ impl RootedColumns {
         ensures root { self.new.root ≡ self.old.root }
         ensures aimed { AreAimedAt g.now to self.new }
     {
-        // what each graph keeps is told by reading it
-        let _count = g.node_count();
-        let aimed = self.columns.aim(g, self.root, &self.directed, to, marks);
-        self.to = aimed;
+        let rooted = Rooted {
+            graph: g,
+            root: self.root,
+            directed: &self.directed,
+        };
+        self.to = self.columns.aim(&rooted, to, marks);
     }
 
     /// The column of the node that is aimed at: the rows of all nodes for it, which are those of the graph's certificate
@@ -141,7 +147,7 @@ impl RootedColumns {
                 places.push_reserved(None);
             }
         }
-        Ok(RowsTo::new(places, columns))
+        Ok(RowsTo { places, columns })
     }
 
     /// The words of the graph's certificate on all nodes.
@@ -150,8 +156,6 @@ impl RootedColumns {
         ensures { (file : CertFile) → IsCertOf g.now self.now.root file
             → IfOk result (λ nodes. nodes.items ≡ file.cert.nodes) }
     {
-        // what each graph keeps is told by reading it
-        let _count = g.node_count();
         let nodes = all_nodes(alloc, g, &self.directed)?;
         Ok(nodes)
     }
@@ -162,8 +166,39 @@ impl RootedColumns {
         ensures { (file : CertFile) → IsCertOf g.now self.now.root file
             → IfOk result (λ links. links.items ≡ file.cert.links) }
     {
-        let _count = g.node_count();
         let links = all_links(alloc, g, &self.directed)?;
         Ok(links)
+    }
+}
+
+/// The rows of all nodes for some destinations: a column for each of these.
+#[derive(Drop)]
+pub struct RowsTo {
+    /// Of each node the place of its column, if it is one of the destinations.
+    places: Vec<Option<u16>>,
+    columns: Vec<Column>,
+}
+
+impl Model for RowsTo {
+    ghost use Rattle.mrt_rows.specs.RowsTo.{ColumnsHeld};
+
+    ghost Value = { ColumnsHeld };
+
+    ghost view = { λ r. record { places = r.places.items; columns = r.columns.items } };
+}
+
+impl RowsOf for RowsTo {
+    ghost use Rattle.mrt_rows.specs.RowsTo.{rows_in};
+
+    ghost rows = { λ held. rows_in held };
+
+    fn row_for(&self, s: NodeNo, t: NodeNo) -> Row {
+        let Some(place) = self.places[t.get() as usize] else {
+            unreachable!()
+        };
+        match self.columns[place as usize].row(s) {
+            Some(row) => row,
+            None => unreachable!(),
+        }
     }
 }

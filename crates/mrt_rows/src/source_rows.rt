@@ -4,12 +4,10 @@ ghost use Rattle.std.specs.Prelude.{◌≡◌, ◌<◌, [], IfOk, length};
 ghost use Rattle.mrt_graph.specs.{declared.cert.CertFile.CertFile, GraphInvariant.IsTopology};
 ghost use Rattle.mrt_rows.specs.{CertOf.IsCertOf, Making.MakeRows, NearOf.near_rows_of};
 
-use crate::directed::directions;
-use crate::making::Making;
-use crate::row_over::put_near_rows;
+use crate::certificate::{all_links, all_nodes};
+use crate::directed::{Rooted, directions};
+use crate::of_source::Making;
 use crate::rows_law::columns_are_of_one_certificate;
-use crate::words::{all_links, all_nodes};
-use inc_dec_spf::NO_LINK;
 use mrt_graph::{CertLink, CertNode, Directed, Graph, LinkNo, NoMemory, NodeNo, Row, Tag};
 use std::alloc::Global;
 use std::marker::Model;
@@ -54,14 +52,19 @@ impl SourceRows {
     {
         columns_are_of_one_certificate();
         let directed = directions(alloc, g, root)?;
-        let making = Making::new(alloc, g, &directed, SOURCES)?;
-        let none = LinkNo::new(NO_LINK);
-        let row = Row {
-            blue: none,
-            red: none,
+        let rooted = Rooted {
+            graph: g,
+            root,
+            directed: &directed,
+        };
+        let making = Making::new(alloc, &rooted, SOURCES)?;
+        let link = LinkNo::new(0);
+        let none_yet = Row {
+            blue: link,
+            red: link,
             tag: Tag::Carried,
         };
-        let room = vec![in alloc; row; g.node_count() as usize]?;
+        let room = vec![in alloc; none_yet; g.node_count() as usize]?;
         Ok(SourceRows {
             root,
             directed,
@@ -85,10 +88,13 @@ impl SourceRows {
         ensures rows { (file : CertFile) → IsCertOf g.now self.old.root file
             → self.new.rows ≡ near_rows_of file.cert s }
     {
-        // what each graph keeps is told by reading it
-        let _count = g.node_count();
-        self.making.take_links(g, &self.directed, s);
-        self.count = put_near_rows(g, &self.directed, &self.making.links, &mut self.room);
+        let rooted = Rooted {
+            graph: g,
+            root: self.root,
+            directed: &self.directed,
+        };
+        self.making.open_for(&rooted, s);
+        self.count = self.making.put_near_rows(&rooted, s, &mut self.room);
     }
 
     /// The words of the graph's certificate on all nodes.
@@ -97,7 +103,6 @@ impl SourceRows {
         ensures { (file : CertFile) → IsCertOf g.now self.now.root file
             → IfOk result (λ nodes. nodes.items ≡ file.cert.nodes) }
     {
-        let _count = g.node_count();
         let nodes = all_nodes(alloc, g, &self.directed)?;
         Ok(nodes)
     }
@@ -108,8 +113,6 @@ impl SourceRows {
         ensures { (file : CertFile) → IsCertOf g.now self.now.root file
             → IfOk result (λ links. links.items ≡ file.cert.links) }
     {
-        // what each graph keeps is told by reading it
-        let _count = g.node_count();
         let links = all_links(alloc, g, &self.directed)?;
         Ok(links)
     }

@@ -1,10 +1,11 @@
-use Rattle.std.proofs.Common.{◌≡◌, ◌∙◌, ◌<◌, ℕ, List, Option, Some, None, get_or, length, slice_get, sym, ap, subst, arith}
-use Rattle.std.proofs.lemmas.Bool.{eqb-true, eqb-false}
-use Rattle.std.proofs.lemmas.Option.{same_Some, slice_get-get_or}
-use Rattle.mrt_rows.specs.Chain.{AtHome, Beside, Under}
-use Rattle.mrt_rows.proofs.ChainAims.{climb_low}
-use Rattle.mrt_rows.proofs.Climbing.{graph_by}
-use Rattle.link_direction.proofs.TwoNodes.{place_says}
+use Rattle.std.proofs.Common.{◌≡◌, ◌∙◌, ◌<◌, ◌+◌, ◌*◌, ℕ, List, Option, Some, None, get_or, length, slice_get, refl, sym, ap, subst, arith}
+use Rattle.std.proofs.lemmas.Option.{get_or_from_slice_get, slice_get-get_or, slice_get_read, slice_get_within}
+use Rattle.inc_dec_spf.specs.BlockAims.{aim_at}
+use Rattle.inc_dec_spf.proofs.SideBySide.{row_within}
+use Rattle.mrt_rows.specs.Chain.{IsRowAim, Under}
+use Rattle.mrt_rows.specs.Said.{words_of}
+use Rattle.mrt_rows.proofs.AimsOfRows.{block_aim}
+use Rattle.mrt_rows.proofs.Rooting.{og_of}
 use Rattle.mrt_rows.proofs.column.Columns.aim_of.Goals as goal
 
 read : (below : List (Option ℕ)) (i v : ℕ) (o : Option ℕ) → i ≡ v → v < length below → o ≡ get_or below i o → slice_get below v ≡ Some o
@@ -14,91 +15,68 @@ read below i v o named within is =
 
 pub index-requires : goal.index-requires
 index-requires c =
-    let one_each = (c.requires.below c.requires.directed.directions c.requires.directed.says).one_each in
-    omega (arith, c.args.self.now.below.small, c.get.ensures.value, c.requires.source, one_each)
+    omega (arith, c.args.self.now.below.small, c.get.ensures.value, c.requires.source, c.requires.aimed.below.one_each)
 
 pub index-requires-2 : goal.index-requires-2
 index-requires-2 c =
-    let g = c.args.g.now in
-    let w = c.requires.directed.directions in
-    let says = c.requires.directed.says in
-    let one_each = (c.requires.below w says).one_each in
-    let place = place_says g c.args.d.now w c.args.s c.place-here.result says c.requires.source c.place-here.ensures in
-    omega (
-      arith,
-      c.args.self.now.below.small,
-      c.get-2.ensures.value,
-      place.0,
-      c.requires.directed.ordered.heads.head_within c.args.s c.requires.source,
-      one_each,
-    )
+    let g = c.args.rooted.now.graph.now in
+    let columns = c.args.self.now in
+    let aims = columns.aims.items in
+    let width = length columns.targets.items in
+    let held = c.requires.aimed.held in
+    let wide : c.len.result ≡ width = c.len.ensures ∙ columns.targets.ok.0 in
+    let block_within = c.requires.aimed.rooted.ordered.heads.block_within c.args.s c.requires.source in
+    let own_within : c.get-2.result < length g.ids = omega (arith, c.get-2.ensures.value, c.place.ensures.block, block_within) in
+    let below : c.args.to.at < width = slice_get_within columns.targets.items c.args.to.at c.args.to.node c.requires.aimed.place in
+    let same : c.get-2.result * c.len.result ≡ c.get-2.result * width = ap (λ (n : ℕ). c.get-2.result * n) wide in
+    omega (arith, columns.aims.small, row_within c.get-2.result (length g.ids) width (length aims) held.places own_within, below, same)
 
-pub place-requires : goal.place-requires
-place-requires c =
-    let g = c.args.g.now in
-    let w = c.requires.directed.directions in
-    let says = c.requires.directed.says in
-    let og = graph_by g c.args.root c.args.d.now w c.requires.kept c.requires.directed says in
-    let are = c.requires.below w says in
-    let place = place_says g c.args.d.now w c.args.s c.place-here.result says c.requires.source c.place-here.ensures in
-    let at = read c.args.self.now.below.items c.get-2.result (w.head c.args.s) c.index-2.result.now (c.get-2.ensures.value ∙ place.0)
-    (omega (arith, og.ordered.heads.head_within c.args.s c.requires.source, are.one_each)) c.index-2.ensures in
-    let it = are.is_below (w.head c.args.s) c.in-Some-index.beside (at ∙ ap (λ (o : Option ℕ). Some o) c.in-Some-index.is) in
-    omega (arith, (climb_low og c.args.to c.in-Some-index.beside c.requires.to it.0).0, says.one_place_each)
+pub overflow_add-at : goal.overflow_add-at
+overflow_add-at c =
+    let g = c.args.rooted.now.graph.now in
+    let columns = c.args.self.now in
+    let aims = columns.aims.items in
+    let width = length columns.targets.items in
+    let held = c.requires.aimed.held in
+    let wide : c.len.result ≡ width = c.len.ensures ∙ columns.targets.ok.0 in
+    let block_within = c.requires.aimed.rooted.ordered.heads.block_within c.args.s c.requires.source in
+    let own_within : c.get-2.result < length g.ids = omega (arith, c.get-2.ensures.value, c.place.ensures.block, block_within) in
+    let below : c.args.to.at < width = slice_get_within columns.targets.items c.args.to.at c.args.to.node c.requires.aimed.place in
+    let same : c.get-2.result * c.len.result ≡ c.get-2.result * width = ap (λ (n : ℕ). c.get-2.result * n) wide in
+    omega (arith, columns.aims.small, row_within c.get-2.result (length g.ids) width (length aims) held.places own_within, below, same)
 
 pub returns-in-Some : goal.returns-in-Some
-returns-in-Some c = λ w says.
-    let are = c.requires.below w says in
+returns-in-Some c =
+    let below = c.requires.aimed.below in
     let at = read c.args.self.now.below.items c.get.result c.args.s c.index.result.now c.get.ensures.value
-    (omega (arith, c.requires.source, are.one_each)) c.index.ensures in
+    (omega (arith, c.requires.source, below.one_each)) c.index.ensures in
     Under (at ∙ ap (λ (o : Option ℕ). Some o) c.in-Some.is)
 
-pub returns-then-eq : goal.returns-then-eq
-returns-then-eq c = λ w says.
-    let g = c.args.g.now in
+pub returns : goal.returns
+returns c =
+    let rooted = c.args.rooted.now in
+    let g = rooted.graph.now in
+    let w = words_of rooted in
     let s = c.args.s in
-    let below = c.args.self.now.below.items in
-    let beside = c.in-Some-index.beside in
-    let og = graph_by g c.args.root c.args.d.now w c.requires.kept c.requires.directed says in
-    let are = c.requires.below w says in
-    let place = place_says g c.args.d.now w s c.place-here.result says c.requires.source c.place-here.ensures in
-    let none = read below c.get.result s c.index.result.now c.get.ensures.value (omega (arith, c.requires.source, are.one_each)) c.index.ensures
-    ∙ ap (λ (o : Option ℕ). Some o) c.in_default.is in
-    let at = read below c.get-2.result (w.head s) c.index-2.result.now (c.get-2.ensures.value ∙ place.0)
-    (omega (arith, og.ordered.heads.head_within s c.requires.source, are.one_each)) c.index-2.ensures ∙ ap (λ (o : Option ℕ). Some o) c.in-Some-index.is in
-    let within = (climb_low og c.args.to beside c.requires.to (are.is_below (w.head s) beside at).0).0 in
-    let there = place_says g c.args.d.now w beside c.place.result says within c.place.ensures in
-    (Beside none at (sym there.1 ∙ eqb-true c.place.result.block c.place-here.result.block (sym c.eq.ensures ∙ c.if-eq.true) ∙ place.1))
-
-pub returns-else-eq : goal.returns-else-eq
-returns-else-eq c = λ w says.
-    let g = c.args.g.now in
-    let s = c.args.s in
-    let below = c.args.self.now.below.items in
-    let beside = c.in-Some-index.beside in
-    let og = graph_by g c.args.root c.args.d.now w c.requires.kept c.requires.directed says in
-    let are = c.requires.below w says in
-    let place = place_says g c.args.d.now w s c.place-here.result says c.requires.source c.place-here.ensures in
-    let none = read below c.get.result s c.index.result.now c.get.ensures.value (omega (arith, c.requires.source, are.one_each)) c.index.ensures
-    ∙ ap (λ (o : Option ℕ). Some o) c.in_default.is in
-    let at = read below c.get-2.result (w.head s) c.index-2.result.now (c.get-2.ensures.value ∙ place.0)
-    (omega (arith, og.ordered.heads.head_within s c.requires.source, are.one_each)) c.index-2.ensures ∙ ap (λ (o : Option ℕ). Some o) c.in-Some-index.is in
-    let within = (climb_low og c.args.to beside c.requires.to (are.is_below (w.head s) beside at).0).0 in
-    let there = place_says g c.args.d.now w beside c.place.result says within c.place.ensures in
-    (AtHome none (λ b at_b same.
-    let b_is : beside ≡ b = same_Some beside b (same_Some (Some beside) (Some b) (sym at ∙ at_b)) in
-    eqb-false c.place.result.block c.place-here.result.block (sym c.eq.ensures ∙ c.if-eq.false) (there.1 ∙ ap w.block b_is ∙ same ∙ sym place.1)) place.0)
-
-pub returns-in_default-index : goal.returns-in_default-index
-returns-in_default-index c = λ w says.
-    let g = c.args.g.now in
-    let s = c.args.s in
-    let below = c.args.self.now.below.items in
-    let og = graph_by g c.args.root c.args.d.now w c.requires.kept c.requires.directed says in
-    let are = c.requires.below w says in
-    let place = place_says g c.args.d.now w s c.place-here.result says c.requires.source c.place-here.ensures in
-    let none = read below c.get.result s c.index.result.now c.get.ensures.value (omega (arith, c.requires.source, are.one_each)) c.index.ensures
-    ∙ ap (λ (o : Option ℕ). Some o) c.in_default.is in
-    let at = read below c.get-2.result (w.head s) c.index-2.result.now (c.get-2.ensures.value ∙ place.0)
-    (omega (arith, og.ordered.heads.head_within s c.requires.source, are.one_each)) c.index-2.ensures ∙ ap (λ (o : Option ℕ). Some o) c.in_default-index.is in
-    (AtHome none (λ b at_b same. let no = same_Some None (Some b) (sym at ∙ at_b) in absurd (cc)) place.0)
+    let to = c.args.to in
+    let columns = c.args.self.now in
+    let aims = columns.aims.items in
+    let width = length columns.targets.items in
+    let held = c.requires.aimed.held in
+    let none = read columns.below.items c.get.result s c.index.result.now c.get.ensures.value
+    (omega (arith, c.requires.source, c.requires.aimed.below.one_each)) c.index.ensures ∙ ap (λ (o : Option ℕ). Some o) c.in_default.is in
+    let wide : c.len.result ≡ width = c.len.ensures ∙ columns.targets.ok.0 in
+    let block_is : c.get-2.result ≡ w.block s = c.get-2.ensures.value ∙ c.place.ensures.block in
+    let block_within = c.requires.aimed.rooted.ordered.heads.block_within s c.requires.source in
+    let below : to.at < width = slice_get_within columns.targets.items to.at to.node c.requires.aimed.place in
+    let place : c.get-2.result * c.len.result + to.at ≡ w.block s * width + to.at =
+    ap (λ (n : ℕ). c.get-2.result * n + to.at) wide ∙ ap (λ (b : ℕ). b * width + to.at) block_is in
+    let room : w.block s * width + to.at < length aims =
+    omega (arith, row_within (w.block s) (length g.ids) width (length aims) held.places block_within, below) in
+    let there : slice_get aims (w.block s * width + to.at) ≡ Some c.index-2.result.now =
+    slice_get_read aims (length aims) (w.block s * width + to.at) c.index-2.result.now refl room
+    (subst (λ (i : ℕ). c.index-2.result.now ≡ get_or aims i c.index-2.result.now) place c.index-2.ensures) in
+    let aimed = held.aimed to.at to.node c.requires.aimed.place c.requires.aimed.within in
+    subst (λ (a : ℕ). IsRowAim w columns.below.items s a) (get_or_from_slice_get aims (w.block s * width + to.at) c.index-2.result.now 0 there)
+    (block_aim (og_of c.requires.aimed.rooted) to.node c.requires.aimed.within columns.below.items c.requires.aimed.below (aim_at aims width to.at)
+    columns.wanted.items (aimed.aims.each to.at to.node c.requires.aimed.place) s c.requires.source none)

@@ -1,7 +1,6 @@
 use Rattle.std.proofs.Common.{rules, ◌≡◌, ◌∙◌, ◌≤◌, ◌*◌, ℕ, zero, suc, List, Some, length, slice_get, sym, ap, subst, arith}
 use Rattle.std.specs.Prelude.{replicate}
 use Rattle.std.proofs.lemmas.Option.{same_Some}
-use Rattle.mrt_rows.proofs.Climbing.{graph_by}
 use Rattle.mrt_rows.proofs.column.Columns.new.Goals as goal
 
 same_each : (n k j t : ℕ) → slice_get (replicate n k) j ≡ Some t → t ≡ k
@@ -10,15 +9,14 @@ same_each (suc n) k zero t at = sym (same_Some k t at)
 same_each (suc n) k (suc j) t at = same_each n k j t at
 
 pub returns : goal.returns
-returns c = λ w says.
-    let g = c.args.g.now in
+returns c =
+    let g = c.args.rooted.now.graph.now in
     let count = c.node_count-count.result in
-    let og = graph_by g c.args.root c.args.d.now w c.node_count-count.ensures.kept c.requires.ordered says in
     let past : length g.ids ≤ count = omega (arith, c.node_count-count.ensures.count) in
     let many : length c.in_ok-targets.targets.items ≡ c.args.width = search rules in
     let all : length c.in_ok-aims.aims.items ≡ count * c.args.width = search rules in
     record {
-      common = c.in_ok-common.ensures c.args.root w (record { says = says; ordered = og.ordered });
+      common = c.in_ok-common.ensures;
       one_below_each = search rules;
       some_places = omega (arith, many, c.requires.some);
       places = all ∙ ap (λ (n : ℕ). n * c.args.width) c.node_count-count.ensures.count ∙ ap (λ (k : ℕ). length g.ids * k) (sym many);
@@ -26,6 +24,6 @@ returns c = λ w says.
       up = record { nodes = c.in_ok-up.ensures.nodes; width = c.in_ok-up.ensures.width ∙ sym many };
       down = record { nodes = c.in_ok-down.ensures.nodes; width = c.in_ok-down.ensures.width ∙ sym many };
       aimed = λ j t at inside. (
-          let blank : c.in_ok-targets.targets.items ≡ replicate c.args.width c.new.result = c.in_ok-targets.ensures.items_if_clones_equal (search rules) in
-          absurd (omega (arith, past, inside, c.new.ensures, same_each c.args.width c.new.result j t (subst (λ (ts : List ℕ). slice_get ts j ≡ Some t) blank at))));
+          let blank : c.in_ok-targets.targets.items ≡ replicate c.args.width c.new-2.result = c.in_ok-targets.ensures.items_if_clones_equal (search rules) in
+          absurd (omega (arith, past, inside, c.new-2.ensures, same_each c.args.width c.new-2.result j t (subst (λ (ts : List ℕ). slice_get ts j ≡ Some t) blank at))));
     }

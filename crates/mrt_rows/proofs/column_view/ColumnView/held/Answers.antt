@@ -3,6 +3,7 @@ use Rattle.std.proofs.lemmas.List.{take_all, take_more}
 use Rattle.std.proofs.lemmas.Option.{get_or_from_slice_get}
 use Rattle.mrt_graph.specs.declared.cert.Row.{Row}
 use Rattle.mrt_graph.specs.Column.{IsColumnFor}
+use Rattle.mrt_rows.proofs.Rooting.{og_of}
 use Rattle.mrt_rows.proofs.TheColumns.{is_for, one_each}
 use Rattle.mrt_rows.proofs.column_view.ColumnView.held.Goals as goal
 
@@ -12,7 +13,7 @@ loop-n-init c =
     let v = c.self.inside in
     record {
       count = c.node_count-count.ensures.count
-          ∙ sym (one_each v.graph.now v.root v.directed.now it.kept it.directed v.to.node it.within v.column)
+          ∙ sym (one_each (og_of it.rooted) v.to.node it.within v.column)
           ∙ ap (λ (column : List (Option Row)). length column) c.self.view_is;
       made = c.in_ok-rows.ensures.items;
       room = omega (arith, c.in_ok-rows.ensures.capacity);
@@ -43,7 +44,7 @@ new-requires-2 c =
     let all = c.loop-n.invariant.made ∙ take_all c.loop-n.n c.args.self.now (omega (arith, c.loop-n-test.false, c.loop-n.invariant.count)) in (
       v.to.node,
       subst (λ (column : List (Option Row)). IsColumnFor column v.to.node) (c.self.view_is ∙ sym all)
-          (is_for v.graph.now v.root v.directed.now it.kept it.directed v.to.node it.within v.column),
+          (is_for (og_of it.rooted) v.to.node it.within v.column),
     )
 
 pub returns : goal.returns

@@ -1,6 +1,7 @@
 use Rattle.std.proofs.Common.{◌∙◌, ℕ, List, Option, length, slice_get, sym, ap, arith}
 use Rattle.std.proofs.lemmas.Bool.{eqb-false, eqb-true}
 use Rattle.mrt_graph.specs.declared.cert.Row.{Row}
+use Rattle.mrt_rows.proofs.Rooting.{og_of}
 use Rattle.mrt_rows.proofs.TheColumns.{none_there, one_each, row_there}
 use Rattle.mrt_rows.proofs.column_view.ColumnView.row.Goals as goal
 
@@ -15,7 +16,7 @@ row-requires-clause-source c =
       arith,
       c.requires,
       ap (λ (column : List (Option Row)). length column) c.self.view_is,
-      one_each v.graph.now v.root v.directed.now it.kept it.directed v.to.node it.within v.column,
+      one_each (og_of it.rooted) v.to.node it.within v.column,
     )
 
 pub row-requires-clause-two : goal.row-requires-clause-two
@@ -27,18 +28,18 @@ returns-then-eq c =
     let v = c.self.inside in
     ap (λ (column : List (Option Row)). slice_get column c.args.s) (sym c.self.view_is)
     ∙ ap (λ (s : ℕ). slice_get v.column.0 s) (eqb-true c.args.s v.to.node (sym c.eq.ensures ∙ c.if-eq.true))
-    ∙ none_there v.graph.now v.root v.directed.now it.kept it.directed v.to.node it.within v.column
+    ∙ none_there (og_of it.rooted) v.to.node it.within v.column
 
 pub returns : goal.returns
 returns c =
     let it = c.self.invariant in
     let v = c.self.inside in
     ap (λ (column : List (Option Row)). slice_get column c.args.s) (sym c.self.view_is)
-    ∙ row_there v.graph.now v.root v.directed.now it.kept it.directed v.to.node it.within v.column c.args.s c.row.result
+    ∙ row_there (og_of it.rooted) v.to.node it.within v.column c.args.s c.row.result
     (omega (
       arith,
       c.requires,
       ap (λ (column : List (Option Row)). length column) c.self.view_is,
-      one_each v.graph.now v.root v.directed.now it.kept it.directed v.to.node it.within v.column,
+      one_each (og_of it.rooted) v.to.node it.within v.column,
     ))
     (eqb-false c.args.s v.to.node (sym c.eq.ensures ∙ c.if-eq.false)) c.row.ensures

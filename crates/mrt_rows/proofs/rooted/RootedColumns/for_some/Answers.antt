@@ -1,4 +1,15 @@
+use Rattle.mrt_rows.proofs.Rooting.{rooted_by}
 use Rattle.mrt_rows.proofs.rooted.RootedColumns.for_some.Goals as goal
+
+pub new-requires-clause-rooted : goal.new-requires-clause-rooted
+new-requires-clause-rooted c = rooted_by c.args.g.now c.args.root c.in_ok-directed.directed c.directions.ensures.kept c.in_ok-directed.ensures.ordered
+
+pub returns-clause-made : goal.returns-clause-made
+returns-clause-made c = record {
+  rooted = rooted_by c.args.g.now c.args.root c.in_ok-directed.directed c.directions.ensures.kept c.in_ok-directed.ensures.ordered;
+  directed = c.in_ok-directed.ensures.made;
+  held = c.in_ok-columns.ensures;
+}
 
 pub returns-clause-cert : goal.returns-clause-cert
 returns-clause-cert c =

@@ -2,16 +2,18 @@ use Rattle.std.proofs.Common.{sym, subst}
 use Rattle.mrt_rows.specs.CertOf.{IsCertOf}
 use Rattle.mrt_rows.specs.Rooted.{MakeColumns}
 use Rattle.mrt_rows.specs.RootedParts.{RootedParts}
-use Rattle.mrt_rows.proofs.SourceCert.{directions_from, links_by}
+use Rattle.mrt_rows.specs.Said.{directions_of}
+use Rattle.mrt_rows.proofs.OneCert.{one_link_words}
+use Rattle.mrt_rows.proofs.SourceCert.{told_by}
 use Rattle.mrt_rows.proofs.rooted.RootedColumns.links.Goals as goal
 
 pub all_links-requires : goal.all_links-requires
-all_links-requires c =
-    let made = subst (λ (rooted : RootedParts). MakeColumns c.args.g.now rooted) (sym c.self.view_is) c.requires in
-    directions_from c.args.g.now c.self.inside.root c.self.inside.directed c.node_count-count.ensures.kept made.root_within made.directed
+all_links-requires c = (subst (λ (rooted : RootedParts). MakeColumns c.args.g.now rooted) (sym c.self.view_is) c.requires).rooted.says
 
 pub returns : goal.returns
 returns c = λ file is_of.
-    let made = subst (λ (rooted : RootedParts). MakeColumns c.args.g.now rooted) (sym c.self.view_is) c.requires in
-    links_by c.args.g.now c.self.inside.root c.self.inside.directed c.node_count-count.ensures.kept made.root_within made.directed
-    c.in_ok-links.links.items c.in_ok-links.ensures file (subst (λ (rooted : RootedParts). IsCertOf c.args.g.now rooted.root file) (sym c.self.view_is) is_of)
+    let g = c.args.g.now in
+    let made = subst (λ (rooted : RootedParts). MakeColumns g rooted) (sym c.self.view_is) c.requires in
+    let is = subst (λ (rooted : RootedParts). IsCertOf g rooted.root file) (sym c.self.view_is) is_of in
+    one_link_words g (directions_of g c.self.inside.directed) c.in_ok-links.links.items file.cert.links c.in_ok-links.ensures
+    (told_by made.rooted made.directed file is).links

@@ -71,7 +71,6 @@ loop-n-preserved c = elim c.if-wanted-n.branch [
 
 pub returns-clause-rows : goal.returns-clause-rows
 returns-clause-rows c = λ file is t marked s.
-    rw c.new-2.ensures
-    (rows_held file c.loop-n.places.items c.loop-n.columns.items t
+    rows_held file c.loop-n.places.items c.loop-n.columns.items t
     (c.loop-n.invariant.held file is t
-    (omega (arith, mark_within c.args.wanted.now t marked, c.requires.one_each, c.loop-n.invariant.count, c.loop-n-test.false)) marked) s)
+    (omega (arith, mark_within c.args.wanted.now t marked, c.requires.one_each, c.loop-n.invariant.count, c.loop-n-test.false)) marked) s

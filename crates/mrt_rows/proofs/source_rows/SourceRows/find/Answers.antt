@@ -6,18 +6,18 @@ use Rattle.mrt_rows.specs.CertOf.{IsCertOf}
 use Rattle.mrt_rows.specs.Making.{MakeRows}
 use Rattle.mrt_rows.specs.NearOf.{near_first}
 use Rattle.mrt_rows.specs.RowsFound.{RowsFound}
-use Rattle.mrt_rows.specs.RowsOf.{HasRow}
 use Rattle.mrt_rows.proofs.NearSection.{all_near, none_for_itself}
-use Rattle.mrt_rows.proofs.SourceCert.{are_from, directions_from, ordered_from, told_by}
+use Rattle.mrt_rows.proofs.SourceCert.{told_by}
 use Rattle.mrt_rows.proofs.source_rows.SourceRows.find.Goals as goal
 
-pub take_links-requires-clause-made : goal.take_links-requires-clause-made
-take_links-requires-clause-made c = (subst (λ (rows : RowsFound). MakeRows c.args.g.now rows) (sym c.self.view_is) c.requires.made).making
+pub open_for-requires-clause-rooted : goal.open_for-requires-clause-rooted
+open_for-requires-clause-rooted c = (subst (λ (rows : RowsFound). MakeRows c.args.g.now rows) (sym c.self.view_is) c.requires.made).rooted
 
-pub take_links-requires-clause-directed : goal.take_links-requires-clause-directed
-take_links-requires-clause-directed c =
-    let made = subst (λ (rows : RowsFound). MakeRows c.args.g.now rows) (sym c.self.view_is) c.requires.made in
-    directions_from c.args.g.now c.self.inside.root c.self.inside.directed c.node_count-count.ensures.kept made.root_within made.directed
+pub open_for-requires-clause-made : goal.open_for-requires-clause-made
+open_for-requires-clause-made c = (subst (λ (rows : RowsFound). MakeRows c.args.g.now rows) (sym c.self.view_is) c.requires.made).making
+
+pub put_near_rows-self-inside-requires-clause-rooted : goal.put_near_rows-self-inside-requires-clause-rooted
+put_near_rows-self-inside-requires-clause-rooted c = (subst (λ (rows : RowsFound). MakeRows c.args.g.now rows) (sym c.self.view_is) c.requires.made).rooted
 
 pub put_near_rows-self-inside-requires-clause-room : goal.put_near_rows-self-inside-requires-clause-room
 put_near_rows-self-inside-requires-clause-room c =
@@ -32,10 +32,10 @@ returns-clause-made c =
     let made = subst (λ (rows : RowsFound). MakeRows c.args.g.now rows) (sym c.self.view_is) c.requires.made in
     let same = with_items_is c.self.inside.room c.put_near_rows-self-inside.new.room (c.put_near_rows-self-inside.auto.room ∙ c.deref_mut.ensures.len) in
     record {
-      root_within = made.root_within;
+      rooted = made.rooted;
       directed = made.directed;
-      making = c.take_links.ensures.made;
-      width = c.take_links.ensures.width ∙ made.width;
+      making = c.open_for.ensures.made;
+      width = c.open_for.ensures.width ∙ made.width;
       room = ap (λ (xs : List Row). length xs) same ∙ c.put_near_rows-self-inside.auto.room ∙ ap (λ (xs : List Row). length xs) c.deref_mut.ensures.value ∙ made.room;
     }
 
@@ -43,21 +43,12 @@ pub returns-clause-rows : goal.returns-clause-rows
 returns-clause-rows c = λ file is.
     let g = c.args.g.now in
     let s = c.args.s in
-    let root = c.self.inside.root in
-    let d = c.self.inside.directed in
     let made = subst (λ (rows : RowsFound). MakeRows g rows) (sym c.self.view_is) c.requires.made in
-    let kept = c.node_count-count.ensures.kept in
-    let ordered = ordered_from g root d kept made.root_within made.directed in
-    let w = ordered.directions in
-    let are = are_from g root d kept made.root_within made.directed w ordered.says in
     let cert = subst (λ (rows : RowsFound). IsCertOf g rows.root file) (sym c.self.view_is) is in
-    let tells = told_by g root d kept made.root_within made.directed w ordered.says file cert in
-    let from : c.take_links.new.self.links.source ≡ s = c.take_links.ensures.source in
+    let tells = told_by made.rooted made.directed file cert in
     let same = with_items_is c.self.inside.room c.put_near_rows-self-inside.new.room (c.put_near_rows-self-inside.auto.room ∙ c.deref_mut.ensures.len) in
-    let found = c.put_near_rows-self-inside.ensures.rows root w (row_of file.cert s) are
-    (subst (λ (v : ℕ). (t : ℕ) → t < length g.ids → v ≢ t → HasRow g root w v (row_of file.cert s) t) (sym from)
-    (λ t t_within two. tells.rows s t c.requires.s t_within two))
-    (ap (row_of file.cert s) from ∙ none_for_itself file.cert s) in
+    let found = c.put_near_rows-self-inside.ensures.rows (row_of file.cert s) (λ t t_within two. tells.rows s t c.requires.s t_within two)
+    (none_for_itself file.cert s) in
     let s_within : s < length file.cert.nodes = omega (arith, c.requires.s, tells.nodes.one_each) in
     ap (λ (xs : List Row). take c.put_near_rows-self-inside.result xs) same ∙ found ∙ ap (near_first (row_of file.cert s)) (sym tells.nodes.one_each)
     ∙ all_near file.cert s s_within

@@ -1,14 +1,13 @@
 use Rattle.std.proofs.Common.{rules}
-use Rattle.mrt_rows.proofs.SourceCert.{directions_from}
+use Rattle.mrt_rows.proofs.Rooting.{rooted_by}
 use Rattle.mrt_rows.proofs.source_rows.SourceRows.new.Goals as goal
 
-pub new-requires-clause-directed : goal.new-requires-clause-directed
-new-requires-clause-directed c =
-    directions_from c.args.g.now c.args.root c.in_ok-directed.directed c.directions.ensures.kept c.requires c.in_ok-directed.ensures.made
+pub new-requires-clause-rooted : goal.new-requires-clause-rooted
+new-requires-clause-rooted c = rooted_by c.args.g.now c.args.root c.in_ok-directed.directed c.directions.ensures.kept c.in_ok-directed.ensures.ordered
 
 pub returns-clause-made : goal.returns-clause-made
 returns-clause-made c = record {
-  root_within = c.requires;
+  rooted = rooted_by c.args.g.now c.args.root c.in_ok-directed.directed c.directions.ensures.kept c.in_ok-directed.ensures.ordered;
   directed = c.in_ok-directed.ensures.made;
   making = c.in_ok-making.ensures.made;
   width = c.in_ok-making.ensures.width;

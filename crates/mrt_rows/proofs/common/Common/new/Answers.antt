@@ -1,0 +1,75 @@
+use Rattle.std.proofs.Common.{◌∙◌, ℕ, Bool, List, length, sym, ap, subst}
+use Rattle.std.proofs.lemmas.List.{with_items_is}
+use Rattle.inc_dec_spf.specs.declared.reach.Dir.TheVariants.{Down, Up}
+use Rattle.inc_dec_spf.specs.Turns.{AreTurns}
+use Rattle.mrt_rows.specs.declared.row_over.FirstLinks.{FirstLinks}
+use Rattle.mrt_rows.specs.NearOf.{AreSoles}
+use Rattle.mrt_rows.specs.Put.{AreHeadsMarked, AreHomes}
+use Rattle.mrt_rows.specs.Said.{words_of}
+use Rattle.mrt_rows.proofs.Rooting.{are_directions, has_directions}
+use Rattle.mrt_rows.proofs.common.Common.new.Goals as goal
+
+pub nodes_by_turn-requires : goal.nodes_by_turn-requires
+nodes_by_turn-requires c = has_directions c.requires
+
+pub nodes_by_turn-requires-2 : goal.nodes_by_turn-requires-2
+nodes_by_turn-requires-2 c = has_directions c.requires
+
+pub home_tile-requires-clause-turns : goal.home_tile-requires-clause-turns
+home_tile-requires-clause-turns c =
+    let rooted = c.args.rooted.now in
+    subst (λ (turns : List ℕ). AreTurns rooted.graph.now (words_of rooted) Down turns) (sym c.deref.ensures.value)
+    (c.in_ok-against_order.ensures rooted.root (words_of rooted) (are_directions c.requires))
+
+pub home_tile-requires-clause-a_mark_each : goal.home_tile-requires-clause-a_mark_each
+home_tile-requires-clause-a_mark_each c =
+    ap (λ (hs : List Bool). length hs)
+    (c.deref-2.ensures.value ∙ with_items_is c.in_ok-heads.heads c.take_soles.new.heads (c.take_soles.auto.heads ∙ c.deref_mut-2.ensures.len))
+    ∙ c.take_soles.ensures.a_mark_each
+
+pub home_tile-requires-clause-heads : goal.home_tile-requires-clause-heads
+home_tile-requires-clause-heads c =
+    let rooted = c.args.rooted.now in
+    subst (λ (hs : List Bool). AreHeadsMarked rooted.graph.now (words_of rooted) hs)
+    (sym (c.deref-2.ensures.value
+    ∙ with_items_is c.in_ok-heads.heads c.take_soles.new.heads (c.take_soles.auto.heads ∙ c.deref_mut-2.ensures.len)))
+    c.take_soles.ensures.heads
+
+pub home_tile-requires-2-clause-turns : goal.home_tile-requires-2-clause-turns
+home_tile-requires-2-clause-turns c =
+    let rooted = c.args.rooted.now in
+    subst (λ (turns : List ℕ). AreTurns rooted.graph.now (words_of rooted) Up turns) (sym c.deref-3.ensures.value)
+    (c.in_ok-by_order.ensures rooted.root (words_of rooted) (are_directions c.requires))
+
+pub home_tile-requires-2-clause-a_mark_each : goal.home_tile-requires-2-clause-a_mark_each
+home_tile-requires-2-clause-a_mark_each c =
+    ap (λ (hs : List Bool). length hs)
+    (c.deref-4.ensures.value ∙ with_items_is c.in_ok-heads.heads c.take_soles.new.heads (c.take_soles.auto.heads ∙ c.deref_mut-2.ensures.len))
+    ∙ c.take_soles.ensures.a_mark_each
+
+pub home_tile-requires-2-clause-heads : goal.home_tile-requires-2-clause-heads
+home_tile-requires-2-clause-heads c =
+    let rooted = c.args.rooted.now in
+    subst (λ (hs : List Bool). AreHeadsMarked rooted.graph.now (words_of rooted) hs)
+    (sym (c.deref-4.ensures.value
+    ∙ with_items_is c.in_ok-heads.heads c.take_soles.new.heads (c.take_soles.auto.heads ∙ c.deref_mut-2.ensures.len)))
+    c.take_soles.ensures.heads
+
+pub returns : goal.returns
+returns c =
+    let rooted = c.args.rooted.now in
+    let g = rooted.graph.now in
+    let w = words_of rooted in
+    let are = are_directions c.requires in
+    let heads = with_items_is c.in_ok-heads.heads c.take_soles.new.heads (c.take_soles.auto.heads ∙ c.deref_mut-2.ensures.len) in
+    let soles = with_items_is c.in_ok-soles.soles c.take_soles.new.soles (c.take_soles.auto.soles ∙ c.deref_mut.ensures.len) in
+    let homes = with_items_is c.in_ok-homes.homes c.take_homes.new.homes (c.take_homes.auto.homes ∙ c.deref_mut-3.ensures.len) in
+    record {
+      by_order = c.in_ok-by_order.ensures rooted.root w are;
+      against_order = c.in_ok-against_order.ensures rooted.root w are;
+      a_mark_each = ap (λ (hs : List Bool). length hs) heads ∙ c.take_soles.ensures.a_mark_each;
+      marked = subst (λ (hs : List Bool). AreHeadsMarked g w hs) (sym heads) c.take_soles.ensures.heads;
+      soles = subst (λ (xs : List ℕ). AreSoles g w xs) (sym soles) c.take_soles.ensures.soles;
+      a_home_each = ap (λ (xs : List FirstLinks). length xs) homes ∙ c.take_homes.ensures.one_each;
+      homes = subst (λ (xs : List FirstLinks). AreHomes g w xs) (sym homes) c.take_homes.ensures.homes;
+    }

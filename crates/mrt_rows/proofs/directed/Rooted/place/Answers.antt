@@ -1,0 +1,14 @@
+use Rattle.std.proofs.Common.{arith}
+use Rattle.link_direction.proofs.TwoNodes.{place_says}
+use Rattle.mrt_rows.specs.Said.{words_of}
+use Rattle.mrt_rows.proofs.directed.Rooted.place.Goals as goal
+
+pub place-requires : goal.place-requires
+place-requires c = omega (arith, c.requires.node, c.requires.rooted.says.one_place_each)
+
+pub returns : goal.returns
+returns c =
+    let rooted = c.args.self.now in
+    let it = place_says rooted.graph.now rooted.directed.now (words_of rooted) c.args.v c.place.result c.requires.rooted.says c.requires.node
+    c.place.ensures in
+    record { head = it.0; block = it.1 }

@@ -1,0 +1,14 @@
+use Rattle.std.proofs.Common.{◌∙◌, sym}
+use Rattle.mrt_rows.specs.NearOf.{Apart}
+use Rattle.mrt_rows.specs.Said.{words_of}
+use Rattle.mrt_rows.proofs.RowOver.{apart_by, relates_by}
+use Rattle.mrt_rows.proofs.of_source.Making.row.Goals as goal
+
+pub returns-then-is_apart : goal.returns-then-is_apart
+returns-then-is_apart c =
+    let w = words_of c.args.rooted.now in
+    let source = c.args.source.now in
+    let relation = c.relation_of.result in
+    Apart (apart_by w source.node c.args.t relation
+    (relates_by w source.node c.args.t source.place c.place.result c.requires.source.place c.place.ensures relation c.relation_of.ensures)
+    (sym c.is_apart.ensures ∙ c.if-is_apart.true))
