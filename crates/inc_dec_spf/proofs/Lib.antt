@@ -2,7 +2,6 @@ pub mod AllMarked
 pub mod ByTurn
 pub mod EndCosts
 pub mod EndsOffer
-pub mod EntryRead
 pub mod FirstLinks
 pub mod HomePaths
 pub mod HopExists

@@ -1,12 +1,12 @@
 -- Costs side by side, place after place.
-use Rattle.std.proofs.Common.{◌≡◌, ◌≢◌, ◌⊎◌, ◌∙◌, ◌<◌, ◌≤◌, ◌+◌, ◌-◌, ◌*◌, ℕ, List, nat_lt, length, set, slice_index, inl, inr, refl, sym, ap, arith}
+use Rattle.std.proofs.Common.{◌≡◌, ◌≢◌, ◌⊎◌, ◌∙◌, ◌<◌, ◌≤◌, ◌+◌, ◌-◌, ◌*◌, ℕ, List, nat_lt, length, slice_index, inl, inr, refl, sym, ap, arith}
 use Rattle.std.specs.Prelude.{replicate}
 use Rattle.std.proofs.Math.Nat.{mul-le-mul_left, mul_comm}
 use Rattle.std.proofs.lemmas.Bool.{cases_Bool, cases_eq, cases_lt, ltb-true}
-use Rattle.std.proofs.lemmas.List.{get_or-drop, get_or-replicate, get_or-set_other, get_or-set_same, get_or-take, get_or_past, length-drop, length-replicate, length-take}
+use Rattle.std.proofs.lemmas.List.{get_or-drop, get_or-replicate, get_or-take, get_or_past, length-drop, length-replicate, length-take}
 use Rattle.std.specs.List.{slice_range}
 use Rattle.inc_dec_spf.specs.Rest.{far}
-use Rattle.inc_dec_spf.specs.Side.{AreCosts, AreTaken, IsRowPut, lesser, link_of_lesser}
+use Rattle.inc_dec_spf.specs.Side.{AreCosts, AreTaken, IsRowPut, IsTakenAt, lesser, link_of_lesser}
 
 -- the first places were replaced, and the others are as they were
 pub record AreTakenTo (left : ℕ → ℕ) (metric link : ℕ) (costs links : List ℕ) (count : ℕ) (costs' links' : List ℕ) : Type 0 where
@@ -16,23 +16,23 @@ pub record AreTakenTo (left : ℕ → ℕ) (metric link : ℕ) (costs links : Li
   pub same_costs : (j : ℕ) → count ≤ j → slice_index costs' j ≡ slice_index costs j
   pub same_links : (j : ℕ) → count ≤ j → slice_index links' j ≡ slice_index links j
 
-pub one_taken : (left : ℕ → ℕ) (metric link : ℕ) (costs links : List ℕ) (count : ℕ) (costs' links' : List ℕ) (is was was_link : ℕ) → count < length costs' → count < length links'
-    → AreTakenTo left metric link costs links count costs' links' → is ≡ left count → was ≡ slice_index costs' count → was_link ≡ slice_index links' count
-    → AreTakenTo left metric link costs links (count + 1) (set costs' count (lesser (is + metric) was)) (set links' count (link_of_lesser (is + metric) was link was_link))
-one_taken left metric link costs links count costs' links' is was was_link within within_links so_far left_is cost_is link_is =
-    let old = cost_is ∙ so_far.same_costs count (omega arith) in
-    let old_link = link_is ∙ so_far.same_links count (omega arith) in
+pub one_taken : (left : ℕ → ℕ) (metric link : ℕ) (costs links : List ℕ) (count cost : ℕ) (costs' links' costs'' links'' : List ℕ)
+    → AreTakenTo left metric link costs links count costs' links' → cost ≡ left count + metric → IsTakenAt count cost link costs' links' costs'' links''
+    → AreTakenTo left metric link costs links (count + 1) costs'' links''
+one_taken left metric link costs links count cost costs' links' costs'' links'' so_far is at =
+    let old = so_far.same_costs count (omega arith) in
+    let old_link = so_far.same_links count (omega arith) in
     record {
       each = λ j below. elim (cases_eq j count) [
-        | inl same ↦ rw (same, get_or-set_same costs' count (lesser (is + metric) was) 0 within, left_is, old) refl
-        | inr other ↦ get_or-set_other costs' count j (lesser (is + metric) was) 0 other ∙ so_far.each j (omega (arith, below, other))
+        | inl same ↦ rw (same, at.here, is, old) refl
+        | inr other ↦ at.elsewhere j other ∙ so_far.each j (omega (arith, below, other))
       ];
       links_each = λ j below. elim (cases_eq j count) [
-        | inl same ↦ rw (same, get_or-set_same links' count (link_of_lesser (is + metric) was link was_link) 0 within_links, left_is, old, old_link) refl
-        | inr other ↦ get_or-set_other links' count j (link_of_lesser (is + metric) was link was_link) 0 other ∙ so_far.links_each j (omega (arith, below, other))
+        | inl same ↦ rw (same, at.link_here, is, old, old_link) refl
+        | inr other ↦ at.links_elsewhere j other ∙ so_far.links_each j (omega (arith, below, other))
       ];
-      same_costs = λ j above. get_or-set_other costs' count j (lesser (is + metric) was) 0 (λ same. omega (arith, above, same)) ∙ so_far.same_costs j (omega (arith, above));
-      same_links = λ j above. get_or-set_other links' count j (link_of_lesser (is + metric) was link was_link) 0 (λ same. omega (arith, above, same)) ∙ so_far.same_links j (omega (arith, above));
+      same_costs = λ j above. at.elsewhere j (λ same. omega (arith, above, same)) ∙ so_far.same_costs j (omega (arith, above));
+      same_links = λ j above. at.links_elsewhere j (λ same. omega (arith, above, same)) ∙ so_far.same_links j (omega (arith, above));
     }
 
 -- what is left may be said in other words

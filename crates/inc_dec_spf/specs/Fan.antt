@@ -32,8 +32,3 @@ pub record AreInFan (g : Topology) (fan : FanEntries) (first s t : ℕ) : Type 0
   pub from : first ≤ s
   pub among : s < first + fan.width
   pub target : t < length g.ids
-
--- the links by which node s begins the least paths to all nodes
-pub record HasFirstLinks (g : Topology) (w : Directions) (dir : Dir) (s : ℕ) (links : List ℕ) : Type 0 where
-  pub one_each : length links ≡ length g.ids
-  pub each : (t link : ℕ) → slice_get links t ≡ Some link → s ≢ t → IsFirstLink g w dir s t link

@@ -1,5 +1,5 @@
 -- Least costs side by side: one for each of some nodes.
-use Rattle.std.specs.Prelude.{◌≡◌, ◌==◌, ◌<◌, ◌≤◌, ◌⊎◌, ◌+◌, ◌*◌, ℕ, List, Option, Some, None, length, nat_lt, slice_get, slice_index, if◌then◌else◌}
+use Rattle.std.specs.Prelude.{◌≡◌, ◌≢◌, ◌==◌, ◌<◌, ◌≤◌, ◌⊎◌, ◌+◌, ◌*◌, ℕ, List, Option, Some, None, length, nat_lt, slice_get, slice_index, if◌then◌else◌}
 use Rattle.mrt_graph.specs.declared.link.End.{End}
 use Rattle.inc_dec_spf.specs.declared.reach.Hop.{Hop}
 use Rattle.inc_dec_spf.specs.FirstLink.{no_link}
@@ -34,6 +34,13 @@ pub record AreTaken (left : ℕ → ℕ) (metric link : ℕ) (costs links costs'
   pub each : (j : ℕ) → j < length costs → slice_index costs' j ≡ lesser (left j + metric) (slice_index costs j)
   pub links_each : (j : ℕ) → j < length costs
       → slice_index links' j ≡ link_of_lesser (left j + metric) (slice_index costs j) link (slice_index links j)
+
+-- a way of this cost was taken at place j, where it is less
+pub record IsTakenAt (j cost link : ℕ) (costs links costs' links' : List ℕ) : Type 0 where
+  pub here : slice_index costs' j ≡ lesser cost (slice_index costs j)
+  pub link_here : slice_index links' j ≡ link_of_lesser cost (slice_index costs j) link (slice_index links j)
+  pub elsewhere : (i : ℕ) → i ≢ j → slice_index costs' i ≡ slice_index costs i
+  pub links_elsewhere : (i : ℕ) → i ≢ j → slice_index links' i ≡ slice_index links i
 
 -- the places of node x, of so many for each node, have this, and the others are as they were
 pub record IsRowPut (x width : ℕ) (row : ℕ → ℕ) (all all' : List ℕ) : Type 0 where

@@ -3,7 +3,7 @@
 ghost use Rattle.std.specs.Prelude.{◌≡◌, ◌≢◌, ◌<◌, ◌≤◌, ◌+◌, ◌*◌, ℕ, IfOk, Some, length, slice_get, slice_index, false, true};
 ghost use Rattle.mrt_graph.specs.GraphInvariant.{IsTopology};
 ghost use Rattle.link_direction.specs.Directions.{Directions};
-ghost use Rattle.inc_dec_spf.specs.Fan.{AreInFan, HasFirstLinks, IsFirstHop, IsOpen, link_at};
+ghost use Rattle.inc_dec_spf.specs.Fan.{AreInFan, IsFirstHop, IsOpen, link_at};
 ghost use Rattle.inc_dec_spf.specs.{FanEntries.FanEntries, FanEntries.fan_entries, HasDirections.AreDirections, HasDirections.HasDirections};
 ghost use Rattle.inc_dec_spf.specs.{FirstLink.IsFirstLink, LeastPath.IsHop, Rest.far, Turns.AreTurns};
 ghost use Rattle.inc_dec_spf.specs.Known.{AreLanes, known_at, no_place};
@@ -101,25 +101,6 @@ impl Fan {
             &mut self.from_costs,
             &mut self.from_places,
         );
-    }
-
-    /// Puts the links by which source s begins the least paths to all nodes. It is open from the nodes from `first` on.
-    pub fn put_links(&self, g: &Graph, first: NodeNo, s: NodeNo, links: &mut [LinkNo])
-        requires kept { IsTopology g.now }
-        requires source { s < length g.now.ids }
-        requires from { first ≤ s }
-        requires among { s < first + self.now.width }
-        requires one_each { length links.old ≡ length g.now.ids }
-        requires nodes { self.now.nodes ≡ length g.now.ids }
-        ensures { (w : Directions) (dir : Dir) → IsOpen g.now w dir first self.now
-            → HasFirstLinks g.now w dir s links.new }
-    {
-        let width = self.from_costs.len();
-        let j = (s.get() - first.get()) as usize;
-        let ends = g.ends(s);
-        for n in 0..g.node_count() as usize {
-            links[n] = link_at(ends, self.places[n * width + j]);
-        }
     }
 
     /// The hop of source s for node t. It is open from the nodes from `first` on.

@@ -1,12 +1,13 @@
 //! Offers of ways from some sources side by side.
 
-ghost use Rattle.std.specs.Prelude.{◌≡◌, ◌<◌, ◌≤◌, ◌+◌, ◌*◌, ◌↔◌, IsTrue, if◌then◌else◌, length};
+ghost use Rattle.std.specs.Prelude.{◌≡◌, ◌<◌, ◌≤◌, ◌+◌, ◌*◌, ◌↔◌, IsTrue, length};
 ghost use Rattle.mrt_graph.specs.declared.cert.Role.TheVariants.{Sole};
 ghost use Rattle.inc_dec_spf.specs.{Offers.OffersFirst, Offers.OffersFurther, Offers.goes_on, Opening.IsOpening, Rest.far};
 ghost use Rattle.inc_dec_spf.specs.Known.{AreLanes, AreLow, AreOffered, IsOne, IsOver, comes_before, known, known_at, no_place};
 
 use crate::fan::Opening;
 use crate::reach::Dir;
+use crate::side::either;
 use mrt_graph::{NodeNo, Role, Way};
 
 /// Stands for no end: no node has so many.
@@ -17,13 +18,6 @@ fn comes_before(cost: u32, place: u16, old: u32, old_place: u16) -> bool
     ensures { result ≡ comes_before (known cost place) (known old old_place) }
 {
     cost < old || (cost == old && place < old_place)
-}
-
-/// One of two values. (A value rather than a choice to write: so some are written at once.)
-fn either<T: Copy>(first: bool, one: T, other: T) -> T
-    ensures { result ≡ (if first then one else other) }
-{
-    if first { one } else { other }
 }
 
 /// Offers a way: it is kept where it comes first.

@@ -1,7 +1,7 @@
 //! Least costs to some nodes side by side.
 
-ghost use Rattle.std.specs.Prelude.{◌≡◌, length, slice_index};
-ghost use Rattle.inc_dec_spf.specs.Side.{AreCosts, AreTaken, cost_at, hop_by, left_onward, lesser, link_of_lesser};
+ghost use Rattle.std.specs.Prelude.{◌≡◌, ◌<◌, if◌then◌else◌, length, slice_index};
+ghost use Rattle.inc_dec_spf.specs.Side.{AreCosts, AreTaken, IsTakenAt, cost_at, hop_by, left_onward};
 
 use crate::reach::Hop;
 use mrt_graph::{End, LinkNo, NodeNo};
@@ -29,26 +29,11 @@ pub fn take_over(left: &[u32], metric: u16, link: LinkNo, costs: &mut [u32], lin
     ensures { AreTaken (λ j. slice_index left.now j) metric link costs.old links.old costs.new links.new }
 {
     for j in 0..costs.len() {
-        let cost = left[j] + metric as u32;
-        let old = costs[j];
-        costs[j] = lesser(cost, old);
-        links[j] = link_of_lesser(cost, old, link, links[j]);
+        take_at(j, left[j] + metric as u32, link, costs, links);
     }
 }
 
-fn lesser(cost: u32, old: u32) -> u32
-    ensures { result ≡ lesser cost old }
-{
-    if cost < old { cost } else { old }
-}
-
-fn link_of_lesser(cost: u32, old: u32, link: LinkNo, old_link: LinkNo) -> LinkNo
-    ensures { result ≡ link_of_lesser cost old link old_link }
-{
-    if cost < old { link } else { old_link }
-}
-
-/// Takes the ways over an end like this, but for those whose aim is the end's own node.
+/// Takes the ways over an end like this, but for those whose aim is the end's own node: the way back is none.
 pub fn take_onward(
     leg: &Leg,
     aims: &[NodeNo],
@@ -63,25 +48,14 @@ pub fn take_onward(
     ensures { AreTaken (λ j. left_onward leg.now.node (slice_index aims.now j) (slice_index left.now j))
         leg.now.end.metric leg.now.end.link costs.old links.old costs.new links.new }
 {
-    let x = leg.node;
-    let metric = leg.end.metric;
-    let link = leg.end.link;
+    let end = leg.end;
     for j in 0..costs.len() {
-        let cost = left_onward(x, aims[j], left[j]) + metric as u32;
-        let old = costs[j];
-        costs[j] = lesser(cost, old);
-        links[j] = link_of_lesser(cost, old, link, links[j]);
+        let onward = either(aims[j] == leg.node, FAR, left[j]);
+        take_at(j, onward + end.metric as u32, end.link, costs, links);
     }
 }
 
-/// What is left from x on: the way back to x itself is none.
-fn left_onward(x: NodeNo, aim: NodeNo, left: u32) -> u32
-    ensures { result ≡ left_onward x aim left }
-{
-    if aim == x { FAR } else { left }
-}
-
-/// Takes the ways that end with an end to node `to`, where they are less: those whose aim it is.
+/// Takes the ways that end with an end to node `to`, where they are less: nothing is left where it is the aim.
 pub fn take_last(
     to: NodeNo,
     aims: &[NodeNo],
@@ -95,18 +69,27 @@ pub fn take_last(
     ensures { AreTaken (λ j. cost_at to (slice_index aims.now j)) metric link costs.old links.old costs.new links.new }
 {
     for j in 0..costs.len() {
-        let cost = cost_at(to, aims[j]) + metric as u32;
-        let old = costs[j];
-        costs[j] = lesser(cost, old);
-        links[j] = link_of_lesser(cost, old, link, links[j]);
+        let last = either(to == aims[j], 0, FAR);
+        take_at(j, last + metric as u32, link, costs, links);
     }
 }
 
-/// What is left at node y where no end is left: nothing at its aim.
-fn cost_at(y: NodeNo, aim: NodeNo) -> u32
-    ensures { result ≡ cost_at y aim }
+/// Takes a way by this cost at one place, where it is less.
+fn take_at(j: usize, cost: u32, link: LinkNo, costs: &mut [u32], links: &mut [LinkNo])
+    requires place { j < length costs.old }
+    requires one_link_each { length links.old ≡ length costs.old }
+    ensures { IsTakenAt j cost link costs.old links.old costs.new links.new }
 {
-    if y == aim { 0 } else { FAR }
+    let less = cost < costs[j];
+    costs[j] = either(less, cost, costs[j]);
+    links[j] = either(less, link, links[j]);
+}
+
+/// One of two values. (A value rather than a choice to write: so some are written at once.)
+pub fn either<T: Copy>(first: bool, one: T, other: T) -> T
+    ensures { result ≡ (if first then one else other) }
+{
+    if first { one } else { other }
 }
 
 /// The hop by a least cost and its link: none where the cost is far.

@@ -9,7 +9,7 @@ ghost use Rattle.inc_dec_spf.specs.Side.{AreCosts, AreTaken, IsRowPut, cost_from
 
 use crate::aiming::Aiming;
 use crate::offers::{is_sole, leads_on};
-use crate::side::{FAR, Leg, NO_LINK, take_last, take_onward, take_over};
+use crate::side::{FAR, Leg, NO_LINK, either, take_last, take_onward, take_over};
 use mrt_graph::{LinkNo, NodeNo, Role};
 
 /// Takes the least ways from x over its ends in the wanted blocks to the aims side by side, of which each block has its own.
@@ -127,15 +127,8 @@ fn keep_costs(aiming: &Aiming, x: NodeNo, block: NodeNo, costs: &[u32], all: &mu
     let from = block.get() as usize * width;
     let at = x.get() as usize * width;
     for j in 0..width {
-        all[at + j] = cost_from(x, aiming.aims[from + j], costs[j]);
+        all[at + j] = either(aiming.aims[from + j] == x, 0, costs[j]);
     }
-}
-
-/// The cost from x to what is aimed at: none at x itself. (A value rather than a choice to write: so some are written at once.)
-fn cost_from(x: NodeNo, aim: NodeNo, cost: u32) -> u32
-    ensures { result ≡ cost_from x aim cost }
-{
-    if aim == x { 0 } else { cost }
 }
 
 /// Keeps the links of x among those of all nodes.

@@ -1,8 +1,15 @@
-use Rattle.std.proofs.Common.{◌≡◌, ◌<◌, ◌+◌, ◌-◌, ◌*◌, ◌∙◌, ℕ, Some, get_or, length, slice_get, sym, ap, subst, arith}
+use Rattle.std.proofs.Common.{◌≡◌, ◌<◌, ◌+◌, ◌-◌, ◌*◌, ◌∙◌, ℕ, List, Some, get_or, length, slice_get, sym, ap, subst, arith}
+use Rattle.std.proofs.lemmas.Grind.{get_or_default_zero}
 use Rattle.inc_dec_spf.specs.Fan.{IsFirstHop, IsOpen, link_at}
 use Rattle.inc_dec_spf.specs.FanEntries.{FanEntries, fan_entries}
-use Rattle.inc_dec_spf.proofs.EntryRead.{entry_read}
+use Rattle.inc_dec_spf.proofs.SideBySide.{row_within}
 use Rattle.inc_dec_spf.proofs.fan.Fan.way.Goals as goal
+
+-- an entry, as it is read
+entry_read : (places : List ℕ) (n width j t x : ℕ) → length places ≡ n * width → t < n → j < width → x ≡ get_or places (t * width + j) x
+    → x ≡ get_or places (t * width + j) 0
+entry_read places n width j t x long within below read =
+    read ∙ get_or_default_zero places (t * width + j) x (omega (arith, row_within t n width (length places) long within, below))
 
 pub returns : goal.returns
 returns c = λ w dir opened.
