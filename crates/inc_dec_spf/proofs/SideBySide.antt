@@ -1,8 +1,9 @@
 -- Costs side by side, place after place.
-use Rattle.std.proofs.Common.{◌≡◌, ◌≢◌, ◌⊎◌, ◌∙◌, ◌<◌, ◌≤◌, ◌+◌, ◌-◌, ◌*◌, ℕ, List, nat_lt, length, slice_index, inl, inr, refl, sym, ap, arith}
+use Rattle.std.proofs.Common.{◌≡◌, ◌≢◌, ◌⊎◌, ◌∙◌, ◌<◌, ◌≤◌, ◌+◌, ◌-◌, ◌*◌, ℕ, List, nat_lt, get_or, length, slice_index, inl, inr, refl, sym, ap, arith}
 use Rattle.std.specs.Prelude.{replicate}
 use Rattle.std.proofs.Math.Nat.{mul-le-mul_left, mul_comm}
 use Rattle.std.proofs.lemmas.Bool.{cases_Bool, cases_eq, cases_lt, ltb-true}
+use Rattle.std.proofs.lemmas.Grind.{get_or_default_zero}
 use Rattle.std.proofs.lemmas.List.{get_or-drop, get_or-replicate, get_or-take, get_or_past, length-drop, length-replicate, length-take}
 use Rattle.std.specs.List.{slice_range}
 use Rattle.inc_dec_spf.specs.Rest.{far}
@@ -101,3 +102,9 @@ row_most x width row all all' put low most i = elim (cases_lt i (x * width)) [
     | inr after ↦ omega (arith, put.elsewhere i (inr after), most i)
   ]
 ]
+
+-- an entry, as it is read
+pub entry_read : (places : List ℕ) (n width j t x : ℕ) → length places ≡ n * width → t < n → j < width → x ≡ get_or places (t * width + j) x
+    → x ≡ get_or places (t * width + j) 0
+entry_read places n width j t x long within below read =
+    read ∙ get_or_default_zero places (t * width + j) x (omega (arith, row_within t n width (length places) long within, below))

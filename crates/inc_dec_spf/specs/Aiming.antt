@@ -1,13 +1,11 @@
 -- What a tile is aimed by, and what it knows then.
-use Rattle.std.specs.Prelude.{◌≡◌, ◌<◌, ◌*◌, ℕ, List, Some, length, slice_get, true}
+use Rattle.std.specs.Prelude.{◌≡◌, ◌<◌, ◌*◌, ℕ, List, length}
 use Rattle.mrt_graph.specs.GraphInvariant.{IsTopology}
 use Rattle.link_direction.specs.Directions.{Directions}
 use Rattle.inc_dec_spf.specs.declared.aiming.Aiming.{Aiming}
 use Rattle.inc_dec_spf.specs.Against.{against}
-use Rattle.inc_dec_spf.specs.BlockAims.{IsAimOf, aim_at}
 use Rattle.inc_dec_spf.specs.FirstLink.{HasLinksAt, LiesInOneBlock}
 use Rattle.inc_dec_spf.specs.HasDirections.{AreDirections, HasDirections}
-use Rattle.inc_dec_spf.specs.LeastPath.{HaveCommonBlockOfMoreLinks}
 use Rattle.inc_dec_spf.specs.Side.{AreCosts}
 use Rattle.inc_dec_spf.specs.Turns.{AreTurns}
 use Rattle.inc_dec_spf.specs.Ways.{IsReadyFrom, IsWantedBlock, sought}
@@ -36,8 +34,3 @@ pub record HasOwnWays (aiming : Aiming) (w : Directions) (width : ℕ) (costs li
 abbrev pub HaveOwnWays : Aiming → ℕ → List ℕ → List ℕ → Type 0
 HaveOwnWays aiming width costs links =
     (root y : ℕ) (w : Directions) → AreDirections aiming.graph.now aiming.directed.now root w → y < length aiming.graph.now.ids → HasOwnWays aiming w width costs links y
-
--- node s aims at t, at the one place that there is, over blocks that are wanted
-pub record IsAimedAt (aiming : Aiming) (w : Directions) (s t : ℕ) : Type 0 where
-  pub aims : IsAimOf aiming.graph.now w (aim_at aiming.aims.now 1 0) s t
-  pub wanted : (k h : ℕ) → HaveCommonBlockOfMoreLinks aiming.graph.now w s t k h → slice_get aiming.wanted.now k ≡ Some true

@@ -3,7 +3,7 @@
 ghost use Rattle.std.specs.Prelude.{◌≡◌, ◌≢◌, ◌<◌, ◌≤◌, ◌+◌, ◌*◌, ℕ, IfOk, Some, length, slice_get, slice_index, false, true};
 ghost use Rattle.mrt_graph.specs.GraphInvariant.{IsTopology};
 ghost use Rattle.link_direction.specs.Directions.{Directions};
-ghost use Rattle.inc_dec_spf.specs.Fan.{AreInFan, IsFirstHop, IsOpen, link_at};
+ghost use Rattle.inc_dec_spf.specs.Fan.{AreInFan, IsOpen, link_at};
 ghost use Rattle.inc_dec_spf.specs.{FanEntries.FanEntries, FanEntries.fan_entries, HasDirections.AreDirections, HasDirections.HasDirections};
 ghost use Rattle.inc_dec_spf.specs.{FirstLink.IsFirstLink, LeastPath.IsHop, Rest.far, Turns.AreTurns};
 ghost use Rattle.inc_dec_spf.specs.Known.{AreLanes, known_at, no_place};
@@ -111,8 +111,8 @@ impl Fan {
         if t == s {
             return None;
         }
-        let (cost, link) = self.way(g, first, s, t);
-        hop_by(cost, link)
+        let at = t.get() as usize * self.from_costs.len() + (s.get() - first.get()) as usize;
+        hop_by(self.costs[at], link_at(g.ends(s), self.places[at]))
     }
 
     /// The link by which source s begins the least path to another node t. It is open from the nodes from `first` on.
@@ -125,17 +125,8 @@ impl Fan {
         ensures { (w : Directions) (dir : Dir) → IsOpen g.now w dir first self.now → s ≢ t
             → IsFirstLink g.now w dir s t result }
     {
-        self.way(g, first, s, t).1
-    }
-
-    /// What is known of node t on the way from source s: the least cost, and the link that begins a path of this cost.
-    fn way(&self, g: &Graph, first: NodeNo, s: NodeNo, t: NodeNo) -> (u32, LinkNo)
-        requires { AreInFan g.now self.now first s t }
-        ensures { (w : Directions) (dir : Dir) → IsOpen g.now w dir first self.now
-            → IsFirstHop g.now w dir s t result.0 result.1 }
-    {
-        let at = t.get() as usize * self.from_costs.len() + (s.get() - first.get()) as usize;
-        (self.costs[at], link_at(g.ends(s), self.places[at]))
+        let place = t.get() as usize * self.from_costs.len() + (s.get() - first.get()) as usize;
+        link_at(g.ends(s), self.places[place])
     }
 }
 

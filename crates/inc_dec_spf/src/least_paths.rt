@@ -1,14 +1,13 @@
 //! Least paths from one node, and to one.
 
-ghost use Rattle.std.specs.Prelude.{◌≡◌, ◌<◌, ◌≤◌, ℕ, IfOk, Option, Some, length, slice_get};
+ghost use Rattle.std.specs.Prelude.{◌≡◌, ◌<◌, ◌≤◌, ℕ, IfOk, length};
 ghost use Rattle.mrt_graph.specs.GraphInvariant.{IsTopology};
 ghost use Rattle.link_direction.specs.Directions.{Directions, Says};
-ghost use Rattle.inc_dec_spf.specs.{Aiming.AreRows, Aiming.IsAimedAt, Aiming.IsAiming, HasDirections.AreDirections, HasDirections.HasDirections};
-ghost use Rattle.inc_dec_spf.specs.{LeastPath.IsHop, LeastPath.IsReach, LeastPath.IsReachTo, declared.reach.Hop.Hop};
+ghost use Rattle.inc_dec_spf.specs.{HasDirections.HasDirections, LeastPath.IsReach, LeastPath.IsReachTo};
 
 use crate::aiming::{Aiming, mark_blocks};
 use crate::fan::Fan;
-use crate::reach::{Dir, Hop, Reach, nodes_by_turn};
+use crate::reach::{Dir, Reach, nodes_by_turn};
 use crate::side::{FAR, NO_LINK, hop_by};
 use crate::ways::{take_own_ways, take_ways};
 use mrt_graph::{Directed, Graph, LinkNo, NoMemory, NodeNo};
@@ -72,31 +71,20 @@ pub fn spf_to(
     };
     let mut all_costs = vec![in alloc; FAR; count as usize]?;
     let mut all_links = vec![in alloc; LinkNo::new(NO_LINK); count as usize]?;
-    let mut hops = vec![in alloc; None; count as usize]?;
-    take_hops(&aiming, &mut all_costs, &mut all_links, &mut hops);
-    Ok(Reach::new(hops))
-}
-
-/// Takes the hops of all nodes to the first of what their blocks aim at, in all wanted blocks that do not aim at the node itself.
-fn take_hops(
-    aiming: &Aiming,
-    all_costs: &mut [u32],
-    all_links: &mut [LinkNo],
-    hops: &mut [Option<Hop>],
-)
-    requires aiming { IsAiming aiming.now 1 }
-    requires rows { AreRows aiming.now 1 all_costs.old }
-    requires all_links { length all_links.old ≡ length all_costs.old }
-    requires hops { length hops.old ≡ length aiming.now.graph.now.ids }
-    ensures { (root s t : ℕ) (w : Directions) (hop : Option Hop) → AreDirections aiming.now.graph.now aiming.now.directed.now root w
-        → IsAimedAt aiming.now w s t → slice_get hops.new s ≡ Some hop → IsHop aiming.now.graph.now w aiming.now.dir s t hop }
-{
     let mut costs = [FAR];
     let mut links = [LinkNo::new(NO_LINK)];
-    take_own_ways(aiming, all_costs, all_links, &mut costs, &mut links);
-    for n in 0..aiming.graph.node_count() {
+    take_own_ways(
+        &aiming,
+        &mut all_costs,
+        &mut all_links,
+        &mut costs,
+        &mut links,
+    );
+    let mut hops = vec![in alloc; None; count as usize]?;
+    for n in 0..count {
         let s = NodeNo::new(n);
-        take_ways(aiming, s, false, all_costs, &mut costs, &mut links);
+        take_ways(&aiming, s, false, &all_costs, &mut costs, &mut links);
         hops[n as usize] = hop_by(costs[0], links[0]);
     }
+    Ok(Reach::new(hops))
 }

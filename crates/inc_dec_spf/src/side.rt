@@ -48,9 +48,10 @@ pub fn take_onward(
     ensures { AreTaken (λ j. left_onward leg.now.node (slice_index aims.now j) (slice_index left.now j))
         leg.now.end.metric leg.now.end.link costs.old links.old costs.new links.new }
 {
+    let x = leg.node;
     let end = leg.end;
     for j in 0..costs.len() {
-        let onward = either(aims[j] == leg.node, FAR, left[j]);
+        let onward = either(aims[j] == x, FAR, left[j]);
         take_at(j, onward + end.metric as u32, end.link, costs, links);
     }
 }

@@ -1,23 +1,30 @@
-use Rattle.std.proofs.Common.{rules, ◌≡◌, ◌∙◌, ◌<◌, ◌+◌, ◌*◌, ℕ, Bool, true, List, Option, Some, get_or, length, slice_get, sym, ap, subst, arith}
+use Rattle.std.proofs.Common.{rules, ◌≡◌, ◌∙◌, ◌<◌, ◌+◌, ◌*◌, ℕ, Bool, true, false, List, Option, Some, get_or, length, length-set, set, slice_get, inl, inr, refl, sym, ap, subst, arith}
 use Rattle.std.specs.Prelude.{replicate}
+use Rattle.std.proofs.lemmas.Bool.{cases_eq}
+use Rattle.std.proofs.lemmas.Grind.{get_or_default_zero}
 use Rattle.std.proofs.lemmas.List.{get_or-replicate, length-replicate, with_items_is}
-use Rattle.std.proofs.lemmas.Option.{slice_get_within}
+use Rattle.std.proofs.lemmas.Option.{same_Some, slice_get_within}
 use Rattle.mrt_graph.specs.GraphInvariant.{IsTopology}
+use Rattle.mrt_graph.proofs.EndsAt.{list_of_ends}
+use Rattle.mrt_graph.proofs.ListPlaces.{set_elsewhere, set_there}
 use Rattle.link_direction.specs.CommonBlock.{FromHead, HaveCommonBlock, Peers, ToHead}
 use Rattle.link_direction.specs.Directions.{Directions}
 use Rattle.inc_dec_spf.specs.declared.aiming.Aiming.{Aiming}
 use Rattle.inc_dec_spf.specs.declared.reach.Dir.{Dir}
 use Rattle.inc_dec_spf.specs.declared.reach.Hop.{Hop}
 use Rattle.inc_dec_spf.specs.Against.{against}
-use Rattle.inc_dec_spf.specs.Aiming.{IsAimedAt, IsAiming}
-use Rattle.inc_dec_spf.specs.BlockAims.{aim_at}
+use Rattle.inc_dec_spf.specs.Aiming.{IsAiming}
+use Rattle.inc_dec_spf.specs.BlockAims.{IsAimOf, aim_at}
 use Rattle.inc_dec_spf.specs.HasDirections.{AreDirections, HasDirections}
-use Rattle.inc_dec_spf.specs.LeastPath.{IsReachTo}
+use Rattle.inc_dec_spf.specs.LeastPath.{IsHop, IsReachTo}
 use Rattle.inc_dec_spf.specs.Rest.{far}
 use Rattle.inc_dec_spf.specs.Turns.{AreTurns}
+use Rattle.inc_dec_spf.specs.Ways.{AreLeast, AreReady, sought}
 use Rattle.link_direction.proofs.ClosedBlocks.{IsOrdered}
+use Rattle.inc_dec_spf.proofs.OwnWays.{all_ready}
 use Rattle.inc_dec_spf.proofs.SameDirections.{directions_are}
 use Rattle.inc_dec_spf.proofs.SideBySide.{far_costs}
+use Rattle.inc_dec_spf.proofs.WaysArePaths.{least_hop}
 use Rattle.inc_dec_spf.proofs.least_paths.spf_to.Goals as goal
 
 -- the block of two nodes is named by one
@@ -42,15 +49,12 @@ aiming_is aiming other turns aims wanted kept directed dir_is turns_are aims_are
       a_mark_each = ap (λ (bs : List Bool). length bs) wanted_is ∙ marks;
     }
 
--- all blocks aim at t, and those of t are wanted
+-- all blocks aim at t
 aimed_at : (aiming : Aiming) (root : ℕ) (w : Directions) → IsOrdered aiming.graph.now root w → (s t : ℕ) → s < length aiming.graph.now.ids → t < length aiming.graph.now.ids
-    → aiming.aims.now ≡ replicate (length aiming.graph.now.ids) t → ((k h : ℕ) → HaveCommonBlock w s t k h → slice_get aiming.wanted.now k ≡ Some true) → IsAimedAt aiming w s t
-aimed_at aiming root w is s t within t_within same marked = record {
-  aims = record {
-    aimed = λ k h common. aim k (block_of_two n root w is.ordered.heads.block_within s t k h within t_within common);
-    alone = λ u k h u_within apart common onward. aim k (block_of_two n root w is.ordered.heads.block_within s u k h within u_within common);
-  };
-  wanted = λ k h share. marked k h share.common;
+    → aiming.aims.now ≡ replicate (length aiming.graph.now.ids) t → IsAimOf aiming.graph.now w (aim_at aiming.aims.now 1 0) s t
+aimed_at aiming root w is s t within t_within same = record {
+  aimed = λ k h common. aim k (block_of_two n root w is.ordered.heads.block_within s t k h within t_within common);
+  alone = λ u k h u_within apart common onward. aim k (block_of_two n root w is.ordered.heads.block_within s u k h within u_within common);
 }
   where
     n : ℕ
@@ -61,37 +65,93 @@ aimed_at aiming root w is s t within t_within same marked = record {
         let at : k * 1 + 0 ≡ k = omega arith in
         ap (λ (xs : List ℕ). get_or xs (k * 1 + 0) 0) same ∙ ap (λ (i : ℕ). get_or (replicate n t) i 0) at ∙ get_or-replicate n k t 0 below
 
-pub take_hops-requires-clause-aiming : goal.take_hops-requires-clause-aiming
-take_hops-requires-clause-aiming c =
+pub take_own_ways-requires-clause-aiming : goal.take_own_ways-requires-clause-aiming
+take_own_ways-requires-clause-aiming c =
     let marks = with_items_is c.in_ok-wanted.wanted c.mark_blocks.new.marks (c.mark_blocks.auto.marks ∙ c.deref_mut.ensures.len) in
     aiming_is _ c.against.result c.in_ok-turns.turns.items c.in_ok-aims.aims.items c.mark_blocks.new.marks c.node_count-count.ensures.kept c.requires.directed
     c.against.ensures c.as_slice.ensures.value c.as_slice-2.ensures.value (c.as_slice-3.ensures.value ∙ marks) (search rules) (search rules) c.in_ok-turns.ensures
 
-pub take_hops-requires-clause-rows : goal.take_hops-requires-clause-rows
-take_hops-requires-clause-rows c =
+pub take_own_ways-requires-clause-rows : goal.take_own_ways-requires-clause-rows
+take_own_ways-requires-clause-rows c =
     let count = c.node_count-count.result in
     let blank : c.deref_mut-2.result.now ≡ replicate count far = c.deref_mut-2.ensures.value ∙ c.in_ok-all_costs.ensures.items_if_clones_equal (search rules) in
     rw blank (record { one_each = omega (arith, length-replicate count far, c.node_count-count.ensures.count); most = far_costs count })
 
+pub loop-n-init : goal.loop-n-init
+loop-n-init c =
+    let made : length c.in_ok-hops.hops.items ≡ c.node_count-count.result = search rules in
+    record {
+      one_each = made ∙ c.node_count-count.ensures.count;
+      one_cost = c.take_own_ways.auto.costs;
+      one_link = c.take_own_ways.auto.links;
+      done = λ root s w hop are below. absurd (omega (arith, below));
+    }
+
+pub take_ways-requires-clause-aiming : goal.take_ways-requires-clause-aiming
+take_ways-requires-clause-aiming c =
+    let marks = with_items_is c.in_ok-wanted.wanted c.mark_blocks.new.marks (c.mark_blocks.auto.marks ∙ c.deref_mut.ensures.len) in
+    rw c.loop-n.invariant.one_cost
+    (aiming_is _ c.against.result c.in_ok-turns.turns.items c.in_ok-aims.aims.items c.mark_blocks.new.marks c.node_count-count.ensures.kept c.requires.directed
+    c.against.ensures c.as_slice.ensures.value c.as_slice-2.ensures.value (c.as_slice-3.ensures.value ∙ marks) (search rules) (search rules) c.in_ok-turns.ensures)
+
+pub take_ways-requires-clause-rows : goal.take_ways-requires-clause-rows
+take_ways-requires-clause-rows c =
+    let all = c.deref.ensures.value ∙ with_items_is c.in_ok-all_costs.all_costs c.take_own_ways.new.all_costs (c.take_own_ways.auto.all_costs ∙ c.deref_mut-2.ensures.len) in
+    rw (c.loop-n.invariant.one_cost, all) c.take_own_ways.ensures.rows
+
+pub loop-n-preserved : goal.loop-n-preserved
+loop-n-preserved c =
+    let g = c.args.g.now in
+    let t = c.args.target in
+    let dir = c.args.dir in
+    let kept = c.node_count-count.ensures.kept in
+    let s = c.new-s.result in
+    let n = c.loop-n.n in
+    let hops = c.loop-n.hops.items in
+    let new = c.hop_by.result in
+    let costs = c.take_ways.new.costs in
+    let links = c.take_ways.new.links in
+    let all = c.deref.ensures.value ∙ with_items_is c.in_ok-all_costs.all_costs c.take_own_ways.new.all_costs (c.take_own_ways.auto.all_costs ∙ c.deref_mut-2.ensures.len) in
+    let aiming : Aiming = record { graph = c.args.g; directed = c.args.d; dir = dir; turns = c.as_slice.result; aims = c.as_slice-2.result; wanted = c.as_slice-3.result } in
+    let marks = c.as_slice-3.ensures.value ∙ with_items_is c.in_ok-wanted.wanted c.mark_blocks.new.marks (c.mark_blocks.auto.marks ∙ c.deref_mut.ensures.len) in
+    let aims : c.in_ok-aims.aims.items ≡ replicate c.node_count-count.result t = search rules in
+    let within : s < length g.ids = omega (arith, c.new-s.ensures, c.loop-n-test.true, c.node_count-count.ensures.count) in
+    record {
+      one_each = length-set hops n new ∙ c.loop-n.invariant.one_each;
+      one_cost = c.take_ways.auto.costs ∙ c.loop-n.invariant.one_cost;
+      one_link = c.take_ways.auto.links ∙ c.loop-n.invariant.one_link;
+      done = λ root v w hop are below at. elim (cases_eq v n) [
+        | inl same ↦
+            let is : IsOrdered g root w = record { kept = kept; ordered = are.ordered } in
+            let ends = list_of_ends g s kept within in
+            let it = aimed_at aiming root w is s t within c.requires.target (c.as_slice-2.ensures.value ∙ aims ∙ ap (λ (m : ℕ). replicate m t) c.node_count-count.ensures.count) in
+            let ready = all_ready aiming root w 1 c.take_own_ways.new.all_costs c.take_own_ways.new.all_links s is (λ y y_within. c.take_own_ways.ensures.own root y w are y_within) in
+            let ready_all = subst (λ (xs : List ℕ). AreReady aiming w false 1 xs s) (sym all) ready in
+            let least = (subst (λ (m : ℕ). AreLeast aiming w false m s ends.0 (length ends.0) costs links) c.loop-n.invariant.one_cost
+            (c.take_ways.ensures.least root w ends.0 are
+            (subst (λ (m : ℕ). AreReady aiming w false m c.deref.result.now s) (sym c.loop-n.invariant.one_cost) ready_all) ends.1)).each 0 (omega arith) in
+            let found = least_hop (sought aiming w) root is false s t (aim_at aiming.aims.now 1 0) _ _ ends.0 ends.1 (λ own two. (cc)) (λ k h share. (
+              (λ own. (cc)),
+              subst (λ (bs : List Bool). slice_get bs k ≡ Some true) (sym marks) (c.mark_blocks.ensures root s k h w are within share.common),
+              it.aimed k h share.common,
+            )) (λ u k h u_within apart common own onward. it.alone u k h u_within apart common (onward refl)) least in
+            let link = get_or_default_zero links 0 c.index-links-0.result (omega (arith, c.take_ways.auto.links, c.loop-n.invariant.one_link)) in
+            let now = subst (λ (x : ℕ). slice_get (set hops n new) x ≡ Some hop) same at in
+            let new_is : new ≡ hop = same_Some new hop (sym (set_there hops n new (omega (arith, c.new-s.ensures, within, c.loop-n.invariant.one_each))) ∙ now) in
+            subst (λ (o : Option Hop). IsHop g w dir v t o) new_is
+            (subst (λ (y : ℕ). IsHop g w dir y t new) (c.new-s.ensures ∙ sym same) (rw (c.hop_by.ensures, link) found))
+        | inr other ↦ c.loop-n.invariant.done root v w hop are (omega (arith, below, other)) (sym (set_elsewhere hops n v new other) ∙ at)
+      ];
+    }
+
 pub returns : goal.returns
 returns c = λ w says.
     let g = c.args.g.now in
-    let t = c.args.target in
-    let kept = c.node_count-count.ensures.kept in
-    let root = c.requires.directed.root in
-    let are = directions_are g c.args.d.now w kept c.requires.directed says in
-    let hops = with_items_is c.in_ok-hops.hops c.take_hops.new.hops (c.take_hops.auto.hops ∙ c.deref_mut-4.ensures.len) in
-    let made : length c.in_ok-hops.hops.items ≡ c.node_count-count.result = search rules in
-    let many : length c.take_hops.new.hops ≡ length g.ids =
-    c.take_hops.auto.hops ∙ ap (λ (xs : List (Option Hop)). length xs) c.deref_mut-4.ensures.value ∙ made ∙ c.node_count-count.ensures.count in
-    let marks = c.as_slice-3.ensures.value ∙ with_items_is c.in_ok-wanted.wanted c.mark_blocks.new.marks (c.mark_blocks.auto.marks ∙ c.deref_mut.ensures.len) in
-    let aims : c.in_ok-aims.aims.items ≡ replicate c.node_count-count.result t = search rules in
-    subst (λ (all : List (Option Hop)). IsReachTo g w c.args.dir t all) (sym (c.new-2.ensures ∙ hops)) (record {
-      one_each = many;
+    let are = directions_are g c.args.d.now w c.node_count-count.ensures.kept c.requires.directed says in
+    let hops = c.loop-n.hops.items in
+    subst (λ (all : List (Option Hop)). IsReachTo g w c.args.dir c.args.target all) (sym c.new-3.ensures) (record {
+      one_each = c.loop-n.invariant.one_each;
       each = λ s hop at.
-          let within : s < length g.ids = omega (arith, slice_get_within c.take_hops.new.hops s hop at, many) in
-          c.take_hops.ensures root s t w hop are
-          (aimed_at _ root w (record { kept = kept; ordered = are.ordered }) s t within c.requires.target
-          (c.as_slice-2.ensures.value ∙ aims ∙ ap (λ (m : ℕ). replicate m t) c.node_count-count.ensures.count)
-          (λ k h common. subst (λ (bs : List Bool). slice_get bs k ≡ Some true) (sym marks) (c.mark_blocks.ensures root s k h w are within common))) at;
+          c.loop-n.invariant.done c.requires.directed.root s w hop are
+          (omega (arith, slice_get_within hops s hop at, c.loop-n.invariant.one_each, c.node_count-count.ensures.count, c.loop-n-test.false)) at;
     })
