@@ -10,7 +10,7 @@ use crate::common::{Common, mark};
 use crate::directed::Rooted;
 use crate::row_over::{FirstLinks, row_home};
 use inc_dec_spf::{Aiming, Dir, Tile, put_heads};
-use mrt_graph::{LinkNo, NoMemory, NodeNo, Row};
+use mrt_graph::{LinkNo, NoMemory, NodeNo, Row, relation_of};
 use std::alloc::Global;
 
 /// So many destinations are taken side by side.
@@ -181,7 +181,8 @@ impl Columns {
             up: self.up.links_of(s)[to.at],
             down: self.down.links_of(s)[to.at],
         };
-        self.common.row(rooted, &source, aim, &links)
+        let relation = relation_of(source.node, &source.place, aim, &rooted.place(aim));
+        self.common.row(rooted, &source, aim, relation, &links)
     }
 }
 

@@ -1,20 +1,21 @@
 //! What the rows of all nodes have in common.
 
 ghost use Rattle.std.specs.Prelude.{◌≡◌, ◌≢◌, ◌<◌, ℕ, IfOk, Some, false, length, slice_get, true};
+ghost use Rattle.mrt_graph.specs.{declared.gadag.Place.Place, Related.IsRelation};
 ghost use Rattle.inc_dec_spf.specs.declared.reach.Dir.TheVariants.{Down, Up};
 ghost use Rattle.inc_dec_spf.specs.{Against.against, FirstLink.no_link, Turns.AreTurns};
 ghost use Rattle.mrt_rows.specs.{Common.AreCommon, Said.IsNode, Said.IsRooted, Said.words_of, Source.IsSourceBy};
-ghost use Rattle.mrt_rows.specs.NearOf.{AreSoles, IsNearRow, IsSoleOf};
+ghost use Rattle.mrt_rows.specs.NearOf.{AreSoles, IsNearRow, IsPlaceOf, IsSoleOf};
 ghost use Rattle.mrt_rows.specs.Put.{AreFirstLinks, AreHeadsMarked, AreHomes, AreInCommonBlockOfMoreLinks, HasHomeLinks};
 
 use crate::directed::Rooted;
 use crate::row_over::{FirstLinks, Source, end_row, member_row, row_home};
 use inc_dec_spf::{Aiming, Dir, NO_LINK, Tile, is_sole, nodes_by_turn, put_heads};
-use mrt_graph::{LinkNo, NoMemory, NodeNo, Relation, Row, Tag, relation_of};
+use mrt_graph::{LinkNo, NoMemory, NodeNo, Relation, Row, Tag};
 use std::alloc::Global;
 
-/// The nodes by their turns, marks on the heads of the blocks of more than one link, the sole links, and the links home of all
-/// nodes.
+/// The nodes by their turns, marks on the heads of the blocks of more than one link, and on the root, the sole links, and the links
+/// home of all nodes.
 #[derive(Drop)]
 pub struct Common {
     pub by_order: Vec<NodeNo>,
@@ -73,12 +74,13 @@ impl Common {
         }
     }
 
-    /// The row of a source for t, by its first links to it. `None` where they have no block in common.
+    /// The row of a source for t, by what this is to it and its first links to it. `None` where they have no block in common.
     pub fn row(
         &self,
         rooted: &Rooted,
         source: &Source,
         t: NodeNo,
+        relation: Relation,
         links: &FirstLinks,
     ) -> Option<Row>
         requires rooted { IsRooted rooted.now }
@@ -86,10 +88,12 @@ impl Common {
         requires source { IsSourceBy rooted.now.graph.now (words_of rooted.now) source.now }
         requires target { IsNode rooted.now t }
         requires two { source.now.node ≢ t }
+        requires relation { (there : Place) × IsPlaceOf (words_of rooted.now) t there
+            × IsRelation source.now.node source.now.place t there relation }
         requires links { AreFirstLinks rooted.now.graph.now (words_of rooted.now) source.now.node t links.now }
         ensures { IsNearRow rooted.now.graph.now rooted.now.root (words_of rooted.now) source.now.node t result }
     {
-        match relation_of(source.node, &source.place, t, &rooted.place(t)) {
+        match relation {
             Relation::OneBlock => Some(member_row(links, &source.home)),
             Relation::ToHead => Some(row_home(source)),
             Relation::FromHead => Some(end_row(self.soles[t.get() as usize], links, Tag::Top)),
@@ -97,7 +101,7 @@ impl Common {
         }
     }
 
-    /// Whether s may lie in a block of more than one link, which is its own or one that it heads.
+    /// Whether s may lie in a block of more than one link, which is its own or one that it heads; so for the root.
     pub fn is_among_more(&self, rooted: &Rooted, s: NodeNo) -> bool
         requires common { AreCommon rooted.now.graph.now (words_of rooted.now) self.now }
         requires node { IsNode rooted.now s }
@@ -112,7 +116,7 @@ impl Common {
     }
 }
 
-/// Takes of each node the one link of its block, where that has no other, and else marks its head.
+/// Takes of each node the one link of its block, where that has no other, and else marks its head. The root is its own.
 fn take_soles(rooted: &Rooted, soles: &mut [LinkNo], heads: &mut [bool])
     requires rooted { IsRooted rooted.now }
     requires a_sole_each { length soles.old ≡ length rooted.now.graph.now.ids }

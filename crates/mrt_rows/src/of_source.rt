@@ -85,11 +85,12 @@ impl Making {
         requires two { source.now.node ≢ t }
         ensures { IsNearRow rooted.now.graph.now rooted.now.root (words_of rooted.now) source.now.node t result }
     {
-        if relation_of(source.node, &source.place, t, &rooted.place(t)).is_apart() {
+        let relation = relation_of(source.node, &source.place, t, &rooted.place(t));
+        if relation.is_apart() {
             return None;
         }
         let links = self.links(rooted, source.node, t);
-        self.common.row(rooted, source, t, &links)
+        self.common.row(rooted, source, t, relation, &links)
     }
 
     /// The first links of s to t, where the fans are open from it.

@@ -63,6 +63,14 @@ returns-then-eq c =
     (subst (λ (v : ℕ). IsNearRow g root w v (w.head v) (Some c.row_home.result)) node
     (c.row_home.ensures g root w og.kept og.ordered source (λ at_root. other (sym node ∙ at_root))))
 
+pub place-requires-clause-node : goal.place-requires-clause-node
+place-requires-clause-node c =
+    aim_within (og_of c.requires.aimed.rooted) c.args.to.node c.requires.aimed.within c.args.self.now.below.items c.requires.aimed.below c.args.s c.args.aim
+    c.requires.source c.requires.aim
+
+pub row-requires-clause-relation : goal.row-requires-clause-relation
+row-requires-clause-relation c = (c.place.result, c.place.ensures, c.relation_of-relation.ensures)
+
 pub row-requires-clause-target : goal.row-requires-clause-target
 row-requires-clause-target c =
     aim_within (og_of c.requires.aimed.rooted) c.args.to.node c.requires.aimed.within c.args.self.now.below.items c.requires.aimed.below c.args.s c.args.aim

@@ -15,8 +15,8 @@ pub returns-in-OneBlock : goal.returns-in-OneBlock
 returns-in-OneBlock c =
     let w = words_of c.args.rooted.now in
     let source = c.args.source.now in
-    let is = subst (Relates w source.node c.args.t) c.in-OneBlock.is (relates_by w source.node c.args.t source.place c.place.result
-    c.requires.source.place c.place.ensures c.relation_of.result c.relation_of.ensures) in
+    let is = subst (Relates w source.node c.args.t) c.in-OneBlock.is (relates_by w source.node c.args.t source.place c.requires.relation.0
+    c.requires.source.place c.requires.relation.1 c.args.relation c.requires.relation.2) in
     over_peers (og_of c.requires.rooted) source.node c.args.t c.requires.source.within c.requires.target c.requires.two c.args.links.now c.requires.links
     source.home c.member_row.result is c.requires.source.home c.member_row.ensures
 
@@ -26,8 +26,8 @@ returns-in-ToHead c =
     let w = words_of rooted in
     let source = c.args.source.now in
     let og = og_of c.requires.rooted in
-    let is = subst (Relates w source.node c.args.t) c.in-ToHead.is (relates_by w source.node c.args.t source.place c.place.result
-    c.requires.source.place c.place.ensures c.relation_of.result c.relation_of.ensures) in
+    let is = subst (Relates w source.node c.args.t) c.in-ToHead.is (relates_by w source.node c.args.t source.place c.requires.relation.0
+    c.requires.source.place c.requires.relation.1 c.args.relation c.requires.relation.2) in
     subst (λ (t : ℕ). IsNearRow rooted.graph.now rooted.root w source.node t (Some c.row_home.result)) is
     (c.row_home.ensures rooted.graph.now rooted.root w og.kept og.ordered c.requires.source (has_head og source.node c.args.t c.requires.two is))
 
@@ -36,8 +36,8 @@ returns-in-FromHead c =
     let rooted = c.args.rooted.now in
     let w = words_of rooted in
     let source = c.args.source.now in
-    let is = subst (Relates w source.node c.args.t) c.in-FromHead.is (relates_by w source.node c.args.t source.place c.place.result
-    c.requires.source.place c.place.ensures c.relation_of.result c.relation_of.ensures) in
+    let is = subst (Relates w source.node c.args.t) c.in-FromHead.is (relates_by w source.node c.args.t source.place c.requires.relation.0
+    c.requires.source.place c.requires.relation.1 c.args.relation c.requires.relation.2) in
     over_top (og_of c.requires.rooted) source.node c.args.t c.requires.source.within c.requires.target c.requires.two c.args.links.now c.requires.links
     c.index.result.now c.end_row.result is
     (sole_at rooted.graph.now w c.args.self.now.soles.items c.get.result c.args.t c.index.result.now c.requires.common.soles c.get.ensures.value
@@ -48,5 +48,5 @@ pub returns-in-Apart : goal.returns-in-Apart
 returns-in-Apart c =
     let w = words_of c.args.rooted.now in
     let source = c.args.source.now in
-    Apart (subst (Relates w source.node c.args.t) c.in-Apart.is (relates_by w source.node c.args.t source.place c.place.result
-    c.requires.source.place c.place.ensures c.relation_of.result c.relation_of.ensures))
+    Apart (subst (Relates w source.node c.args.t) c.in-Apart.is (relates_by w source.node c.args.t source.place c.requires.relation.0
+    c.requires.source.place c.requires.relation.1 c.args.relation c.requires.relation.2))
