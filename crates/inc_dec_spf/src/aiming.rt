@@ -9,8 +9,7 @@ use crate::reach::Dir;
 use mrt_graph::{Directed, Graph, NodeNo, Place};
 
 /// A graph with its directions; up or down; the nodes by the turns of the other direction; what the blocks aim at, side by
-/// side, of which those of block k stand from k times their number on; and marks on the blocks that are wanted: those over
-/// which links are asked for.
+/// side, those of block k from k times their number on; and marks on the blocks over which links are wanted.
 #[derive(Clone, Copy)]
 pub struct Aiming<'a> {
     pub graph: &'a Graph,

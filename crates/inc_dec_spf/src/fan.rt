@@ -64,8 +64,7 @@ impl Fan {
 
     /// Opens it from the nodes from `first` on: one sweep over all nodes in the order of their turns.
     ///
-    /// It takes time in proportion to the nodes, and to the ends of those that one of the sources reaches, times the
-    /// width.
+    /// It takes time in proportion to the nodes, and to the ends of those that a source reaches, times the width.
     pub fn open(&mut self, g: &Graph, d: &Directed, dir: Dir, turns: &[NodeNo], first: NodeNo)
         requires kept { IsTopology g.now }
         requires directed { HasDirections g.now d.now }
@@ -130,8 +129,7 @@ impl Fan {
     }
 }
 
-/// What a fan is opened from: a graph with its directions; up or down; the nodes by their turns; and the first of the
-/// sources.
+/// What a fan is opened from: a graph with its directions; up or down; the nodes by their turns; and the first source.
 #[derive(Clone, Copy)]
 pub struct Opening<'a> {
     pub graph: &'a Graph,
@@ -250,8 +248,7 @@ fn take_from(
     from_places.copy_from_slice(&places[at..at + width]);
 }
 
-/// Keeps what is known of x for the sources whose paths that come to x go on. It forgets what is known for the others: x is the
-/// source, or the head of its block.
+/// Keeps what is known of x for the sources whose paths go on from x; for the others x is the source, or the head of its block.
 fn keep_onward(
     opening: &Opening,
     x: NodeNo,

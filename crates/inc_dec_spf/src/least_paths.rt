@@ -15,8 +15,7 @@ use std::alloc::Global;
 
 /// The least paths from a node to every node with which it has a block of more than one link in common, up or down.
 ///
-/// It is a fan of one source. It takes time in proportion to the nodes, and to the ends of those that are in the source's
-/// blocks.
+/// It is a fan of one source. It takes time in proportion to the nodes, and to the ends of those in the source's blocks.
 pub fn spf(
     alloc: Global,
     g: &Graph,
@@ -41,8 +40,7 @@ pub fn spf(
     Ok(reach)
 }
 
-/// The least paths to a node from every node with which it has a block of more than one link in common, up or down: in its
-/// blocks alone, which aim at it.
+/// The least paths to a node from every node with which it has a block of more than one link in common, up or down.
 ///
 /// It takes time in proportion to the nodes and the links.
 pub fn spf_to(

@@ -33,8 +33,7 @@ fn offer_at(at: usize, cost: u32, place: u16, costs: &mut [u32], places: &mut [u
     places[at] = either(first, place, places[at]);
 }
 
-/// Offers the ways over an end with this metric, at the places from `at` on: `from_costs` and `from_places` have what is
-/// known where the end leads from.
+/// Offers the ways over an end with this metric, at the places from `at` on, by what is known where the end leads from.
 fn offer_over(
     from_costs: &[u32],
     from_places: &[u16],
@@ -87,8 +86,7 @@ pub fn offer_on(
     }
 }
 
-/// Offers each node to which an end of the source leads on, but over sole links. The source is the one at place j of so
-/// many.
+/// Offers each node to which an end of the source at place j leads on, but over sole links.
 pub fn offer_begun(
     opening: &Opening,
     source: NodeNo,

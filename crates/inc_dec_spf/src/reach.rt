@@ -71,8 +71,7 @@ pub struct Hop {
     pub link: LinkNo,
 }
 
-/// One entry for each node, by number: for it as the destination of one source, or as the source for one destination. None
-/// where no path leads.
+/// One entry for each node, by number: as the destination of one source, or the source for one destination; none without a path.
 #[derive(Drop)]
 pub struct Reach {
     hops: Vec<Option<Hop>>,
@@ -97,8 +96,7 @@ impl Reach {
         Reach { hops }
     }
 
-    /// The hop of the least path to node t or, where the entries are for one destination, from node t. None where there is
-    /// none.
+    /// The hop of the least path to node t or, where the entries are for one destination, from node t, if there is one.
     pub fn hop(&self, t: NodeNo) -> Option<Hop>
         requires { t < length self.now }
         ensures { slice_get self.now t ≡ Some result }

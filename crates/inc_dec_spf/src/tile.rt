@@ -80,8 +80,7 @@ impl Tile {
         );
     }
 
-    /// The links of node s, for the nodes that it is aimed at. Over a block that is not marked they are what an earlier aim
-    /// left there.
+    /// The links of node s, for the nodes that it is aimed at. Over a block that is not marked an earlier aim left them.
     pub fn links_of(&self, s: NodeNo) -> &[LinkNo]
         requires { s < self.now.nodes }
         ensures one_each { length result.now ≡ self.now.width }
@@ -94,8 +93,7 @@ impl Tile {
     }
 }
 
-/// Takes the links of all nodes, over the wanted blocks, to what these aim at: of those that are not marked, in their own blocks
-/// alone.
+/// Takes the links of all nodes, over the wanted blocks, to what these aim at: of unmarked nodes in their own blocks alone.
 fn take_all(
     aiming: &Aiming,
     heads: &[bool],

@@ -115,8 +115,7 @@ pub fn take_own_ways(
     }
 }
 
-/// Keeps the costs of x, whose block is this one, among those of all nodes. At x itself, where its block aims at it, nothing
-/// is left.
+/// Keeps the costs of x, whose block is this one, among those of all nodes: nothing where its block aims at x itself.
 fn keep_costs(aiming: &Aiming, x: NodeNo, block: NodeNo, costs: &[u32], all: &mut [u32])
     requires aims { block * length costs.now + length costs.now ≤ length aiming.now.aims.now }
     requires room { x * length costs.now + length costs.now ≤ length all.old }

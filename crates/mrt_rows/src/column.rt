@@ -260,8 +260,7 @@ fn put_ways(
     }
 }
 
-/// The block of each node on the way from a destination to the root aims at it, at the place of this, and is marked if it has
-/// more links.
+/// The blocks of the nodes on the way from a destination to the root aim at these, at its place; those of more links are marked.
 fn put_way(
     rooted: &Rooted,
     soles: &[LinkNo],

@@ -14,8 +14,7 @@ use inc_dec_spf::{Aiming, Dir, NO_LINK, Tile, is_sole, nodes_by_turn, put_heads}
 use mrt_graph::{LinkNo, NoMemory, NodeNo, Relation, Row, Tag};
 use std::alloc::Global;
 
-/// The nodes by their turns, marks on the heads of the blocks of more than one link, and on the root, the sole links, and the links
-/// home of all nodes.
+/// The nodes by their turns, marks on the root and on heads of blocks of more than one link, the sole links, the links home.
 #[derive(Drop)]
 pub struct Common {
     pub by_order: Vec<NodeNo>,

@@ -46,8 +46,7 @@ impl Making {
         })
     }
 
-    /// Opens the fans from as many nodes as they have places for, s among them, unless they are open so, or s lies in no block of
-    /// more than one link.
+    /// Opens the fans from so many nodes, s among them, unless they are open so or s lies in no block of more than one link.
     pub fn open_for(&mut self, rooted: &Rooted, s: NodeNo)
         requires rooted { IsRooted rooted.now }
         requires made { IsMaking rooted.now.graph.now (words_of rooted.now) self.old }

@@ -13,8 +13,7 @@ use mrt_graph::{CertLink, CertNode, Column, Directed, Graph, NoMemory, NodeNo, R
 use std::alloc::Global;
 use std::marker::Model;
 
-/// What makes the columns of a graph: the root, the graph's directions from it, what all columns have in common, and the
-/// destination that this is aimed at.
+/// What makes the columns of a graph: its root, the directions from it, what all columns have in common, and what is aimed at.
 #[derive(Drop)]
 pub struct RootedColumns {
     root: NodeNo,

@@ -16,8 +16,7 @@ pub struct FirstLinks {
     pub down: LinkNo,
 }
 
-/// A node, with what its rows for all others are made from: its place, the sole link of its block, and its first links to the
-/// head of its block.
+/// A node, with what its rows are made from: its place, the sole link of its block, and its first links to the block's head.
 #[derive(Clone, Copy)]
 pub struct Source {
     pub node: NodeNo,

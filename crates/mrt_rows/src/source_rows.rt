@@ -15,8 +15,7 @@ use std::marker::Model;
 /// So many sources are taken side by side.
 const SOURCES: u16 = 64;
 
-/// The rows of a graph from a root, source after source: the root, the graph's directions from it, what makes the rows, and
-/// room for those of one source.
+/// The rows of a graph from a root, source after source: the root, the directions, what makes rows, and room for one source's.
 #[derive(Drop)]
 pub struct SourceRows {
     root: NodeNo,
@@ -74,8 +73,7 @@ impl SourceRows {
         })
     }
 
-    /// Finds the near rows of node s, which are those of the graph's certificate from the root that are not Carried; `rows`
-    /// has them then.
+    /// Finds the near rows of node s, those of the graph's certificate from the root that are not Carried, for `rows`.
     ///
     /// It takes time in proportion to the nodes. Where s is none of the 64 nodes for which it did so last, and lies in a
     /// block of more than one link, it takes time in proportion to the nodes, and to the ends of those in the blocks of
