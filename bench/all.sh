@@ -29,8 +29,8 @@ echo "Measured on $(LC_ALL=C date -u '+%-d %B %Y'): $(nproc) processors ($(field
 echo "$((${memory% kB} / 1000000)) GB, $(uname -sm); scripts of commit $commit."
 if [ -f "$program.built" ] && [ "$(kept program)" = "$(sha256sum <"$program" | cut -d ' ' -f 1)" ]; then
     echo "The program is of commit $(kept commit), kit: $(kept kit)."
-    gate=$(kept 'gate rt ci')
-    [ -n "$gate" ] && echo "Its gate: $gate; tests of the tools: $(kept 'gate tools/test')." || echo "Its gate has not passed, or has not run."
+    gate=$(kept 'gate rt ci:')
+    [ -n "$gate" ] && echo "Its gate: $gate; tests of the tools: $(kept 'gate tools/test:')." || echo "Its gate has not passed, or has not run."
 else
     echo "Nothing is kept of how the program was built or of its gate ($program.built); $(rt version 2>/dev/null | head -n 1)."
 fi
