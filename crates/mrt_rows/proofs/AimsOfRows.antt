@@ -1,14 +1,13 @@
 -- What the blocks aim at is what the rows for a destination are for.
 use Rattle.std.proofs.Common.{◌≡◌, ◌≢◌, ◌∙◌, ◌<◌, ℕ, Bool, true, List, Option, Some, None, length, slice_get, inl, inr, refl, sym, ap, subst, arith}
 use Rattle.std.proofs.lemmas.Bool.{cases_eq}
-use Rattle.std.proofs.lemmas.Option.{same_Some}
 use Rattle.link_direction.specs.CommonBlock.{FromHead, HaveCommonBlock, Peers, ToHead}
 use Rattle.link_direction.specs.Directions.{Directions}
 use Rattle.inc_dec_spf.specs.BlockAims.{IsAimOf}
 use Rattle.inc_dec_spf.specs.LeastPath.{HasMoreLinks, HaveCommonBlockOfMoreLinks}
 use Rattle.link_direction.proofs.OneBlock.{one_block}
-use Rattle.mrt_rows.specs.Chain.{AreBelow, AreWayAims, AtHome, Beside, Climbs, IsRowAim, Under}
-use Rattle.mrt_rows.proofs.ChainAims.{aim_apart, climb_low, climb_on}
+use Rattle.mrt_rows.specs.Chain.{AreBelow, AreWayAims, AtHome, Beside, ByHead, Climbs, IsRowAim, There, Under}
+use Rattle.mrt_rows.proofs.ChainAims.{climb_low, climb_on, further}
 use Rattle.mrt_rows.proofs.OrderedGraphs.{OrderedGraph, is_ordered}
 
 module _ (og : OrderedGraph) where
@@ -34,6 +33,33 @@ module _ (og : OrderedGraph) where
   root_heads s u k h at_root u_within two (FromHead a b c) same =
       two (at_root ∙ sym (root_of_block u u_within (a ∙ same ∙ ap w.block at_root)))
 
+  -- the block that s has in common with another node is the one in which this lies, but where it is the head of s
+  pub own_block : (s a k h : ℕ) → HaveCommonBlock w s a k h → w.head s ≢ a → k ≡ w.block a
+  own_block s a k h (Peers x y z) away = sym y
+  own_block s a k h (ToHead x y z) away = absurd (away y)
+  own_block s a k h (FromHead x y z) away = sym x
+
+  common_within : (s u k h : ℕ) → s < n → u < n → HaveCommonBlock w s u k h → k < n
+  common_within s u k h within u_within (Peers x y z) = subst (λ (b : ℕ). b < n) x (og.ordered.heads.block_within s within)
+  common_within s u k h within u_within (ToHead x y z) = subst (λ (b : ℕ). b < n) x (og.ordered.heads.block_within s within)
+  common_within s u k h within u_within (FromHead x y z) = subst (λ (b : ℕ). b < n) x (og.ordered.heads.block_within u u_within)
+
+  -- two nodes on a way that have one head are the same
+  one_under : (t a c : ℕ) → t < n → Climbs og.root w t a → Climbs og.root w t c → a ≢ og.root → c ≢ og.root → w.head a ≡ w.head c → a ≡ c
+  one_under t a c within (There same) to_c a_other c_other heads = elim (cases_eq c t) [
+    | inl at_t ↦ sym same ∙ sym at_t
+    | inr apart ↦
+        let low = climb_low og (w.head t) c (og.ordered.heads.head_within t within) (further og t c apart to_c).1 in
+        absurd (omega (arith, low.1, og.ordered.heads.lower c low.0 c_other, ap w.order (ap w.head same), ap w.order heads))
+  ]
+  one_under t a c within (ByHead other rest) to_c a_other c_other heads = elim (cases_eq c t) [
+    | inl at_t ↦
+        let low = climb_low og (w.head t) a (og.ordered.heads.head_within t within) rest in
+        absurd (omega (arith, low.1, og.ordered.heads.lower a low.0 a_other, ap w.order (ap w.head at_t), ap w.order heads))
+    | inr apart ↦
+        one_under (w.head t) a c (og.ordered.heads.head_within t within) rest (further og t c apart to_c).1 a_other c_other heads
+  ]
+
   -- each node's block that aims at its head is aimed at by the node
   pub home_aim : (s : ℕ) (aim : ℕ → ℕ) → s < n → s ≢ w.head s → ((y : ℕ) → y < n → aim (w.block y) ≡ w.head y) → IsAimOf og.g w aim s (w.head s)
   home_aim s aim within two heads = record {
@@ -49,6 +75,79 @@ module _ (og : OrderedGraph) where
       go u k h u_within (ToHead a b c) onward = ap aim (sym a) ∙ heads s within
       go u k h u_within (FromHead a b c) onward = absurd (onward (ap aim (sym a) ∙ heads u u_within ∙ b))
 
+  -- where blocks aim alike, so do their nodes
+  pub aims_alike : (aim other : ℕ → ℕ) (s a : ℕ) → s < n → a < n → ((k : ℕ) → k < n → other k ≡ aim k) → IsAimOf og.g w aim s a → IsAimOf og.g w other s a
+  aims_alike aim other s a within a_within same is = record {
+    aimed = λ k h common. same k (common_within s a k h within a_within common) ∙ is.aimed k h common;
+    alone = λ u k h u_within apart common onward.
+        let alike = same k (common_within s u k h within u_within common) in
+        alike ∙ is.alone u k h u_within apart common (λ back. onward (alike ∙ back));
+  }
+
+  module _ (t : ℕ) (t_within : t < n) (aim : ℕ → ℕ) (marks : List Bool) (aims : AreWayAims og.g og.root w t aim marks) where
+    -- a block that s heads, and that aims at another node, aims at one on the way, and s is its head
+    under_head : (s u : ℕ) → u < n → w.head u ≡ s → aim (w.block u) ≢ s
+        → Climbs og.root w t (aim (w.block u)) × (aim (w.block u) ≢ og.root) × (w.head (aim (w.block u)) ≡ s)
+    under_head s u u_within head onward = elim (aims.off u u_within) [
+      | inl home ↦ absurd (onward (home ∙ head))
+      | inr it ↦
+          (it.climbs, it.not_root, og.ordered.heads.one_head (aim (w.block u)) u (climb_low og t (aim (w.block u)) t_within it.climbs).0 u_within it.in_block ∙ head)
+    ]
+
+    -- a node above one on the way is aimed at by its block
+    above_aim : (s a : ℕ) → Climbs og.root w t a → a ≢ og.root → w.head a ≡ s → s ≢ og.root → aim (w.block s) ≡ s
+    above_aim s a to_a a_other head other = aims.on s (subst (λ (v : ℕ). Climbs og.root w t v) head (climb_on og.root w t a to_a a_other)) other
+
+    -- what a block other than the root's aims at, and lies in it, is on the way
+    pub aim_on_way : (a : ℕ) → a < n → a ≢ og.root → aim (w.block a) ≡ a → Climbs og.root w t a
+    aim_on_way a a_within a_other is = elim (aims.off a a_within) [
+      | inl home ↦ absurd (omega (arith, og.ordered.heads.lower a a_within a_other, ap w.order (sym home ∙ is)))
+      | inr it ↦ subst (λ (v : ℕ). Climbs og.root w t v) is it.climbs
+    ]
+
+    -- s aims at a node on the way with which it has a block in common, and which is not its head; and that block is marked
+    module _ (s a : ℕ) (two : s ≢ a) (to_a : Climbs og.root w t a) (a_other : a ≢ og.root) (away : w.head s ≢ a) where
+      pub way_marked : (k h : ℕ) → HaveCommonBlockOfMoreLinks og.g w s a k h → slice_get marks k ≡ Some true
+      way_marked k h share =
+          let k_is = own_block s a k h share.common away in
+          ap (λ (b : ℕ). slice_get marks b) k_is ∙ aims.marked a to_a a_other (subst (λ (b : ℕ). HasMoreLinks og.g w b) k_is share.more)
+
+      pub way_aim : (k h : ℕ) → HaveCommonBlock w s a k h → IsAimOf og.g w aim s a
+      way_aim k h common = record {
+        aimed = λ j i shared. ap aim (own_block s a j i shared away) ∙ aims.on a to_a a_other;
+        alone = λ u j i u_within apart shared onward. go k h u j i common u_within apart shared onward;
+      }
+        where
+          a_within : a < n
+          a_within = (climb_low og t a t_within to_a).0
+
+          headed : (u j i : ℕ) → w.head a ≡ s → u < n → s ≢ u → HaveCommonBlock w s u j i → j ≡ w.block s → aim j ≡ s
+          headed u j i head u_within apart shared same = elim (cases_eq s og.root) [
+            | inl at_root ↦ absurd (root_heads s u j i at_root u_within apart shared same)
+            | inr other ↦ ap aim same ∙ above_aim s a to_a a_other head other
+          ]
+
+          go : (k h u j i : ℕ) → HaveCommonBlock w s a k h → u < n → s ≢ u → HaveCommonBlock w s u j i → aim j ≢ s → aim j ≡ a
+          go k h u j i (ToHead x y z) u_within apart shared onward = absurd (away y)
+          go k h u j i (Peers x y z) u_within apart (Peers p q r) onward = ap aim (sym p ∙ x ∙ sym y) ∙ aims.on a to_a a_other
+          go k h u j i (Peers x y z) u_within apart (ToHead p q r) onward = ap aim (sym p ∙ x ∙ sym y) ∙ aims.on a to_a a_other
+          go k h u j i (Peers x y z) u_within apart (FromHead p q r) onward =
+              let it = under_head s u u_within q (λ back. onward (ap aim (sym p) ∙ back)) in
+              let other : s ≢ og.root = λ at_root. a_other (root_of_block a a_within (y ∙ sym x ∙ ap w.block at_root)) in
+              absurd (two (sym (above_aim s (aim (w.block u)) it.0 it.1 it.2 other) ∙ ap aim (x ∙ sym y) ∙ aims.on a to_a a_other))
+          go k h u j i (FromHead x y z) u_within apart (Peers p q r) onward = absurd (onward (headed u j i y u_within apart (Peers p q r) (sym p)))
+          go k h u j i (FromHead x y z) u_within apart (ToHead p q r) onward = absurd (onward (headed u j i y u_within apart (ToHead p q r) (sym p)))
+          go k h u j i (FromHead x y z) u_within apart (FromHead p q r) onward =
+              let it = under_head s u u_within q (λ back. onward (ap aim (sym p) ∙ back)) in
+              ap aim (sym p) ∙ one_under t (aim (w.block u)) a t_within it.0 to_a it.1 a_other (it.2 ∙ sym y)
+
+  -- what s aims at, but its head, is on the way
+  pub row_aim_on_way : (t : ℕ) (below : List (Option ℕ)) → AreBelow og.g og.root w t below → (s a : ℕ) → IsRowAim w below s a → w.head s ≢ a
+      → Climbs og.root w t a × (a ≢ og.root)
+  row_aim_on_way t below are s a (Under at) away = let it = are.is_below s a at in (it.0, it.1)
+  row_aim_on_way t below are s a (Beside none at peers) away = let it = are.is_below (w.head s) a at in (it.0, it.1)
+  row_aim_on_way t below are s a (AtHome none no_peer home) away = absurd (away (sym home))
+
   module _ (t : ℕ) (t_within : t < n) (below : List (Option ℕ)) (are : AreBelow og.g og.root w t below) (aim : ℕ → ℕ)
       (marks : List Bool) (aims : AreWayAims og.g og.root w t aim marks) where
     -- a node that has none below it aims at what its block does
@@ -63,96 +162,3 @@ module _ (og : OrderedGraph) where
           let head = og.ordered.heads.one_head (aim (w.block s)) s (climb_low og t (aim (w.block s)) t_within it.climbs).0 within it.in_block in
           Beside none (ap (λ (v : ℕ). slice_get below v) (sym head) ∙ are.all (aim (w.block s)) it.climbs it.not_root) it.in_block
     ]
-
-    -- over a block that it heads s aims at the node below it, if at another one
-    over_headed : (s u : ℕ) → u < n → w.head u ≡ s → aim (w.block u) ≢ s → slice_get below s ≡ Some (Some (aim (w.block u)))
-    over_headed s u u_within head onward = elim (aims.off u u_within) [
-      | inl home ↦ absurd (onward (home ∙ head))
-      | inr it ↦
-          let same = og.ordered.heads.one_head (aim (w.block u)) u (climb_low og t (aim (w.block u)) t_within it.climbs).0 u_within it.in_block in
-          ap (λ (v : ℕ). slice_get below v) (sym (same ∙ head)) ∙ are.all (aim (w.block u)) it.climbs it.not_root
-    ]
-
-    -- in its own block, where none is below it
-    of_block : (s a : ℕ) → s < n → s ≢ t → slice_get below s ≡ Some None → IsRowAim w below s a
-        → (aim (w.block s) ≡ a) × ((h : ℕ) × HaveCommonBlock w s a (w.block s) h) × (a < n) → IsAimOf og.g w aim s a
-    of_block s a within two none row_aim it = record {
-      aimed = λ k h common.
-          let one = one_block og.g og.root w s a k h (w.block s) it.1.0 (is_ordered og) within it.2
-          (λ same. aim_apart og t t_within below are s a within two row_aim (sym same)) common it.1.1 in
-          ap aim one.0 ∙ it.0;
-      alone = λ u k h u_within apart common onward. go u k h u_within common onward;
-    }
-      where
-        go : (u k h : ℕ) → u < n → HaveCommonBlock w s u k h → aim k ≢ s → aim k ≡ a
-        go u k h u_within (Peers x y z) onward = ap aim (sym x) ∙ it.0
-        go u k h u_within (ToHead x y z) onward = ap aim (sym x) ∙ it.0
-        go u k h u_within (FromHead x y z) onward =
-            let there = over_headed s u u_within y (λ back. onward (ap aim (sym x) ∙ back)) in
-            let no = same_Some None (Some (aim (w.block u))) (sym none ∙ there) in absurd (cc)
-
-    -- over a block of more than one link s aims at its head, or the block is marked
-    pub aim_marked : (s a k h : ℕ) → s < n → IsRowAim w below s a
-        → HaveCommonBlockOfMoreLinks og.g w s a k h → w.head s ≢ a → slice_get marks k ≡ Some true
-    aim_marked s a k h within (Under at) share away =
-        let it = are.is_below s a at in
-        let k_is =
-        (one_block og.g og.root w s a k h (w.block a) s (is_ordered og) within (climb_low og t a t_within it.0).0 share.two share.common
-        (FromHead refl it.2 refl)).0 in
-        ap (λ (b : ℕ). slice_get marks b) k_is ∙ aims.marked a it.0 it.1 (subst (λ (b : ℕ). HasMoreLinks og.g w b) k_is share.more)
-    aim_marked s a k h within (Beside none at peers) share away =
-        let it = are.is_below (w.head s) a at in
-        let k_is =
-        (one_block og.g og.root w s a k h (w.block s) (w.head s) (is_ordered og) within (climb_low og t a t_within it.0).0 share.two share.common
-        (Peers refl peers refl)).0 ∙ sym peers in
-        ap (λ (b : ℕ). slice_get marks b) k_is ∙ aims.marked a it.0 it.1 (subst (λ (b : ℕ). HasMoreLinks og.g w b) k_is share.more)
-    aim_marked s a k h within (AtHome none no_peer home) share away = absurd (away (sym home))
-
-    -- what s aims at, its blocks do
-    pub aim_of_blocks : (s a : ℕ) → s < n → s ≢ t → IsRowAim w below s a → IsAimOf og.g w aim s a
-    aim_of_blocks s a within two (Under at) = record {
-      aimed = λ k h common.
-          let one = one_block og.g og.root w s a k h (w.block a) s (is_ordered og) within a_within (λ same. a_apart (sym same)) common
-          (FromHead refl it.2 refl) in
-          ap aim one.0 ∙ aims.on a it.0 it.1;
-      alone = λ u k h u_within apart common onward. go u k h u_within apart common onward;
-    }
-      where
-        it : Climbs og.root w t a × (a ≢ og.root) × (w.head a ≡ s)
-        it = are.is_below s a at
-
-        a_within : a < n
-        a_within = (climb_low og t a t_within it.0).0
-
-        a_apart : a ≢ s
-        a_apart = aim_apart og t t_within below are s a within two (Under at)
-
-        own : (k u h : ℕ) → u < n → s ≢ u → HaveCommonBlock w s u k h → k ≡ w.block s → aim k ≡ s
-        own k u h u_within apart common same = elim (cases_eq s og.root) [
-          | inl at_root ↦ absurd (root_heads s u k h at_root u_within apart common same)
-          | inr other ↦
-              ap aim same ∙ aims.on s (subst (λ (v : ℕ). Climbs og.root w t v) it.2 (climb_on og.root w t a it.0 it.1)) other
-        ]
-
-        go : (u k h : ℕ) → u < n → s ≢ u → HaveCommonBlock w s u k h → aim k ≢ s → aim k ≡ a
-        go u k h u_within apart (Peers x y z) onward = absurd (onward (own k u h u_within apart (Peers x y z) (sym x)))
-        go u k h u_within apart (ToHead x y z) onward = absurd (onward (own k u h u_within apart (ToHead x y z) (sym x)))
-        go u k h u_within apart (FromHead x y z) onward =
-            let there = over_headed s u u_within y (λ back. onward (ap aim (sym x) ∙ back)) in
-            ap aim (sym x) ∙ same_Some (aim (w.block u)) a (same_Some (Some (aim (w.block u))) (Some a) (sym there ∙ at))
-    aim_of_blocks s a within two (Beside none at peers) = of_block s a within two none (Beside none at peers) (
-      (let it = are.is_below (w.head s) a at in ap aim (sym peers) ∙ aims.on a it.0 it.1),
-      (w.head s, Peers refl peers refl),
-      (climb_low og t a t_within (are.is_below (w.head s) a at).0).0,
-    )
-    aim_of_blocks s a within two (AtHome none no_peer home) = of_block s a within two none (AtHome none no_peer home) (
-      elim (aims.off s within) [
-        | inl is ↦ is ∙ sym home
-        | inr it ↦
-            let head = og.ordered.heads.one_head (aim (w.block s)) s (climb_low og t (aim (w.block s)) t_within it.climbs).0 within it.in_block in
-            absurd (no_peer (aim (w.block s))
-            (ap (λ (v : ℕ). slice_get below v) (sym head) ∙ are.all (aim (w.block s)) it.climbs it.not_root) it.in_block)
-      ],
-      (w.head s, subst (λ (v : ℕ). HaveCommonBlock w s v (w.block s) (w.head s)) (sym home) (ToHead refl refl refl)),
-      subst (λ (v : ℕ). v < n) (sym home) (og.ordered.heads.head_within s within),
-    )

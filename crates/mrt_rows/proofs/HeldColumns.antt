@@ -1,11 +1,24 @@
 -- What is held between columns, as its parts change.
-use Rattle.std.proofs.Common.{◌≡◌, ◌∙◌, ◌*◌, ℕ, Option, [], length, sym, ap, arith}
+use Rattle.std.proofs.Common.{◌≡◌, ℕ, Bool, List, Option, [], length, sym, subst, arith}
 use Rattle.std.specs.declared.alloc.Global.{Global}
 use Rattle.std.specs.declared.vec.Vec.{Vec}
 use Rattle.mrt_graph.specs.Topology.{Topology}
 use Rattle.link_direction.specs.Directions.{Directions}
 use Rattle.mrt_rows.specs.declared.column.Columns.{Columns}
-use Rattle.mrt_rows.specs.Held.{AreHeld, AreHeldFor}
+use Rattle.mrt_rows.specs.Chain.{AreBlockAims}
+use Rattle.mrt_rows.specs.Held.{AreHeld, AreHeldFor, AreShared, AreTiles}
+
+-- by other names
+pub aims_moved : (g : Topology) (root : ℕ) (w : Directions) (targets others aims after : List ℕ) (marks : List Bool) → others ≡ targets → aims ≡ after
+    → AreBlockAims g root w others aims marks → AreBlockAims g root w targets after marks
+aims_moved g root w targets others aims after marks alike same are =
+    subst (λ (ts : List ℕ). AreBlockAims g root w ts after marks) alike (subst (λ (xs : List ℕ). AreBlockAims g root w others xs marks) same are)
+
+pub shared_moved : (count count' width width' : ℕ) (aims aims' : List ℕ) (marks marks' wanted wanted' : List Bool) (firsts firsts' : List ℕ) (taken taken' : List Bool)
+    → count ≡ count' → width ≡ width' → aims ≡ aims' → marks ≡ marks' → wanted ≡ wanted' → firsts ≡ firsts' → taken ≡ taken'
+    → AreShared count width aims marks wanted firsts taken → AreShared count' width' aims' marks' wanted' firsts' taken'
+shared_moved count count' width width' aims aims' marks marks' wanted wanted' firsts firsts' taken taken' as_many as_wide same_aims same_marks same_wanted same_firsts same_taken are =
+    rw (sym as_many, sym as_wide, sym same_aims, sym same_marks, sym same_wanted, sym same_firsts, sym same_taken) are
 
 -- with other destinations, which are not aimed at
 pub retargeted : (g : Topology) (root : ℕ) (w : Directions) (held : Columns) (targets : Vec ℕ Global) → length targets.items ≡ length held.targets.items
@@ -14,10 +27,8 @@ retargeted g root w held targets many are = record {
   common = are.common;
   one_below_each = are.one_below_each;
   some_places = omega (arith, are.some_places, many);
-  places = are.places ∙ ap (λ (k : ℕ). length g.ids * k) (sym many);
-  a_mark_each = are.a_mark_each;
-  up = record { nodes = are.up.nodes; width = are.up.width ∙ sym many };
-  down = record { nodes = are.down.nodes; width = are.down.width ∙ sym many };
+  each = subst (λ (k : ℕ). AreTiles g k held.each) (sym many) are.each;
+  shared = are.shared;
   aimed = λ j t at inside. cc;
 }
 
@@ -28,9 +39,14 @@ climbed g root w held below one_each are = record {
   common = are.common;
   one_below_each = one_each;
   some_places = are.some_places;
-  places = are.places;
-  a_mark_each = are.a_mark_each;
-  up = are.up;
-  down = are.down;
-  aimed = λ j t at inside. let aimed = are.aimed j t at inside in record { aims = aimed.aims; up = aimed.up; down = aimed.down };
+  each = are.each;
+  shared = are.shared;
+  aimed = λ j t at inside. let aimed = are.aimed j t at inside in record {
+    within = aimed.within;
+    marks = aimed.marks;
+    aims = aimed.aims;
+    parted = aimed.parted;
+    each = aimed.each;
+    shared = aimed.shared;
+  };
 }

@@ -30,6 +30,7 @@ pub mod OrderedGraphs
 pub mod OtherLines
 pub mod PushedWords
 pub mod Rooting
+pub mod RowLinks
 pub mod RowOver
 pub mod RowTags
 pub mod RowsExist
@@ -37,11 +38,13 @@ pub mod RowsHeld
 pub mod RowsOfColumns
 pub mod RowsPut
 pub mod RulesHold
+pub mod SharedAims
 pub mod Sharing
 pub mod SoleRows
 pub mod SoundColumns
 pub mod SourceCert
 pub mod TheColumns
+pub mod TileLinks
 pub mod WayAims
 pub mod Ways
 pub mod WaysBegun

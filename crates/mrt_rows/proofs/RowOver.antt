@@ -17,9 +17,8 @@ use Rattle.mrt_rows.specs.Put.{AreFirstLinks, AreInCommonBlockOfMoreLinks, IsMem
 use Rattle.mrt_rows.specs.RowLines.{HasOneLink}
 use Rattle.mrt_rows.proofs.LinesHold.{has_head}
 use Rattle.mrt_rows.proofs.MemberRows.{head_row, top_row}
-use Rattle.mrt_rows.proofs.NearRows.{are_members, ring_by}
+use Rattle.mrt_rows.proofs.NearRows.{ring_by}
 use Rattle.mrt_rows.proofs.OrderedGraphs.{OrderedGraph, one_common}
-use Rattle.mrt_rows.proofs.Sharing.{none_of_peers}
 use Rattle.mrt_rows.proofs.WaysBegun.{more_of}
 
 -- what the relation of two nodes tells of them, by their places

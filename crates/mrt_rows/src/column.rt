@@ -4,12 +4,13 @@ ghost use Rattle.std.specs.Prelude.{◌≡◌, ◌≢◌, ◌<◌, ◌*◌, ℕ,
 ghost use Rattle.inc_dec_spf.specs.BlockAims.{aim_at};
 ghost use Rattle.mrt_rows.specs.Chain.{AreBelow, AreBlockAims, AreWayAims, IsRowAim};
 ghost use Rattle.mrt_rows.specs.{ColumnOf.IsRowIn, NearOf.AreSoles, NearOf.IsNearRow};
-ghost use Rattle.mrt_rows.specs.{Held.AreAimed, Held.AreHeld, Held.AreHeldFor, Said.IsNode, Said.IsRooted, Said.words_of};
+ghost use Rattle.mrt_rows.specs.{Held.AreAimed, Held.AreHeld, Held.AreHeldFor, Put.AreFirstLinks, Said.IsNode, Said.IsRooted, Said.words_of};
 
 use crate::common::{Common, mark};
 use crate::directed::Rooted;
 use crate::row_over::{FirstLinks, row_home};
-use inc_dec_spf::{Aiming, Dir, Tile, put_heads};
+use crate::tiles::{Tiles, take_shared};
+use inc_dec_spf::put_heads;
 use mrt_graph::{LinkNo, NoMemory, NodeNo, Row, relation_of};
 use std::alloc::Global;
 
@@ -24,17 +25,15 @@ pub struct Target {
 }
 
 /// What the rows of all nodes have in common, and the room in which columns are made: the nodes below others on the way from one
-/// destination to the root; some destinations side by side, what the blocks aim at for them, marks on the blocks of more than
-/// one link on the way from one of them to the root, and tiles that are aimed so in the marked blocks.
+/// destination to the root; some destinations side by side; and tiles for the blocks of more than one link on the way from one
+/// of them to the root: one place wide for the blocks that aim at one node for all of them, and else a place for each.
 #[derive(Drop)]
 pub struct Columns {
-    pub common: Common,
-    pub below: Vec<Option<NodeNo>>,
-    pub targets: Vec<NodeNo>,
-    pub aims: Vec<NodeNo>,
-    pub wanted: Vec<bool>,
-    pub up: Tile,
-    pub down: Tile,
+    common: Common,
+    below: Vec<Option<NodeNo>>,
+    targets: Vec<NodeNo>,
+    each: Tiles,
+    shared: Tiles,
 }
 
 impl Columns {
@@ -51,18 +50,14 @@ impl Columns {
         let below = vec![in alloc; None; count as usize]?;
         // there is no such node, so nothing is aimed at yet
         let targets = vec![in alloc; NodeNo::new(count); width as usize]?;
-        let aims = vec![in alloc; rooted.root; count as usize * width as usize]?;
-        let wanted = vec![in alloc; false; count as usize]?;
-        let up = Tile::new(alloc, rooted.graph, width)?;
-        let down = Tile::new(alloc, rooted.graph, width)?;
+        let each = Tiles::new(alloc, rooted, width)?;
+        let shared = Tiles::new(alloc, rooted, 1)?;
         Ok(Columns {
             common,
             below,
             targets,
-            aims,
-            wanted,
-            up,
-            down,
+            each,
+            shared,
         })
     }
 
@@ -114,27 +109,18 @@ impl Columns {
             rooted,
             &self.common.soles,
             &self.targets,
-            &mut self.aims,
-            &mut self.wanted,
+            &mut self.each.aims,
+            &mut self.each.wanted,
         );
-        let up = Aiming {
-            graph: rooted.graph,
-            directed: rooted.directed,
-            dir: Dir::Up,
-            turns: self.common.against_order.as_slice(),
-            aims: self.aims.as_slice(),
-            wanted: self.wanted.as_slice(),
-        };
-        self.up.aim(&up, &self.common.heads);
-        let down = Aiming {
-            graph: rooted.graph,
-            directed: rooted.directed,
-            dir: Dir::Down,
-            turns: self.common.by_order.as_slice(),
-            aims: self.aims.as_slice(),
-            wanted: self.wanted.as_slice(),
-        };
-        self.down.aim(&down, &self.common.heads);
+        take_shared(
+            self.targets.len(),
+            &self.each.aims,
+            &mut self.each.wanted,
+            &mut self.shared.aims,
+            &mut self.shared.wanted,
+        );
+        self.each.aim(rooted, &self.common);
+        self.shared.aim(rooted, &self.common);
     }
 
     /// The row of `s` for `to`, by its row for what it aims at.
@@ -162,7 +148,7 @@ impl Columns {
             return under;
         }
         let at = rooted.place(s).block.get() as usize * self.targets.len();
-        self.aims[at + to.at]
+        self.each.aims[at + to.at]
     }
 
     /// The row of `s` for what it aims at. The links home are held.
@@ -177,12 +163,24 @@ impl Columns {
         if source.place.head == aim {
             return Some(row_home(&source));
         }
-        let links = FirstLinks {
-            up: self.up.links_of(s)[to.at],
-            down: self.down.links_of(s)[to.at],
-        };
+        let links = self.links_to(rooted, s, to, aim);
         let relation = relation_of(source.node, &source.place, aim, &rooted.place(aim));
         self.common.row(rooted, &source, aim, relation, &links)
+    }
+
+    /// The first links of `s` to what it aims at, which is not its head.
+    fn links_to(&self, rooted: &Rooted, s: NodeNo, to: Target, aim: NodeNo) -> FirstLinks
+        requires aimed { AreAimed rooted.now.graph.now rooted.now.root rooted.now.directed.now self.now to }
+        requires source { IsNode rooted.now s }
+        requires aim { IsRowAim (words_of rooted.now) self.now.below.items s aim }
+        requires away { (words_of rooted.now).head s ≢ aim }
+        ensures { AreFirstLinks rooted.now.graph.now (words_of rooted.now) s aim result }
+    {
+        let block = rooted.place(aim).block;
+        if self.shared.wanted[block.get() as usize] {
+            return self.shared.links_of(s, 0);
+        }
+        self.each.links_of(s, to.at)
     }
 }
 

@@ -11,6 +11,7 @@ mod rooted;
 mod row_over;
 mod rows_law;
 mod source_rows;
+mod tiles;
 
 pub use certificate::compute;
 pub use column_view::{ColumnView, column_of};

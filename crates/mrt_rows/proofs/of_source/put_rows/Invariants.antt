@@ -1,4 +1,4 @@
-use Rattle.std.proofs.Common.{◌≡◌, ◌<◌, length}
+use Rattle.std.proofs.Common.{◌≡◌, length}
 use Rattle.mrt_rows.specs.Said.{IsNode, IsRooted}
 use Rattle.mrt_rows.proofs.Filling.{IsFilling}
 use Rattle.mrt_rows.proofs.Rooting.{og_of}

@@ -3,7 +3,6 @@ use Rattle.std.specs.List.{remove}
 use Rattle.std.proofs.lemmas.List.{with_items_is}
 use Rattle.mrt_graph.specs.declared.cert.Row.{Row}
 use Rattle.mrt_rows.specs.RowsOf.{AreRowsOf}
-use Rattle.mrt_rows.specs.Said.{AreRooted}
 use Rattle.mrt_rows.proofs.Filling.{rows_removed}
 use Rattle.mrt_rows.proofs.Rooting.{og_of, row_too, rooted_by}
 use Rattle.mrt_rows.proofs.of_source.rows_of.Goals as goal

@@ -1,4 +1,4 @@
-use Rattle.std.proofs.Common.{◌≡◌, ◌∙◌, ◌<◌, ◌+◌, ◌*◌, ℕ, List, Option, Some, None, get_or, length, slice_get, refl, sym, ap, subst, arith}
+use Rattle.std.proofs.Common.{◌≡◌, ◌∙◌, ◌<◌, ◌+◌, ◌*◌, ℕ, List, Option, Some, get_or, length, slice_get, refl, sym, ap, subst, arith}
 use Rattle.std.proofs.lemmas.Option.{get_or_from_slice_get, slice_get-get_or, slice_get_read, slice_get_within}
 use Rattle.inc_dec_spf.specs.BlockAims.{aim_at}
 use Rattle.inc_dec_spf.proofs.SideBySide.{row_within}
@@ -21,7 +21,7 @@ pub index-requires-2 : goal.index-requires-2
 index-requires-2 c =
     let g = c.args.rooted.now.graph.now in
     let columns = c.args.self.now in
-    let aims = columns.aims.items in
+    let aims = columns.each.aims.items in
     let width = length columns.targets.items in
     let held = c.requires.aimed.held in
     let wide : c.len.result ≡ width = c.len.ensures ∙ columns.targets.ok.0 in
@@ -29,13 +29,13 @@ index-requires-2 c =
     let own_within : c.get-2.result < length g.ids = omega (arith, c.get-2.ensures.value, c.place.ensures.block, block_within) in
     let below : c.args.to.at < width = slice_get_within columns.targets.items c.args.to.at c.args.to.node c.requires.aimed.place in
     let same : c.get-2.result * c.len.result ≡ c.get-2.result * width = ap (λ (n : ℕ). c.get-2.result * n) wide in
-    omega (arith, columns.aims.small, row_within c.get-2.result (length g.ids) width (length aims) held.places own_within, below, same)
+    omega (arith, columns.each.aims.small, row_within c.get-2.result (length g.ids) width (length aims) held.each.aims own_within, below, same)
 
 pub overflow_add-at : goal.overflow_add-at
 overflow_add-at c =
     let g = c.args.rooted.now.graph.now in
     let columns = c.args.self.now in
-    let aims = columns.aims.items in
+    let aims = columns.each.aims.items in
     let width = length columns.targets.items in
     let held = c.requires.aimed.held in
     let wide : c.len.result ≡ width = c.len.ensures ∙ columns.targets.ok.0 in
@@ -43,7 +43,7 @@ overflow_add-at c =
     let own_within : c.get-2.result < length g.ids = omega (arith, c.get-2.ensures.value, c.place.ensures.block, block_within) in
     let below : c.args.to.at < width = slice_get_within columns.targets.items c.args.to.at c.args.to.node c.requires.aimed.place in
     let same : c.get-2.result * c.len.result ≡ c.get-2.result * width = ap (λ (n : ℕ). c.get-2.result * n) wide in
-    omega (arith, columns.aims.small, row_within c.get-2.result (length g.ids) width (length aims) held.places own_within, below, same)
+    omega (arith, columns.each.aims.small, row_within c.get-2.result (length g.ids) width (length aims) held.each.aims own_within, below, same)
 
 pub returns-in-Some : goal.returns-in-Some
 returns-in-Some c =
@@ -60,7 +60,7 @@ returns c =
     let s = c.args.s in
     let to = c.args.to in
     let columns = c.args.self.now in
-    let aims = columns.aims.items in
+    let aims = columns.each.aims.items in
     let width = length columns.targets.items in
     let held = c.requires.aimed.held in
     let none = read columns.below.items c.get.result s c.index.result.now c.get.ensures.value
@@ -72,11 +72,11 @@ returns c =
     let place : c.get-2.result * c.len.result + to.at ≡ w.block s * width + to.at =
     ap (λ (n : ℕ). c.get-2.result * n + to.at) wide ∙ ap (λ (b : ℕ). b * width + to.at) block_is in
     let room : w.block s * width + to.at < length aims =
-    omega (arith, row_within (w.block s) (length g.ids) width (length aims) held.places block_within, below) in
+    omega (arith, row_within (w.block s) (length g.ids) width (length aims) held.each.aims block_within, below) in
     let there : slice_get aims (w.block s * width + to.at) ≡ Some c.index-2.result.now =
     slice_get_read aims (length aims) (w.block s * width + to.at) c.index-2.result.now refl room
     (subst (λ (i : ℕ). c.index-2.result.now ≡ get_or aims i c.index-2.result.now) place c.index-2.ensures) in
     let aimed = held.aimed to.at to.node c.requires.aimed.place c.requires.aimed.within in
     subst (λ (a : ℕ). IsRowAim w columns.below.items s a) (get_or_from_slice_get aims (w.block s * width + to.at) c.index-2.result.now 0 there)
     (block_aim (og_of c.requires.aimed.rooted) to.node c.requires.aimed.within columns.below.items c.requires.aimed.below (aim_at aims width to.at)
-    columns.wanted.items (aimed.aims.each to.at to.node c.requires.aimed.place) s c.requires.source none)
+    aimed.marks (aimed.aims.each to.at to.node c.requires.aimed.place) s c.requires.source none)

@@ -1,6 +1,7 @@
-use Rattle.std.proofs.Common.{rules, ◌≡◌, ◌∙◌, ◌≤◌, ◌*◌, ℕ, zero, suc, List, Some, length, slice_get, sym, ap, subst, arith}
+use Rattle.std.proofs.Common.{rules, ◌≡◌, ◌≤◌, ℕ, zero, suc, List, Some, length, slice_get, sym, subst, arith}
 use Rattle.std.specs.Prelude.{replicate}
 use Rattle.std.proofs.lemmas.Option.{same_Some}
+use Rattle.mrt_rows.specs.Held.{AreTiles}
 use Rattle.mrt_rows.proofs.column.Columns.new.Goals as goal
 
 same_each : (n k j t : ℕ) → slice_get (replicate n k) j ≡ Some t → t ≡ k
@@ -14,15 +15,12 @@ returns c =
     let count = c.node_count-count.result in
     let past : length g.ids ≤ count = omega (arith, c.node_count-count.ensures.count) in
     let many : length c.in_ok-targets.targets.items ≡ c.args.width = search rules in
-    let all : length c.in_ok-aims.aims.items ≡ count * c.args.width = search rules in
     record {
       common = c.in_ok-common.ensures;
       one_below_each = search rules;
       some_places = omega (arith, many, c.requires.some);
-      places = all ∙ ap (λ (n : ℕ). n * c.args.width) c.node_count-count.ensures.count ∙ ap (λ (k : ℕ). length g.ids * k) (sym many);
-      a_mark_each = search rules;
-      up = record { nodes = c.in_ok-up.ensures.nodes; width = c.in_ok-up.ensures.width ∙ sym many };
-      down = record { nodes = c.in_ok-down.ensures.nodes; width = c.in_ok-down.ensures.width ∙ sym many };
+      each = subst (λ (k : ℕ). AreTiles g k c.in_ok-each.each) (sym many) c.in_ok-each.ensures;
+      shared = c.in_ok-shared.ensures;
       aimed = λ j t at inside. (
           let blank : c.in_ok-targets.targets.items ≡ replicate c.args.width c.new-2.result = c.in_ok-targets.ensures.items_if_clones_equal (search rules) in
           absurd (omega (arith, past, inside, c.new-2.ensures, same_each c.args.width c.new-2.result j t (subst (λ (ts : List ℕ). slice_get ts j ≡ Some t) blank at))));

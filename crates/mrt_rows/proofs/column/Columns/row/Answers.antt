@@ -1,4 +1,4 @@
-use Rattle.std.proofs.Common.{◌≢◌, ◌∙◌, Option, Some, length, sym, subst}
+use Rattle.std.proofs.Common.{◌≢◌, ◌∙◌, Option, Some, sym, subst}
 use Rattle.std.proofs.lemmas.Bool.{eqb-false, eqb-true}
 use Rattle.mrt_graph.specs.declared.cert.Row.{Row}
 use Rattle.mrt_rows.specs.ColumnOf.{IsRowIn}

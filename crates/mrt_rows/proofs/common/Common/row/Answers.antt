@@ -1,4 +1,4 @@
-use Rattle.std.proofs.Common.{◌≢◌, ◌≡◌, ◌∙◌, ℕ, Some, sym, ap, subst, arith}
+use Rattle.std.proofs.Common.{ℕ, Some, subst, arith}
 use Rattle.link_direction.proofs.TwoNodes.{Relates}
 use Rattle.mrt_rows.specs.NearOf.{Apart, IsNearRow}
 use Rattle.mrt_rows.specs.Said.{words_of}

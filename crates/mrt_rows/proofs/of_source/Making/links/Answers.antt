@@ -1,4 +1,4 @@
-use Rattle.std.proofs.Common.{◌∙◌, ℕ, sym, subst, arith}
+use Rattle.std.proofs.Common.{ℕ, sym, subst, arith}
 use Rattle.inc_dec_spf.specs.declared.reach.Dir.TheVariants.{Down, Up}
 use Rattle.inc_dec_spf.specs.Fan.{IsOpen}
 use Rattle.mrt_rows.specs.Said.{words_of}

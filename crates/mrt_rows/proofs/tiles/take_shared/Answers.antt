@@ -1,0 +1,39 @@
+use Rattle.std.proofs.Common.{◌≡◌, ◌<◌, ◌≤◌, ◌+◌, ◌*◌, ◌∙◌, Bool, not, true, false, length, inl, inr, sym, ap, arith}
+use Rattle.std.specs.List.{slice_range}
+use Rattle.std.proofs.lemmas.Bool.{cases_Bool}
+use Rattle.std.proofs.lemmas.Grind.{get_or_default_zero}
+use Rattle.std.proofs.lemmas.Option.{get_or_from_slice_get}
+use Rattle.inc_dec_spf.specs.BlockAims.{aim_at}
+use Rattle.inc_dec_spf.proofs.SideBySide.{range_index, range_length, row_within}
+use Rattle.mrt_rows.proofs.SharedAims.{one_shared}
+use Rattle.mrt_rows.proofs.tiles.take_shared.Goals as goal
+use Rattle.mrt_rows.proofs.tiles.take_shared.Goals.{else-wanted-k, else-wanted-k-2, then-wanted-k, then-wanted-k-2}
+
+pub loop-k-preserved : goal.loop-k-preserved
+loop-k-preserved c =
+    let aims = c.args.aims.now in
+    let width = c.args.width in
+    let k = c.loop-k.k in
+    let first = c.index-of_block-0.result in
+    let below : k < length c.args.wanted.now = omega (arith, c.loop-k-test.true, c.loop-k.invariant.one_each) in
+    let room : k * width + width ≤ length aims = row_within k (length c.args.wanted.now) width (length aims) c.requires.room below in
+    let row = slice_range aims (k * width) (k * width + width) in
+    let long = range_length aims (k * width) width room in
+    let zero_read = get_or_default_zero row 0 first (omega (arith, long, c.requires.some)) in
+    let is : first ≡ aim_at aims width 0 k = c.index-of_block-0.is ∙ zero_read ∙ range_index aims (k * width) width 0 room c.requires.some in
+    one_shared (length c.args.wanted.now) width aims c.args.wanted.now c.loop-k.wanted c.loop-k.firsts c.loop-k.shared k first c.if-wanted-k.is_taken
+    c.if-wanted-k-2.wanted c.loop-k.invariant below is
+    (λ taken j j_below. elim c.if-wanted-k.branch [
+      | then-wanted-k t ↦
+          sym (range_index aims (k * width) width j room j_below)
+          ∙ t.are_one-is_taken.ensures (sym t.is_taken-is ∙ taken) j (omega (arith, long, j_below))
+          ∙ sym (c.index-of_block-0.is ∙ zero_read)
+      | else-wanted-k t ↦ let no : false ≡ true = sym t.if-wanted-k.false ∙ sym t.is_taken-is ∙ taken in (cc)
+    ])
+    (λ at. elim c.if-wanted-k-2.branch [
+      | then-wanted-k-2 t ↦ elim (cases_Bool c.if-wanted-k.is_taken) [
+        | inl taken ↦ inr taken
+        | inr left ↦ inl (t.wanted-is ∙ ap (λ (b : Bool). not b) left)
+      ]
+      | else-wanted-k-2 t ↦ let no : false ≡ true = sym t.if-wanted-k-2.false ∙ get_or_from_slice_get c.loop-k.wanted k true false at in (cc)
+    ])

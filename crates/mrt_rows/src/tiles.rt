@@ -1,0 +1,127 @@
+//! Tiles up and down, aimed at some nodes side by side.
+
+ghost use Rattle.std.specs.Prelude.{◌≡◌, ◌<◌, ◌≤◌, ◌+◌, ◌*◌, ℕ, IfOk, IsTrue, Some, length, slice_get, slice_index, true};
+ghost use Rattle.mrt_rows.specs.{Common.AreCommon, Said.IsRooted, Said.words_of};
+ghost use Rattle.mrt_rows.specs.Held.{AreShared, AreTiles, AreTilesAimed};
+
+use crate::common::Common;
+use crate::directed::Rooted;
+use crate::row_over::FirstLinks;
+use inc_dec_spf::{Aiming, Dir, Tile};
+use mrt_graph::{NoMemory, NodeNo};
+use std::alloc::Global;
+
+/// What the blocks of a graph aim at, for some nodes side by side; marks on blocks; and tiles that are aimed so in the marked ones.
+#[derive(Drop)]
+pub struct Tiles {
+    pub aims: Vec<NodeNo>,
+    pub wanted: Vec<bool>,
+    pub up: Tile,
+    pub down: Tile,
+}
+
+impl Tiles {
+    /// Tiles of this width, in which no block is marked.
+    ///
+    /// It takes time and memory in proportion to the nodes times the width.
+    pub fn new(alloc: Global, rooted: &Rooted, width: u16) -> Result<Tiles, NoMemory>
+        ensures { IfOk result (AreTiles rooted.now.graph.now width) }
+    {
+        let count = rooted.graph.node_count() as usize;
+        let aims = vec![in alloc; rooted.root; count * width as usize]?;
+        let wanted = vec![in alloc; false; count]?;
+        let up = Tile::new(alloc, rooted.graph, width)?;
+        let down = Tile::new(alloc, rooted.graph, width)?;
+        Ok(Tiles {
+            aims,
+            wanted,
+            up,
+            down,
+        })
+    }
+
+    /// Aims the tiles in the marked blocks at what these aim at.
+    ///
+    /// It takes time in proportion to the nodes, and to the ends of those in the marked blocks and of the heads times the width.
+    pub fn aim(&mut self, rooted: &Rooted, common: &Common)
+        requires rooted { IsRooted rooted.now }
+        requires common { AreCommon rooted.now.graph.now (words_of rooted.now) common.now }
+        requires tiles { AreTiles rooted.now.graph.now self.old.up.width self.old }
+        ensures tiles { (places : ℕ) → AreTiles rooted.now.graph.now places self.old
+            → AreTiles rooted.now.graph.now places self.new }
+        ensures aims { self.new.aims.items ≡ self.old.aims.items }
+        ensures wanted { self.new.wanted.items ≡ self.old.wanted.items }
+        ensures aimed { AreTilesAimed rooted.now.graph.now (words_of rooted.now) self.new }
+    {
+        let up = Aiming {
+            graph: rooted.graph,
+            directed: rooted.directed,
+            dir: Dir::Up,
+            turns: common.against_order.as_slice(),
+            aims: self.aims.as_slice(),
+            wanted: self.wanted.as_slice(),
+        };
+        self.up.aim(&up, &common.heads);
+        let down = Aiming {
+            graph: rooted.graph,
+            directed: rooted.directed,
+            dir: Dir::Down,
+            turns: common.by_order.as_slice(),
+            aims: self.aims.as_slice(),
+            wanted: self.wanted.as_slice(),
+        };
+        self.down.aim(&down, &common.heads);
+    }
+
+    /// The links of node s at a place.
+    pub fn links_of(&self, s: NodeNo, at: usize) -> FirstLinks
+        requires up { s < self.now.up.nodes }
+        requires down { s < self.now.down.nodes }
+        requires up_place { at < self.now.up.width }
+        requires down_place { at < self.now.down.width }
+        ensures up { slice_get self.now.up.links (s * self.now.up.width + at) ≡ Some result.up }
+        ensures down { slice_get self.now.down.links (s * self.now.down.width + at) ≡ Some result.down }
+    {
+        FirstLinks {
+            up: self.up.links_of(s)[at],
+            down: self.down.links_of(s)[at],
+        }
+    }
+}
+
+/// Takes of the marked blocks those that aim at one node at all places: their marks are moved. It tells what each block aims at first.
+pub fn take_shared(
+    width: usize,
+    aims: &[NodeNo],
+    wanted: &mut [bool],
+    firsts: &mut [NodeNo],
+    shared: &mut [bool],
+)
+    requires some { 0 < width }
+    requires room { length aims.now ≡ length wanted.old * width }
+    requires one_first_each { length firsts.old ≡ length wanted.old }
+    requires a_mark_each { length shared.old ≡ length wanted.old }
+    ensures { AreShared (length wanted.old) width aims.now wanted.old wanted.new firsts.new shared.new }
+{
+    for k in 0..wanted.len() {
+        let of_block = &aims[k * width..k * width + width];
+        let is_taken = wanted[k] && are_one(of_block);
+        firsts[k] = of_block[0];
+        shared[k] = is_taken;
+        wanted[k] = wanted[k] && !is_taken;
+    }
+}
+
+/// Whether the nodes are all the first one.
+fn are_one(nodes: &[NodeNo]) -> bool
+    requires { 0 < length nodes.now }
+    ensures { IsTrue result → (j : ℕ) → j < length nodes.now → slice_index nodes.now j ≡ slice_index nodes.now 0 }
+{
+    let first = nodes[0];
+    for node in nodes {
+        if *node != first {
+            return false;
+        }
+    }
+    true
+}
