@@ -64,7 +64,7 @@ impl Columns {
     /// Aims at `to`, and answers its place among the destinations that the tiles are aimed at.
     ///
     /// Where the tiles are not aimed at `to`, they are aimed at it and the next nodes by number, the marked ones among them if
-    /// there are marks, in time in proportion to the links times the width. It takes no memory.
+    /// there are marks, in time in proportion to the links, and times the width in the blocks that aim apart. It takes no memory.
     pub fn aim(&mut self, rooted: &Rooted, to: NodeNo, marks: Option<&[bool]>) -> Target
         requires rooted { IsRooted rooted.now }
         requires to { IsNode rooted.now to }

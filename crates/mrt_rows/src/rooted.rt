@@ -78,9 +78,9 @@ impl RootedColumns {
 
     /// Aims at `to`, for its column.
     ///
-    /// It takes time in proportion to the nodes on the way from `to` to the root, head by head. The first time for `to` and the
-    /// next 63 nodes by number, or as many as the width has, it takes time in proportion to the links times the width. It
-    /// takes no memory.
+    /// It takes time in proportion to the nodes. The first time for `to` and the next 63 nodes by number, or as many as the width
+    /// has, it takes time in proportion to the links, and times the width in the blocks where the ways to these part. It takes
+    /// no memory.
     pub fn aim(&mut self, g: &Graph, to: NodeNo)
         requires made { MakeColumns g.now self.old }
         requires to { to < length g.now.ids }
