@@ -1,12 +1,11 @@
 //! What a tile is aimed by, and what its blocks aim at.
 
-ghost use Rattle.std.specs.Prelude.{◌≡◌, ◌<◌, ◌≤◌, ◌+◌, ◌*◌, ◌⊎◌, ◌↔◌, ℕ, IsTrue, Some, length, slice_get, slice_index, true};
-ghost use Rattle.link_direction.specs.{CommonBlock.HaveCommonBlock, Directions.Directions};
+ghost use Rattle.std.specs.Prelude.{◌≡◌, ◌<◌, ◌≤◌, ◌+◌, ◌*◌, ◌⊎◌, ℕ, length, slice_index};
+ghost use Rattle.link_direction.specs.Directions.{Directions};
 ghost use Rattle.inc_dec_spf.specs.{BlockAims.AreHeadAims, HasDirections.AreDirections, HasDirections.HasDirections};
 
-use crate::fan::mark;
 use crate::reach::Dir;
-use mrt_graph::{Directed, Graph, NodeNo, Place};
+use mrt_graph::{Directed, Graph, NodeNo};
 
 /// A graph with its directions; up or down; the nodes by the turns of the other direction; what the blocks aim at, side by
 /// side, those of block k from k times their number on; and marks on the blocks over which links are wanted.
@@ -42,28 +41,4 @@ fn put_all(at: usize, width: usize, node: NodeNo, aims: &mut [NodeNo])
         → slice_index aims.new i ≡ slice_index aims.old i }
 {
     aims[at..at + width].fill(node);
-}
-
-/// Marks the blocks in which the target lies, and those whose head it is. (No clause tells that it marks no others.)
-pub fn mark_blocks(g: &Graph, d: &Directed, target: NodeNo, marks: &mut [bool])
-    requires directed { HasDirections g.now d.now }
-    requires target { target < length g.now.ids }
-    requires one_each { length marks.old ≡ length g.now.ids }
-    ensures { (root s k h : ℕ) (w : Directions) → AreDirections g.now d.now root w → s < length g.now.ids
-        → HaveCommonBlock w s target k h → slice_get marks.new k ≡ Some true }
-{
-    for n in 0..g.node_count() {
-        let node = NodeNo::new(n);
-        let place = d.place(node);
-        if is_at(target, node, &place) {
-            mark(marks, place.block);
-        }
-    }
-}
-
-/// Whether the target lies in the block of this node: it is the node, or its head.
-fn is_at(target: NodeNo, node: NodeNo, place: &Place) -> bool
-    ensures { IsTrue result ↔ ((node ≡ target) ⊎ (place.now.head ≡ target)) }
-{
-    node == target || place.head == target
 }

@@ -48,17 +48,12 @@ impl Fan {
         ensures width { IfOk result (λ fan. fan.width ≡ width) }
     {
         let count = g.node_count() as usize;
-        let costs = vec![in alloc; FAR; count * width as usize]?;
-        let places = vec![in alloc; NO_PLACE; count * width as usize]?;
-        let from_costs = vec![in alloc; FAR; width as usize]?;
-        let from_places = vec![in alloc; NO_PLACE; width as usize]?;
-        let stops = vec![in alloc; false; count]?;
         Ok(Fan {
-            costs,
-            places,
-            from_costs,
-            from_places,
-            stops,
+            costs: vec![in alloc; FAR; count * width as usize]?,
+            places: vec![in alloc; NO_PLACE; count * width as usize]?,
+            from_costs: vec![in alloc; FAR; width as usize]?,
+            from_places: vec![in alloc; NO_PLACE; width as usize]?,
+            stops: vec![in alloc; false; count]?,
         })
     }
 
@@ -143,10 +138,8 @@ pub struct Opening<'a> {
 fn link_at(ends: &[End], place: u16) -> LinkNo
     ensures { result ≡ link_at ends.now place }
 {
-    match ends.get(place as usize) {
-        Some(end) => end.link,
-        None => LinkNo::new(NO_LINK),
-    }
+    ends.get(place as usize)
+        .map_or(LinkNo::new(NO_LINK), |end| end.link)
 }
 
 /// How many of the nodes from the first source on there are, at most as many as the width.
@@ -180,7 +173,7 @@ fn begin(opening: &Opening, width: usize, costs: &mut [u32], places: &mut [u16],
 }
 
 /// Marks node v.
-pub fn mark(marks: &mut [bool], v: NodeNo)
+fn mark(marks: &mut [bool], v: NodeNo)
     requires { v < length marks.old }
     ensures marked { slice_get marks.new v ≡ Some true }
     ensures stay { (i : ℕ) → slice_get marks.old i ≡ Some true → slice_get marks.new i ≡ Some true }
@@ -207,7 +200,7 @@ fn sweep(
 {
     for x in opening.turns {
         if is_reached(*x, from_costs.len(), costs) {
-            take_from(*x, costs, places, from_costs, from_places);
+            take(*x, costs, places, from_costs, from_places);
             keep_onward(opening, *x, stops, from_costs, from_places);
             offer_on(opening, *x, from_costs, from_places, costs, places);
         }
@@ -228,13 +221,7 @@ fn is_reached(x: NodeNo, width: usize, costs: &[u32]) -> bool
 }
 
 /// Takes what is known of x.
-fn take_from(
-    x: NodeNo,
-    costs: &[u32],
-    places: &[u16],
-    from_costs: &mut [u32],
-    from_places: &mut [u16],
-)
+fn take(x: NodeNo, costs: &[u32], places: &[u16], from_costs: &mut [u32], from_places: &mut [u16])
     requires room { x * length from_costs.old + length from_costs.old ≤ length costs.now }
     requires from_places { length from_places.old ≡ length from_costs.old }
     requires lanes { AreLanes costs.now places.now }

@@ -5,7 +5,7 @@ ghost use Rattle.mrt_graph.specs.GraphInvariant.{IsTopology};
 ghost use Rattle.link_direction.specs.Directions.{Directions, Says};
 ghost use Rattle.inc_dec_spf.specs.{HasDirections.HasDirections, LeastPath.IsReach, LeastPath.IsReachTo};
 
-use crate::aiming::{Aiming, mark_blocks};
+use crate::aiming::Aiming;
 use crate::fan::Fan;
 use crate::reach::{Dir, Reach, nodes_by_turn};
 use crate::side::{FAR, NO_LINK, hop_by};
@@ -13,31 +13,24 @@ use crate::ways::{take_own_ways, take_ways};
 use mrt_graph::{Directed, Graph, LinkNo, NoMemory, NodeNo};
 use std::alloc::Global;
 
-/// The least paths from a node to every node with which it has a block of more than one link in common, up or down.
+/// The least paths from node s to every node with which it has a block of more than one link in common, up or down.
 ///
-/// It is a fan of one source. It takes time in proportion to the nodes, and to the ends of those in the source's blocks.
-pub fn spf(
-    alloc: Global,
-    g: &Graph,
-    d: &Directed,
-    source: NodeNo,
-    dir: Dir,
-) -> Result<Reach, NoMemory>
-    requires source { source < length g.now.ids }
+/// It is a fan of one source. It takes time in proportion to the nodes, and to the ends of those in its blocks.
+pub fn spf(alloc: Global, g: &Graph, d: &Directed, s: NodeNo, dir: Dir) -> Result<Reach, NoMemory>
+    requires source { s < length g.now.ids }
     requires directed { HasDirections g.now d.now }
-    ensures { (w : Directions) → Says g.now d.now w → IfOk result (IsReach g.now w dir source) }
+    ensures { (w : Directions) → Says g.now d.now w → IfOk result (IsReach g.now w dir s) }
 {
     let count = g.node_count();
     let turns = nodes_by_turn(alloc, g, d, dir)?;
     let mut fan = Fan::new(alloc, g, 1)?;
-    fan.open(g, d, dir, &turns, source);
+    fan.open(g, d, dir, &turns, s);
     let mut hops = vec![in alloc; None; count as usize]?;
     for n in 0..count {
         let t = NodeNo::new(n);
-        hops[n as usize] = fan.hop(g, source, source, t);
+        hops[n as usize] = fan.hop(g, s, s, t);
     }
-    let reach = Reach::new(hops);
-    Ok(reach)
+    Ok(Reach { hops })
 }
 
 /// The least paths to a node from every node with which it has a block of more than one link in common, up or down.
@@ -57,8 +50,7 @@ pub fn spf_to(
     let count = g.node_count();
     let turns = nodes_by_turn(alloc, g, d, dir.against())?;
     let aims = vec![in alloc; target; count as usize]?;
-    let mut wanted = vec![in alloc; false; count as usize]?;
-    mark_blocks(g, d, target, &mut wanted);
+    let wanted = vec![in alloc; true; count as usize]?;
     let aiming = Aiming {
         graph: g,
         directed: d,
@@ -67,22 +59,16 @@ pub fn spf_to(
         aims: aims.as_slice(),
         wanted: wanted.as_slice(),
     };
-    let mut all_costs = vec![in alloc; FAR; count as usize]?;
+    let mut all = vec![in alloc; FAR; count as usize]?;
     let mut all_links = vec![in alloc; LinkNo::new(NO_LINK); count as usize]?;
     let mut costs = [FAR];
     let mut links = [LinkNo::new(NO_LINK)];
-    take_own_ways(
-        &aiming,
-        &mut all_costs,
-        &mut all_links,
-        &mut costs,
-        &mut links,
-    );
+    take_own_ways(&aiming, &mut all, &mut all_links, &mut costs, &mut links);
     let mut hops = vec![in alloc; None; count as usize]?;
     for n in 0..count {
         let s = NodeNo::new(n);
-        take_ways(&aiming, s, false, &all_costs, &mut costs, &mut links);
+        take_ways(&aiming, s, false, &all, &mut costs, &mut links);
         hops[n as usize] = hop_by(costs[0], links[0]);
     }
-    Ok(Reach::new(hops))
+    Ok(Reach { hops })
 }

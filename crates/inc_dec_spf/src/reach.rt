@@ -74,7 +74,7 @@ pub struct Hop {
 /// One entry for each node, by number: as the destination of one source, or the source for one destination; none without a path.
 #[derive(Drop)]
 pub struct Reach {
-    hops: Vec<Option<Hop>>,
+    pub(crate) hops: Vec<Option<Hop>>,
 }
 
 impl Model for Reach {
@@ -88,13 +88,6 @@ impl Model for Reach {
 
 impl Reach {
     ghost use Rattle.std.specs.Prelude.{◌≡◌, ◌<◌, Some, length, slice_get};
-
-    /// The hops of all nodes.
-    pub(crate) fn new(hops: Vec<Option<Hop>>) -> Reach
-        ensures { result ≡ hops.items }
-    {
-        Reach { hops }
-    }
 
     /// The hop of the least path to node t or, where the entries are for one destination, from node t, if there is one.
     pub fn hop(&self, t: NodeNo) -> Option<Hop>

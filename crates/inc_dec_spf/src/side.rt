@@ -34,13 +34,7 @@ pub fn take_over(left: &[u32], metric: u16, link: LinkNo, costs: &mut [u32], lin
 }
 
 /// Takes the ways over an end like this, but for those whose aim is the end's own node: the way back is none.
-pub fn take_onward(
-    leg: &Leg,
-    aims: &[NodeNo],
-    left: &[u32],
-    costs: &mut [u32],
-    links: &mut [LinkNo],
-)
+pub fn take_on(leg: &Leg, aims: &[NodeNo], left: &[u32], costs: &mut [u32], links: &mut [LinkNo])
     requires one_aim_each { length aims.now ≡ length costs.old }
     requires one_left_each { length left.now ≡ length costs.old }
     requires one_link_each { length links.old ≡ length costs.old }
@@ -56,22 +50,15 @@ pub fn take_onward(
     }
 }
 
-/// Takes the ways that end with an end to node `to`, where they are less: nothing is left where it is the aim.
-pub fn take_last(
-    to: NodeNo,
-    aims: &[NodeNo],
-    metric: u16,
-    link: LinkNo,
-    costs: &mut [u32],
-    links: &mut [LinkNo],
-)
+/// Takes the ways that end with this end, where they are less: nothing is left where its node is the aim.
+pub fn take_last(end: End, aims: &[NodeNo], costs: &mut [u32], links: &mut [LinkNo])
     requires one_aim_each { length aims.now ≡ length costs.old }
     requires one_link_each { length links.old ≡ length costs.old }
-    ensures { AreTaken (λ j. cost_at to (slice_index aims.now j)) metric link costs.old links.old costs.new links.new }
+    ensures { AreTaken (λ j. cost_at end.to (slice_index aims.now j)) end.metric end.link costs.old links.old costs.new links.new }
 {
     for j in 0..costs.len() {
-        let last = either(to == aims[j], 0, FAR);
-        take_at(j, last + metric as u32, link, costs, links);
+        let last = either(end.to == aims[j], 0, FAR);
+        take_at(j, last + end.metric as u32, end.link, costs, links);
     }
 }
 

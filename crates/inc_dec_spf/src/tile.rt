@@ -43,16 +43,12 @@ impl Tile {
     {
         let none = LinkNo::new(NO_LINK);
         let nodes = g.node_count() as usize;
-        let all_costs = vec![in alloc; FAR; nodes * width as usize]?;
-        let all_links = vec![in alloc; none; nodes * width as usize]?;
-        let costs = vec![in alloc; FAR; width as usize]?;
-        let links = vec![in alloc; none; width as usize]?;
         Ok(Tile {
             nodes,
-            all_costs,
-            all_links,
-            costs,
-            links,
+            all_costs: vec![in alloc; FAR; nodes * width as usize]?,
+            all_links: vec![in alloc; none; nodes * width as usize]?,
+            costs: vec![in alloc; FAR; width as usize]?,
+            links: vec![in alloc; none; width as usize]?,
         })
     }
 

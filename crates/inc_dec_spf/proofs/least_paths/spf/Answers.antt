@@ -18,8 +18,8 @@ loop-n-preserved c =
       each = λ root w are t hop below at. elim (cases_eq t n) [
         | inl same ↦
             let now : slice_get (set hops n new) t ≡ Some new = ap (λ (v : ℕ). slice_get (set hops n new) v) same ∙ set_there hops n new within in
-            subst (λ (o : Option Hop). IsHop c.args.g.now w c.args.dir c.args.source t o) (same_Some new hop (sym now ∙ at))
-            (subst (λ (v : ℕ). IsHop c.args.g.now w c.args.dir c.args.source v new) (c.new-t.ensures ∙ sym same)
+            subst (λ (o : Option Hop). IsHop c.args.g.now w c.args.dir c.args.s t o) (same_Some new hop (sym now ∙ at))
+            (subst (λ (v : ℕ). IsHop c.args.g.now w c.args.dir c.args.s v new) (c.new-t.ensures ∙ sym same)
             (c.hop.ensures w c.args.dir (c.open.ensures.open root w are)))
         | inr other ↦ c.loop-n.invariant.each root w are t hop (omega (arith, below, other)) (sym (set_elsewhere hops n t new other) ∙ at)
       ];
@@ -30,7 +30,7 @@ returns c = λ w says.
     let has = c.requires.directed in
     let are = directions_are c.args.g.now c.args.d.now w c.node_count-count.ensures.kept has says in
     let hops = c.loop-n.hops.items in
-    rw c.new-reach.ensures (record {
+    (record {
       one_each = c.loop-n.invariant.one_each;
       each = λ t hop at. c.loop-n.invariant.each has.root w are t hop
           (omega (arith, slice_get_within hops t hop at, c.loop-n.invariant.one_each, c.loop-n-test.false, c.node_count-count.ensures.count)) at;

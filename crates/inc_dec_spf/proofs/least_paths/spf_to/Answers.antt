@@ -21,6 +21,7 @@ use Rattle.inc_dec_spf.specs.Rest.{far}
 use Rattle.inc_dec_spf.specs.Turns.{AreTurns}
 use Rattle.inc_dec_spf.specs.Ways.{AreLeast, AreReady, sought}
 use Rattle.link_direction.proofs.ClosedBlocks.{IsOrdered}
+use Rattle.inc_dec_spf.proofs.AllMarked.{all_marked}
 use Rattle.inc_dec_spf.proofs.OwnWays.{all_ready}
 use Rattle.inc_dec_spf.proofs.SameDirections.{directions_are}
 use Rattle.inc_dec_spf.proofs.SideBySide.{far_costs}
@@ -67,14 +68,13 @@ aimed_at aiming root w is s t within t_within same = record {
 
 pub take_own_ways-requires-clause-aiming : goal.take_own_ways-requires-clause-aiming
 take_own_ways-requires-clause-aiming c =
-    let marks = with_items_is c.in_ok-wanted.wanted c.mark_blocks.new.marks (c.mark_blocks.auto.marks ∙ c.deref_mut.ensures.len) in
-    aiming_is _ c.against.result c.in_ok-turns.turns.items c.in_ok-aims.aims.items c.mark_blocks.new.marks c.node_count-count.ensures.kept c.requires.directed
-    c.against.ensures c.as_slice.ensures.value c.as_slice-2.ensures.value (c.as_slice-3.ensures.value ∙ marks) (search rules) (search rules) c.in_ok-turns.ensures
+    aiming_is _ c.against.result c.in_ok-turns.turns.items c.in_ok-aims.aims.items c.in_ok-wanted.wanted.items c.node_count-count.ensures.kept c.requires.directed
+    c.against.ensures c.as_slice.ensures.value c.as_slice-2.ensures.value c.as_slice-3.ensures.value (search rules) (search rules) c.in_ok-turns.ensures
 
 pub take_own_ways-requires-clause-rows : goal.take_own_ways-requires-clause-rows
 take_own_ways-requires-clause-rows c =
     let count = c.node_count-count.result in
-    let blank : c.deref_mut-2.result.now ≡ replicate count far = c.deref_mut-2.ensures.value ∙ c.in_ok-all_costs.ensures.items_if_clones_equal (search rules) in
+    let blank : c.deref_mut.result.now ≡ replicate count far = c.deref_mut.ensures.value ∙ c.in_ok-all.ensures.items_if_clones_equal (search rules) in
     rw blank (record { one_each = omega (arith, length-replicate count far, c.node_count-count.ensures.count); most = far_costs count })
 
 pub loop-n-init : goal.loop-n-init
@@ -89,14 +89,13 @@ loop-n-init c =
 
 pub take_ways-requires-clause-aiming : goal.take_ways-requires-clause-aiming
 take_ways-requires-clause-aiming c =
-    let marks = with_items_is c.in_ok-wanted.wanted c.mark_blocks.new.marks (c.mark_blocks.auto.marks ∙ c.deref_mut.ensures.len) in
     rw c.loop-n.invariant.one_cost
-    (aiming_is _ c.against.result c.in_ok-turns.turns.items c.in_ok-aims.aims.items c.mark_blocks.new.marks c.node_count-count.ensures.kept c.requires.directed
-    c.against.ensures c.as_slice.ensures.value c.as_slice-2.ensures.value (c.as_slice-3.ensures.value ∙ marks) (search rules) (search rules) c.in_ok-turns.ensures)
+    (aiming_is _ c.against.result c.in_ok-turns.turns.items c.in_ok-aims.aims.items c.in_ok-wanted.wanted.items c.node_count-count.ensures.kept c.requires.directed
+    c.against.ensures c.as_slice.ensures.value c.as_slice-2.ensures.value c.as_slice-3.ensures.value (search rules) (search rules) c.in_ok-turns.ensures)
 
 pub take_ways-requires-clause-rows : goal.take_ways-requires-clause-rows
 take_ways-requires-clause-rows c =
-    let all = c.deref.ensures.value ∙ with_items_is c.in_ok-all_costs.all_costs c.take_own_ways.new.all_costs (c.take_own_ways.auto.all_costs ∙ c.deref_mut-2.ensures.len) in
+    let all = c.deref.ensures.value ∙ with_items_is c.in_ok-all.all c.take_own_ways.new.all_costs (c.take_own_ways.auto.all_costs ∙ c.deref_mut.ensures.len) in
     rw (c.loop-n.invariant.one_cost, all) c.take_own_ways.ensures.rows
 
 pub loop-n-preserved : goal.loop-n-preserved
@@ -111,9 +110,9 @@ loop-n-preserved c =
     let new = c.hop_by.result in
     let costs = c.take_ways.new.costs in
     let links = c.take_ways.new.links in
-    let all = c.deref.ensures.value ∙ with_items_is c.in_ok-all_costs.all_costs c.take_own_ways.new.all_costs (c.take_own_ways.auto.all_costs ∙ c.deref_mut-2.ensures.len) in
+    let all = c.deref.ensures.value ∙ with_items_is c.in_ok-all.all c.take_own_ways.new.all_costs (c.take_own_ways.auto.all_costs ∙ c.deref_mut.ensures.len) in
     let aiming : Aiming = record { graph = c.args.g; directed = c.args.d; dir = dir; turns = c.as_slice.result; aims = c.as_slice-2.result; wanted = c.as_slice-3.result } in
-    let marks = c.as_slice-3.ensures.value ∙ with_items_is c.in_ok-wanted.wanted c.mark_blocks.new.marks (c.mark_blocks.auto.marks ∙ c.deref_mut.ensures.len) in
+    let marks : c.in_ok-wanted.wanted.items ≡ replicate c.node_count-count.result true = search rules in
     let aims : c.in_ok-aims.aims.items ≡ replicate c.node_count-count.result t = search rules in
     let within : s < length g.ids = omega (arith, c.new-s.ensures, c.loop-n-test.true, c.node_count-count.ensures.count) in
     record {
@@ -132,7 +131,8 @@ loop-n-preserved c =
             (subst (λ (m : ℕ). AreReady aiming w false m c.deref.result.now s) (sym c.loop-n.invariant.one_cost) ready_all) ends.1)).each 0 (omega arith) in
             let found = least_hop (sought aiming w) root is false s t (aim_at aiming.aims.now 1 0) _ _ ends.0 ends.1 (λ own two. (cc)) (λ k h share. (
               (λ own. (cc)),
-              subst (λ (bs : List Bool). slice_get bs k ≡ Some true) (sym marks) (c.mark_blocks.ensures root s k h w are within share.common),
+              subst (λ (bs : List Bool). slice_get bs k ≡ Some true) (sym (c.as_slice-3.ensures.value ∙ marks)) (all_marked c.node_count-count.result k
+                  (omega (arith, block_of_two (length g.ids) root w is.ordered.heads.block_within s t k h within c.requires.target share.common, c.node_count-count.ensures.count))),
               it.aimed k h share.common,
             )) (λ u k h u_within apart common own onward. it.alone u k h u_within apart common (onward refl)) least in
             let link = get_or_default_zero links 0 c.index-links-0.result (omega (arith, c.take_ways.auto.links, c.loop-n.invariant.one_link)) in
@@ -149,7 +149,7 @@ returns c = λ w says.
     let g = c.args.g.now in
     let are = directions_are g c.args.d.now w c.node_count-count.ensures.kept c.requires.directed says in
     let hops = c.loop-n.hops.items in
-    subst (λ (all : List (Option Hop)). IsReachTo g w c.args.dir c.args.target all) (sym c.new-3.ensures) (record {
+    (record {
       one_each = c.loop-n.invariant.one_each;
       each = λ s hop at.
           c.loop-n.invariant.done c.requires.directed.root s w hop are
