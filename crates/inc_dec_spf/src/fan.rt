@@ -167,18 +167,9 @@ fn begin(opening: &Opening, width: usize, costs: &mut [u32], places: &mut [u16],
     for j in 0..source_count(opening, width) {
         let source = NodeNo::new(opening.first.get() + j as u16);
         offer_begun(opening, source, j, width, costs, places);
-        mark(stops, source);
-        mark(stops, opening.directed.place(source).head);
+        stops[source.get() as usize] = true;
+        stops[opening.directed.place(source).head.get() as usize] = true;
     }
-}
-
-/// Marks node v.
-fn mark(marks: &mut [bool], v: NodeNo)
-    requires { v < length marks.old }
-    ensures marked { slice_get marks.new v ≡ Some true }
-    ensures stay { (i : ℕ) → slice_get marks.old i ≡ Some true → slice_get marks.new i ≡ Some true }
-{
-    marks[v.get() as usize] = true;
 }
 
 /// Gives each node its turn, where a way to it is known.

@@ -1,8 +1,9 @@
-use Rattle.std.proofs.Common.{rules, ◌≡◌, ◌<◌, ◌+◌, ◌∙◌, ℕ, true, Some, length, slice_get, refl, sym, subst, inl, inr, arith}
+use Rattle.std.proofs.Common.{rules, ◌≡◌, ◌<◌, ◌+◌, ◌∙◌, ℕ, Bool, List, true, Some, length, length-set, set, slice_get, refl, sym, ap, subst, inl, inr, arith}
 use Rattle.std.proofs.lemmas.Bool.{cases_eq, cases_lt}
 use Rattle.std.specs.Prelude.{replicate}
 use Rattle.std.proofs.lemmas.List.{get_or-replicate, get_or_past, length-replicate}
 use Rattle.std.proofs.lemmas.Option.{slice_get_within}
+use Rattle.mrt_graph.proofs.ListPlaces.{set_elsewhere, set_there}
 use Rattle.inc_dec_spf.specs.Known.{AreLanes, OfAny, known_at, no_place, nothing}
 use Rattle.inc_dec_spf.specs.Offers.{IsFirstOffer}
 use Rattle.inc_dec_spf.specs.Rest.{far}
@@ -22,6 +23,16 @@ blank count = record {
     | inr past ↦ absurd (omega (arith, above, get_or_past (replicate count far) i 0 (omega (arith, past, length-replicate count far))))
   ];
 }
+
+-- marks where one more is set
+marked : (marks : List Bool) (i k : ℕ) → i ≡ k → k < length marks → slice_get (set marks i true) k ≡ Some true
+marked marks i k is within = subst (λ (v : ℕ). slice_get (set marks v true) k ≡ Some true) (sym is) (set_there marks k true within)
+
+stays : (marks : List Bool) (i k : ℕ) → slice_get marks k ≡ Some true → slice_get (set marks i true) k ≡ Some true
+stays marks i k at = elim (cases_eq i k) [
+  | inl same ↦ marked marks i k same (slice_get_within marks k true at)
+  | inr other ↦ set_elsewhere marks i k true (λ same. other (sym same)) ∙ at
+]
 
 pub loop-j-init : goal.loop-j-init
 loop-j-init c =
@@ -47,6 +58,9 @@ loop-j-preserved c =
     let source : s ≡ first + j = omega (arith, c.new-source.ensures, c.get.ensures.value) in
     let within : s < length g.ids = omega (arith, source, c.loop-j-test.true, c.source_count-j-end.ensures.within) in
     let so_far = c.loop-j.invariant.stops in
+    let marks = set c.loop-j.stops c.get-in-loop-j.result true in
+    let long : length marks ≡ length g.ids = length-set c.loop-j.stops c.get-in-loop-j.result true ∙ so_far.one_each in
+    let head = c.get-in-loop-j-2.result in
     record {
       lanes = c.offer_begun.ensures.lanes;
       begun = λ root w are.
@@ -55,19 +69,21 @@ loop-j-preserved c =
           (λ i offer. subst (λ (x : ℕ). OfAny (IsFirstOffer opening w x c.args.width j) i offer) (sym source))
           (c.loop-j.invariant.begun root w are) (c.offer_begun.ensures.offered root w are);
       stops = record {
-        one_each = omega (arith, so_far.one_each);
-        sources = λ k below inside. c.mark-in-loop-j.ensures.stay (first + k) (elim (cases_eq k j) [
-          | inl same ↦ subst (λ (x : ℕ). slice_get c.mark.new.marks x ≡ Some true) (omega (arith, source, same)) c.mark.ensures.marked
-          | inr other ↦ c.mark.ensures.stay (first + k) (so_far.sources k (omega (arith, below, other)) inside)
+        one_each = length-set marks head true ∙ long;
+        sources = λ k below inside. stays marks head (first + k) (elim (cases_eq k j) [
+          | inl same ↦
+              marked c.loop-j.stops c.get-in-loop-j.result (first + k) (omega (arith, c.get-in-loop-j.ensures.value, source, same)) (omega (arith, inside, so_far.one_each))
+          | inr other ↦ stays c.loop-j.stops c.get-in-loop-j.result (first + k) (so_far.sources k (omega (arith, below, other)) inside)
         ]);
         heads = λ root k w are below inside. elim (cases_eq k j) [
           | inl same ↦
-              subst (λ (x : ℕ). slice_get c.mark-in-loop-j.new.marks (w.head x) ≡ Some true) (omega (arith, source, same))
-              (subst (λ (x : ℕ). slice_get c.mark-in-loop-j.new.marks x ≡ Some true)
-              (place_says g opening.directed.now w s c.place.result are.says within c.place.ensures).0 c.mark-in-loop-j.ensures.marked)
+              let place = place_says g opening.directed.now w s c.place.result are.says within c.place.ensures in
+              let it : s ≡ first + k = omega (arith, source, same) in
+              marked marks head (w.head (first + k)) (c.get-in-loop-j-2.ensures.value ∙ place.0 ∙ ap w.head it)
+              (omega (arith, are.ordered.heads.head_within (first + k) inside, long))
           | inr other ↦
-              c.mark-in-loop-j.ensures.stay (w.head (first + k))
-              (c.mark.ensures.stay (w.head (first + k)) (so_far.heads root k w are (omega (arith, below, other)) inside))
+              stays marks head (w.head (first + k))
+              (stays c.loop-j.stops c.get-in-loop-j.result (w.head (first + k)) (so_far.heads root k w are (omega (arith, below, other)) inside))
         ];
       };
     }
