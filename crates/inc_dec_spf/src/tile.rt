@@ -2,8 +2,8 @@
 
 ghost use Rattle.std.specs.Prelude.{◌≡◌, ◌<◌, ◌+◌, ◌*◌, ℕ, IfOk, Some, length, slice_get};
 ghost use Rattle.link_direction.specs.Directions.{Directions};
-ghost use Rattle.inc_dec_spf.specs.{Aiming.AreRows, Aiming.IsAiming, HasDirections.AreDirections, Tile.IsAimed, Tile.IsTile};
-ghost use Rattle.inc_dec_spf.specs.FirstLink.{AreOthersInOneBlock, HasLinksAt};
+ghost use Rattle.inc_dec_spf.specs.{Aiming.IsAiming, HasDirections.AreDirections, Tile.IsAimed, Tile.IsTile};
+ghost use Rattle.inc_dec_spf.specs.FirstLink.{AreOthersInOneBlock};
 
 use crate::aiming::Aiming;
 use crate::side::{FAR, NO_LINK};
@@ -66,14 +66,27 @@ impl Tile {
             → AreOthersInOneBlock aiming.now.graph.now w heads.now
             → IsAimed aiming.now.graph.now w aiming.now.wanted.now aiming.now.dir aiming.now.aims.now self.new }
     {
-        take_all(
+        take_own_ways(
             aiming,
-            heads,
             &mut self.all_costs,
             &mut self.all_links,
             &mut self.costs,
             &mut self.links,
         );
+        for n in 0..aiming.graph.node_count() {
+            if heads[n as usize] {
+                let s = NodeNo::new(n);
+                take_ways(
+                    aiming,
+                    s,
+                    false,
+                    &self.all_costs,
+                    &mut self.costs,
+                    &mut self.links,
+                );
+                keep(s, &self.links, &mut self.all_links);
+            }
+        }
     }
 
     /// The links of node s, for the nodes that it is aimed at. Over a block that is not marked an earlier aim left them.
@@ -86,34 +99,5 @@ impl Tile {
         let width = self.costs.len();
         let at = s.get() as usize * width;
         &self.all_links[at..at + width]
-    }
-}
-
-/// Takes the links of all nodes, over the wanted blocks, to what these aim at: of unmarked nodes in their own blocks alone.
-fn take_all(
-    aiming: &Aiming,
-    heads: &[bool],
-    all_costs: &mut [u32],
-    all_links: &mut [LinkNo],
-    costs: &mut [u32],
-    links: &mut [LinkNo],
-)
-    requires aiming { IsAiming aiming.now (length costs.old) }
-    requires heads { length heads.now ≡ length aiming.now.graph.now.ids }
-    requires one_link_each { length links.old ≡ length costs.old }
-    requires rows { AreRows aiming.now (length costs.old) all_costs.old }
-    requires all_links { length all_links.old ≡ length all_costs.old }
-    ensures rows { AreRows aiming.now (length costs.old) all_costs.new }
-    ensures linked { (root s : ℕ) (w : Directions) → AreDirections aiming.now.graph.now aiming.now.directed.now root w
-        → AreOthersInOneBlock aiming.now.graph.now w heads.now → s < length aiming.now.graph.now.ids
-        → HasLinksAt aiming.now.graph.now w aiming.now.wanted.now aiming.now.dir aiming.now.aims.now (length costs.old) all_links.new s }
-{
-    take_own_ways(aiming, all_costs, all_links, costs, links);
-    for n in 0..aiming.graph.node_count() {
-        if heads[n as usize] {
-            let s = NodeNo::new(n);
-            take_ways(aiming, s, false, all_costs, costs, links);
-            keep(s, links, all_links);
-        }
     }
 }

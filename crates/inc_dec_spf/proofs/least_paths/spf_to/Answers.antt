@@ -16,7 +16,7 @@ use Rattle.inc_dec_spf.specs.Against.{against}
 use Rattle.inc_dec_spf.specs.Aiming.{IsAiming}
 use Rattle.inc_dec_spf.specs.BlockAims.{IsAimOf, aim_at}
 use Rattle.inc_dec_spf.specs.HasDirections.{AreDirections, HasDirections}
-use Rattle.inc_dec_spf.specs.LeastPath.{IsHop, IsReachTo}
+use Rattle.inc_dec_spf.specs.LeastPath.{IsHop}
 use Rattle.inc_dec_spf.specs.Rest.{far}
 use Rattle.inc_dec_spf.specs.Turns.{AreTurns}
 use Rattle.inc_dec_spf.specs.Ways.{AreLeast, AreReady, sought}
