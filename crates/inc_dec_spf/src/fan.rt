@@ -1,12 +1,12 @@
 //! Fans: the links by which some nodes side by side begin the least paths to all nodes.
 
-ghost use Rattle.std.specs.Prelude.{◌≡◌, ◌≢◌, ◌<◌, ◌≤◌, ◌+◌, ◌*◌, ℕ, IfOk, Some, length, slice_get, slice_index, false, true};
+ghost use Rattle.std.specs.Prelude.{◌≡◌, ◌≢◌, ◌<◌, ◌≤◌, ◌+◌, ◌*◌, ℕ, IfOk, length, slice_index, false, true};
 ghost use Rattle.mrt_graph.specs.GraphInvariant.{IsTopology};
 ghost use Rattle.link_direction.specs.Directions.{Directions};
 ghost use Rattle.inc_dec_spf.specs.Fan.{AreInFan, IsOpen, link_at};
 ghost use Rattle.inc_dec_spf.specs.{FanEntries.FanEntries, FanEntries.fan_entries, HasDirections.AreDirections, HasDirections.HasDirections};
 ghost use Rattle.inc_dec_spf.specs.{FirstLink.IsFirstLink, LeastPath.IsHop, Rest.far, Turns.AreTurns};
-ghost use Rattle.inc_dec_spf.specs.Known.{AreLanes, known_at, no_place};
+ghost use Rattle.inc_dec_spf.specs.Known.{AreLanes, known_at};
 ghost use Rattle.inc_dec_spf.specs.Opening.{AreFirstOffered, AreStops, GoOn, IsKeptOnward, IsOpening, Stop};
 
 use crate::offers::{NO_PLACE, offer_begun, offer_on};

@@ -1,6 +1,6 @@
 //! Least paths from one node, and to one.
 
-ghost use Rattle.std.specs.Prelude.{◌≡◌, ◌<◌, ◌≤◌, ℕ, IfOk, length};
+ghost use Rattle.std.specs.Prelude.{◌<◌, IfOk, length};
 ghost use Rattle.link_direction.specs.Directions.{Directions, Says};
 ghost use Rattle.inc_dec_spf.specs.{HasDirections.HasDirections, LeastPath.IsReach, LeastPath.IsReachTo};
 

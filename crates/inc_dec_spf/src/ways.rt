@@ -1,9 +1,9 @@
 //! The least ways from nodes over their ends, to some nodes side by side.
 
-ghost use Rattle.std.specs.Prelude.{◌≡◌, ◌≢◌, ◌<◌, ◌≤◌, ◌+◌, ◌*◌, ◌↔◌, ℕ, IsTrue, Some, length, slice_get, slice_index, true};
+ghost use Rattle.std.specs.Prelude.{◌≡◌, ◌≢◌, ◌<◌, ◌≤◌, ◌+◌, ◌*◌, ◌↔◌, IsTrue, length, slice_index, true};
 ghost use Rattle.mrt_graph.specs.declared.cert.Role.TheVariants.{Sole};
 ghost use Rattle.link_direction.specs.Directions.{Directions, Says};
-ghost use Rattle.inc_dec_spf.specs.{BlockAims.aim_at, FirstLink.no_link, Rest.far, Ways.AreLeastWays, Ways.left_at};
+ghost use Rattle.inc_dec_spf.specs.{BlockAims.aim_at, Ways.AreLeastWays, Ways.left_at};
 ghost use Rattle.inc_dec_spf.specs.Aiming.{AreRows, HaveOwnWays, IsAiming};
 ghost use Rattle.inc_dec_spf.specs.Side.{AreCosts, AreTaken, IsRowPut, cost_from};
 
