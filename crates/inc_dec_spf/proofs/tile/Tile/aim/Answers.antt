@@ -1,10 +1,10 @@
-use Rattle.std.proofs.Common.{◌≡◌, ◌∙◌, ◌<◌, ◌*◌, ℕ, Bool, List, false, true, Some, get_or, length, slice_index, inl, inr, sym, ap, subst, arith}
+use Rattle.std.proofs.Common.{rules, ◌≡◌, ◌∙◌, ◌<◌, ℕ, Bool, List, false, true, Some, get_or, length, slice_index, inl, inr, sym, ap, subst, arith}
 use Rattle.std.specs.Vec.{with_items}
 use Rattle.std.proofs.lemmas.Bool.{cases_Bool, cases_eq}
 use Rattle.std.proofs.lemmas.List.{with_items_is}
 use Rattle.std.proofs.lemmas.Option.{same_Some, slice_get-get_or}
 use Rattle.mrt_graph.proofs.EndsAt.{list_of_ends}
-use Rattle.inc_dec_spf.specs.Aiming.{AreRows, HaveOwnWays, IsAiming}
+use Rattle.inc_dec_spf.specs.Aiming.{HaveOwnWays, IsAiming}
 use Rattle.inc_dec_spf.specs.FirstLink.{HasLinksAt}
 use Rattle.inc_dec_spf.specs.Side.{IsRowPut}
 use Rattle.inc_dec_spf.specs.TileEntries.{TileEntries}
@@ -12,7 +12,6 @@ use Rattle.inc_dec_spf.specs.Ways.{AreLeast, AreReady}
 use Rattle.link_direction.proofs.ClosedBlocks.{IsOrdered}
 use Rattle.inc_dec_spf.proofs.FirstLinks.{links_kept, links_stay}
 use Rattle.inc_dec_spf.proofs.OwnWays.{all_ready}
-use Rattle.inc_dec_spf.proofs.SideBySide.{row_in}
 use Rattle.inc_dec_spf.proofs.tile.Tile.aim.Goals as goal
 use Rattle.inc_dec_spf.proofs.tile.Tile.aim.Goals.{then-heads-n, else-heads-n}
 
@@ -39,13 +38,9 @@ loop-n-init c =
     (subst (λ (xs : List ℕ). HaveOwnWays aiming many xs links_now) (sym all_costs)
     (subst (λ (ys : List ℕ). HaveOwnWays aiming many c.take_own_ways.new.all_costs ys) (sym all_links) c.take_own_ways.ensures.own)) in
     record {
-      nodes = ap (λ (e : TileEntries). e.nodes) c.self.view_is;
-      width = ap (λ (xs : List ℕ). length xs) costs ∙ c.take_own_ways.auto.costs ∙ wide;
-      room = ap (λ (xs : List ℕ). length xs) links ∙ c.take_own_ways.auto.links ∙ ap (λ (xs : List ℕ). length xs) c.deref_mut-4.ensures.value
-          ∙ c.self.invariant.one_place_each ∙ view_width;
-      one_link_each = ap (λ (xs : List ℕ). length xs) all_links ∙ c.take_own_ways.auto.all_links ∙ ap (λ (xs : List ℕ). length xs) c.deref_mut-2.ensures.value
-          ∙ c.self.invariant.one_link_each ∙ ap (λ (e : TileEntries). e.nodes * e.width) c.self.view_is ∙ ap (λ (n : ℕ). n * width) c.requires.nodes;
-      rows = subst (λ (n : ℕ). AreRows aiming n costs_now) wide (subst (λ (xs : List ℕ). AreRows aiming many xs) (sym all_costs) c.take_own_ways.ensures.rows);
+      nodes = search rules;
+      width = search rules;
+      kept = search rules;
       own = own;
       linked = λ root s w are within at. elim at [
         | inl one ↦ (own root s w are within).linked one
@@ -53,43 +48,10 @@ loop-n-init c =
       ];
     }
 
-pub invariant_of-self : goal.invariant_of-self
-invariant_of-self c =
-    let tile = c.loop-n.self-inside in
-    let now = c.loop-n.invariant in
-    let sizes : length c.args.aiming.now.graph.now.ids * c.args.self.now.width ≡ tile.nodes * length tile.costs.items =
-    ap (λ (n : ℕ). n * c.args.self.now.width) (sym (now.nodes ∙ c.requires.nodes)) ∙ ap (λ (m : ℕ). tile.nodes * m) (sym now.width) in
-    record {
-      one_cost_each = now.rows.one_each ∙ sizes;
-      one_link_each = now.one_link_each ∙ sizes;
-      most = now.rows.most;
-      one_place_each = now.room ∙ sym now.width;
-    }
-
 pub take_ways-requires-clause-aiming : goal.take_ways-requires-clause-aiming
 take_ways-requires-clause-aiming c =
     subst (λ (n : ℕ). IsAiming c.args.aiming.now n)
     (sym (ap (λ (xs : List ℕ). length xs) c.deref_mut-then-heads-n.ensures.value ∙ c.loop-n.invariant.width)) c.requires.aiming
-
-pub take_ways-requires-clause-one_link_each : goal.take_ways-requires-clause-one_link_each
-take_ways-requires-clause-one_link_each c =
-    ap (λ (xs : List ℕ). length xs) c.deref_mut-then-heads-n-2.ensures.value ∙ c.loop-n.invariant.room
-    ∙ sym (ap (λ (xs : List ℕ). length xs) c.deref_mut-then-heads-n.ensures.value ∙ c.loop-n.invariant.width)
-
-pub take_ways-requires-clause-rows : goal.take_ways-requires-clause-rows
-take_ways-requires-clause-rows c =
-    subst (λ (n : ℕ). AreRows c.args.aiming.now n c.deref.result.now)
-    (sym (ap (λ (xs : List ℕ). length xs) c.deref_mut-then-heads-n.ensures.value ∙ c.loop-n.invariant.width))
-    (subst (λ (xs : List ℕ). AreRows c.args.aiming.now c.args.self.now.width xs) (sym c.deref.ensures.value) c.loop-n.invariant.rows)
-
-pub keep-requires : goal.keep-requires
-keep-requires c =
-    let now = with_items_is c.loop-n.self-inside.links c.take_ways.new.links (c.take_ways.auto.links ∙ c.deref_mut-then-heads-n-2.ensures.len) in
-    row_in c.new-s.result (length c.args.aiming.now.graph.now.ids) c.args.self.now.width (length c.deref-then-heads-n.result.now)
-    (length c.deref_mut-then-heads-n-3.result.now) (omega (arith, c.new-s.ensures, c.loop-n-test.true, c.node_count-n-end.ensures.count))
-    (ap (λ (xs : List ℕ). length xs) c.deref_mut-then-heads-n-3.ensures.value ∙ c.loop-n.invariant.one_link_each)
-    (ap (λ (xs : List ℕ). length xs) (c.deref-then-heads-n.ensures.value ∙ now) ∙ c.take_ways.auto.links
-    ∙ ap (λ (xs : List ℕ). length xs) c.deref_mut-then-heads-n-2.ensures.value ∙ c.loop-n.invariant.room)
 
 pub loop-n-preserved : goal.loop-n-preserved
 loop-n-preserved c =
@@ -105,8 +67,7 @@ loop-n-preserved c =
           let s = t.new-s.result in
           let all = t.keep.new.all in
           let wide = ap (λ (xs : List ℕ). length xs) t.deref_mut-then-heads-n.ensures.value ∙ before.width in
-          let many = t.take_ways.auto.links ∙ ap (λ (xs : List ℕ). length xs) t.deref_mut-then-heads-n-2.ensures.value ∙ before.room in
-          let costs = with_items_is tile.costs t.take_ways.new.costs (t.take_ways.auto.costs ∙ t.deref_mut-then-heads-n.ensures.len) in
+          let many = t.take_ways.auto.links ∙ ap (λ (xs : List ℕ). length xs) t.deref_mut-then-heads-n-2.ensures.value ∙ before.kept.one_place_each ∙ before.width in
           let links = with_items_is tile.links t.take_ways.new.links (t.take_ways.auto.links ∙ t.deref_mut-then-heads-n-2.ensures.len) in
           let all_links = with_items_is tile.all_links all (t.keep.auto.all ∙ t.deref_mut-then-heads-n-3.ensures.len) in
           let put = subst (λ (xs : List ℕ). IsRowPut s width (λ j. slice_index t.take_ways.new.links j) xs all) t.deref_mut-then-heads-n-3.ensures.value
@@ -115,12 +76,9 @@ loop-n-preserved c =
           (t.deref-then-heads-n.ensures.value ∙ links) t.keep.ensures)) in
           let s_within : s < length g.ids = omega (arith, t.new-s.ensures, c.loop-n-test.true, c.node_count-n-end.ensures.count) in
           rw (t.self-inside-is) (record {
-            nodes = before.nodes;
-            width = ap (λ (xs : List ℕ). length xs) costs ∙ t.take_ways.auto.costs ∙ wide;
-            room = ap (λ (xs : List ℕ). length xs) links ∙ many;
-            one_link_each = ap (λ (xs : List ℕ). length xs) all_links ∙ t.keep.auto.all
-                ∙ ap (λ (xs : List ℕ). length xs) t.deref_mut-then-heads-n-3.ensures.value ∙ before.one_link_each;
-            rows = before.rows;
+            nodes = search rules;
+            width = search rules;
+            kept = search rules;
             own = before.own;
             linked = λ root y w are within at.
                 subst (λ (xs : List ℕ). HasLinksAt g w aiming.wanted.now aiming.dir aiming.aims.now width xs y) (sym all_links) (elim (cases_eq y s) [
@@ -146,9 +104,7 @@ loop-n-preserved c =
       | else-heads-n t ↦ rw (t.self-inside-is) (record {
         nodes = before.nodes;
         width = before.width;
-        room = before.room;
-        one_link_each = before.one_link_each;
-        rows = before.rows;
+        kept = before.kept;
         own = before.own;
         linked = λ root y w are within at. before.linked root y w are within (elim at [
           | inl one ↦ inl one
@@ -162,12 +118,6 @@ loop-n-preserved c =
         ]);
       })
     ]
-
-pub returns-clause-nodes : goal.returns-clause-nodes
-returns-clause-nodes c = c.loop-n.invariant.nodes
-
-pub returns-clause-width : goal.returns-clause-width
-returns-clause-width c = c.loop-n.invariant.width
 
 pub returns-clause-aimed : goal.returns-clause-aimed
 returns-clause-aimed c = λ root w are one. record {

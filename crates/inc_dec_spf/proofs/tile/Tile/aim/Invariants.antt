@@ -1,17 +1,17 @@
-use Rattle.std.proofs.Common.{◌≡◌, ◌⊎◌, ◌<◌, ◌*◌, ℕ, true, Some, length, slice_get}
+use Rattle.std.proofs.Common.{◌≡◌, ◌⊎◌, ◌<◌, ℕ, true, Some, length, slice_get}
 use Rattle.link_direction.specs.Directions.{Directions}
-use Rattle.inc_dec_spf.specs.Aiming.{AreRows, HaveOwnWays}
+use Rattle.inc_dec_spf.specs.Aiming.{HaveOwnWays}
 use Rattle.inc_dec_spf.specs.FirstLink.{HasLinksAt, LiesInOneBlock}
 use Rattle.inc_dec_spf.specs.HasDirections.{AreDirections}
+use Rattle.inc_dec_spf.specs.TileEntries.{AreTileEntries}
 use Rattle.inc_dec_spf.proofs.tile.Tile.aim.Given as goal
 
 abbrev pub invariant-loop-n : goal.invariant-loop-n
 invariant-loop-n l = record {
   nodes : l.self-inside.nodes ≡ l.fn.self.nodes;
   width : length l.self-inside.costs.items ≡ l.fn.self.width;
-  room : length l.self-inside.links.items ≡ l.fn.self.width;
-  one_link_each : length l.self-inside.all_links.items ≡ length l.aiming.graph.now.ids * l.fn.self.width;
-  rows : AreRows l.aiming l.fn.self.width l.self-inside.all_costs.items;
+  kept : AreTileEntries l.self-inside.nodes (length l.self-inside.costs.items) (length l.self-inside.links.items)
+      l.self-inside.all_costs.items l.self-inside.all_links.items;
   own : HaveOwnWays l.aiming l.fn.self.width l.self-inside.all_costs.items l.initial.self-inside.all_links.items;
   linked : (root s : ℕ) (w : Directions) → AreDirections l.aiming.graph.now l.aiming.directed.now root w → s < length l.aiming.graph.now.ids
       → LiesInOneBlock l.aiming.graph.now w s ⊎ ((s < l.n) × (slice_get l.heads s ≡ Some true))
