@@ -110,7 +110,7 @@ fn each_agrees(
 fn all_agree(alloc: Global, g: &Graph, root: NodeNo, d: &Directed) -> Result<bool, NoMemory>
     requires { SaysOrdered g.now root d.now }
 {
-    let mut columns = RootedColumns::new(alloc, g, root)?;
+    let mut columns = RootedColumns::for_some(alloc, g, root, 64)?;
     each_agrees(alloc, g, root, d, &mut columns)
 }
 

@@ -33,13 +33,14 @@ module _ (og : OrderedGraph) where
   root_heads s u k h at_root u_within two (FromHead a b c) same =
       two (at_root ∙ sym (root_of_block u u_within (a ∙ same ∙ ap w.block at_root)))
 
-  -- the block that s has in common with another node is the one in which this lies, but where it is the head of s
+  -- the block that s has in common with a, where a is not the head of s, is that of a
   pub own_block : (s a k h : ℕ) → HaveCommonBlock w s a k h → w.head s ≢ a → k ≡ w.block a
   own_block s a k h (Peers x y z) away = sym y
   own_block s a k h (ToHead x y z) away = absurd (away y)
   own_block s a k h (FromHead x y z) away = sym x
 
-  common_within : (s u k h : ℕ) → s < n → u < n → HaveCommonBlock w s u k h → k < n
+  -- a block of two nodes is named by a number below their count
+  pub common_within : (s u k h : ℕ) → s < n → u < n → HaveCommonBlock w s u k h → k < n
   common_within s u k h within u_within (Peers x y z) = subst (λ (b : ℕ). b < n) x (og.ordered.heads.block_within s within)
   common_within s u k h within u_within (ToHead x y z) = subst (λ (b : ℕ). b < n) x (og.ordered.heads.block_within s within)
   common_within s u k h within u_within (FromHead x y z) = subst (λ (b : ℕ). b < n) x (og.ordered.heads.block_within u u_within)
@@ -94,11 +95,11 @@ module _ (og : OrderedGraph) where
           (it.climbs, it.not_root, og.ordered.heads.one_head (aim (w.block u)) u (climb_low og t (aim (w.block u)) t_within it.climbs).0 u_within it.in_block ∙ head)
     ]
 
-    -- a node above one on the way is aimed at by its block
+    -- the head of a node on the way, if it is not the root, is what its own block aims at
     above_aim : (s a : ℕ) → Climbs og.root w t a → a ≢ og.root → w.head a ≡ s → s ≢ og.root → aim (w.block s) ≡ s
     above_aim s a to_a a_other head other = aims.on s (subst (λ (v : ℕ). Climbs og.root w t v) head (climb_on og.root w t a to_a a_other)) other
 
-    -- what a block other than the root's aims at, and lies in it, is on the way
+    -- a node other than the root at which its own block aims is on the way
     pub aim_on_way : (a : ℕ) → a < n → a ≢ og.root → aim (w.block a) ≡ a → Climbs og.root w t a
     aim_on_way a a_within a_other is = elim (aims.off a a_within) [
       | inl home ↦ absurd (omega (arith, og.ordered.heads.lower a a_within a_other, ap w.order (sym home ∙ is)))
@@ -141,7 +142,7 @@ module _ (og : OrderedGraph) where
               let it = under_head s u u_within q (λ back. onward (ap aim (sym p) ∙ back)) in
               ap aim (sym p) ∙ one_under t (aim (w.block u)) a t_within it.0 to_a it.1 a_other (it.2 ∙ sym y)
 
-  -- what s aims at, but its head, is on the way
+  -- where s does not aim at its head, it aims at a node on the way
   pub row_aim_on_way : (t : ℕ) (below : List (Option ℕ)) → AreBelow og.g og.root w t below → (s a : ℕ) → IsRowAim w below s a → w.head s ≢ a
       → Climbs og.root w t a × (a ≢ og.root)
   row_aim_on_way t below are s a (Under at) away = let it = are.is_below s a at in (it.0, it.1)

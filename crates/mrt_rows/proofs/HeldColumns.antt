@@ -6,19 +6,20 @@ use Rattle.mrt_graph.specs.Topology.{Topology}
 use Rattle.link_direction.specs.Directions.{Directions}
 use Rattle.mrt_rows.specs.declared.column.Columns.{Columns}
 use Rattle.mrt_rows.specs.Chain.{AreBlockAims}
-use Rattle.mrt_rows.specs.Held.{AreHeld, AreHeldFor, AreShared, AreTiles}
+use Rattle.mrt_rows.specs.Held.{AreHeld, AreHeldFor}
+use Rattle.mrt_rows.specs.TilesAimed.{AreShared, AreTiles}
 
--- by other names
+-- the same of equal lists
 pub aims_moved : (g : Topology) (root : ℕ) (w : Directions) (targets others aims after : List ℕ) (marks : List Bool) → others ≡ targets → aims ≡ after
     → AreBlockAims g root w others aims marks → AreBlockAims g root w targets after marks
 aims_moved g root w targets others aims after marks alike same are =
     subst (λ (ts : List ℕ). AreBlockAims g root w ts after marks) alike (subst (λ (xs : List ℕ). AreBlockAims g root w others xs marks) same are)
 
-pub shared_moved : (count count' width width' : ℕ) (aims aims' : List ℕ) (marks marks' wanted wanted' : List Bool) (firsts firsts' : List ℕ) (taken taken' : List Bool)
-    → count ≡ count' → width ≡ width' → aims ≡ aims' → marks ≡ marks' → wanted ≡ wanted' → firsts ≡ firsts' → taken ≡ taken'
-    → AreShared count width aims marks wanted firsts taken → AreShared count' width' aims' marks' wanted' firsts' taken'
-shared_moved count count' width width' aims aims' marks marks' wanted wanted' firsts firsts' taken taken' as_many as_wide same_aims same_marks same_wanted same_firsts same_taken are =
-    rw (sym as_many, sym as_wide, sym same_aims, sym same_marks, sym same_wanted, sym same_firsts, sym same_taken) are
+pub shared_moved : (count count' width width' : ℕ) (aims aims' : List ℕ) (marks marks' wanted wanted' : List Bool) (firsts firsts' : List ℕ) (shared shared' : List Bool)
+    → count ≡ count' → width ≡ width' → aims ≡ aims' → marks ≡ marks' → wanted ≡ wanted' → firsts ≡ firsts' → shared ≡ shared'
+    → AreShared count width aims marks wanted firsts shared → AreShared count' width' aims' marks' wanted' firsts' shared'
+shared_moved count count' width width' aims aims' marks marks' wanted wanted' firsts firsts' shared shared' as_many as_wide same_aims same_marks same_wanted same_firsts same_shared are =
+    rw (sym as_many, sym as_wide, sym same_aims, sym same_marks, sym same_wanted, sym same_firsts, sym same_shared) are
 
 -- with other destinations, which are not aimed at
 pub retargeted : (g : Topology) (root : ℕ) (w : Directions) (held : Columns) (targets : Vec ℕ Global) → length targets.items ≡ length held.targets.items

@@ -1,6 +1,6 @@
 -- The first links of a node to what it aims at, as they are held.
-use Rattle.std.proofs.Common.{◌≡◌, ◌≢◌, ◌∙◌, ◌<◌, ◌+◌, ◌*◌, ℕ, false, true, Some, get_or, length, slice_get, slice_index, inl, inr, sym, ap, arith}
-use Rattle.std.proofs.lemmas.Option.{same_Some, slice_get-get_or, slice_get_within}
+use Rattle.std.proofs.Common.{◌≡◌, ◌≢◌, ◌∙◌, ◌<◌, ◌+◌, ◌*◌, ℕ, Bool, false, true, Some, get_or, length, slice_get, slice_index, inl, inr, refl, sym, ap, subst, arith}
+use Rattle.std.proofs.lemmas.Option.{same_Some, slice_get-get_or, slice_get_read, slice_get_within}
 use Rattle.mrt_graph.specs.DirectedLists.{DirectedLists}
 use Rattle.mrt_graph.specs.Topology.{Topology}
 use Rattle.link_direction.specs.Directions.{Directions}
@@ -13,6 +13,7 @@ use Rattle.mrt_rows.specs.Chain.{AreWayAims, Climbs, IsRowAim}
 use Rattle.mrt_rows.specs.Held.{AreAimed, AreBothAimed}
 use Rattle.mrt_rows.specs.Put.{AreFirstLinks}
 use Rattle.mrt_rows.specs.Said.{directions_of}
+use Rattle.mrt_rows.specs.TilesAimed.{HaveLinksAt}
 use Rattle.mrt_rows.proofs.AimsOfRows.{aim_on_way, aims_alike, own_block, row_aim_on_way, way_aim, way_marked}
 use Rattle.mrt_rows.proofs.ChainAims.{aim_within}
 use Rattle.mrt_rows.proofs.OrderedGraphs.{OrderedGraph}
@@ -37,10 +38,10 @@ module _ (g : Topology) (root : ℕ) (d : DirectedLists) (columns : Columns) (to
   both : AreBothAimed g root w columns
   both = aimed.held.aimed to.at to.node aimed.place aimed.within
 
-  below : to.at < width
+  pub below : to.at < width
   below = slice_get_within columns.targets.items to.at to.node aimed.place
 
-  a_within : a < length g.ids
+  pub a_within : a < length g.ids
   a_within = aim_within og to.node aimed.within columns.below.items aimed.below s a s_within row_aim
 
   on_way : Climbs root w to.node a × (a ≢ root)
@@ -52,33 +53,39 @@ module _ (g : Topology) (root : ℕ) (d : DirectedLists) (columns : Columns) (to
   marked : (k h : ℕ) → HaveCommonBlockOfMoreLinks g w s a k h → slice_get both.marks k ≡ Some true
   marked k h share = way_marked og to.node aimed.within (aim to.at) both.marks ways s a share.two on_way.0 on_way.1 away k h share
 
+  -- the mark that is read is that of the aim's block
+  pub shared_mark : (i : ℕ) (mark : Bool) → i ≡ w.block a → mark ≡ get_or columns.shared.wanted.items i mark
+      → slice_get columns.shared.wanted.items (w.block a) ≡ Some mark
+  shared_mark i mark is read =
+      let within = aimed.rooted.ordered.heads.block_within a a_within in
+      subst (λ (x : ℕ). slice_get columns.shared.wanted.items x ≡ Some mark) is
+      (slice_get_read columns.shared.wanted.items (length columns.shared.wanted.items) i mark refl (omega (arith, is, within, aimed.held.shared.a_mark_each)) read)
+
   -- at the place of the destination
   pub each_links : (links : FirstLinks) → slice_get columns.shared.wanted.items (w.block a) ≡ Some false
-      → slice_get columns.each.up.links (s * columns.each.up.width + to.at) ≡ Some links.up
-      → slice_get columns.each.down.links (s * columns.each.down.width + to.at) ≡ Some links.down → AreFirstLinks g w s a links
-  each_links links not_shared up down =
+      → HaveLinksAt columns.each s to.at links → AreFirstLinks g w s a links
+  each_links links not_shared at =
       tile_links g w columns.each width to.at s a links aimed.held.each both.each below s_within a_within (λ k h share. (
         elim (both.parted.marked k (marked k h share)) [
           | inl wanted ↦ wanted
-          | inr taken ↦
+          | inr now ↦
               let is_block = own_block og s a k h share.common away in
-              let no : false ≡ true = same_Some false true (sym not_shared ∙ ap (λ (b : ℕ). slice_get columns.shared.wanted.items b) (sym is_block) ∙ taken) in (cc)
+              let no : false ≡ true = same_Some false true (sym not_shared ∙ ap (λ (b : ℕ). slice_get columns.shared.wanted.items b) (sym is_block) ∙ now) in (cc)
         ],
         way_aim og to.node aimed.within (aim to.at) both.marks ways s a share.two on_way.0 on_way.1 away k h share.common,
-      )) up down
+      )) at
 
   -- at the one place, where the block aims at one node for all destinations: so for the first of them, to which s aims alike
   pub shared_links : (links : FirstLinks) → slice_get columns.shared.wanted.items (w.block a) ≡ Some true
-      → slice_get columns.shared.up.links (s * columns.shared.up.width + 0) ≡ Some links.up
-      → slice_get columns.shared.down.links (s * columns.shared.down.width + 0) ≡ Some links.down → AreFirstLinks g w s a links
-  shared_links links taken up down =
+      → HaveLinksAt columns.shared s 0 links → AreFirstLinks g w s a links
+  shared_links links is_shared at =
       tile_links g w columns.shared 1 0 s a links aimed.held.shared both.shared (omega arith) s_within a_within (λ k h share. (
-        ap (λ (b : ℕ). slice_get columns.shared.wanted.items b) (own_block og s a k h share.common away) ∙ taken,
+        ap (λ (b : ℕ). slice_get columns.shared.wanted.items b) (own_block og s a k h share.common away) ∙ is_shared,
         aims_alike og (aim 0) (aim_at columns.shared.aims.items 1 0) s a s_within a_within
             (λ i i_within. ap (λ (x : ℕ). slice_index columns.shared.aims.items x) (one_each i) ∙ both.parted.first i i_within)
             (way_aim og first first_within (aim 0) both.marks first_ways s a share.two (aim_on_way og first first_within (aim 0) both.marks first_ways a a_within on_way.1 alike)
             on_way.1 away k h share.common),
-      )) up down
+      )) at
     where
       one_each : (i : ℕ) → i * 1 + 0 ≡ i
       one_each i = omega arith
@@ -97,5 +104,5 @@ module _ (g : Topology) (root : ℕ) (d : DirectedLists) (columns : Columns) (to
 
       alike : aim 0 (w.block a) ≡ a
       alike =
-          sym (both.parted.first (w.block a) (aimed.rooted.ordered.heads.block_within a a_within)) ∙ sym (both.parted.alike to.at (w.block a) below taken)
+          sym (both.parted.first (w.block a) (aimed.rooted.ordered.heads.block_within a a_within)) ∙ sym (both.parted.alike to.at (w.block a) below is_shared)
           ∙ ways.on a on_way.0 on_way.1

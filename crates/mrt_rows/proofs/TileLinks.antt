@@ -11,8 +11,8 @@ use Rattle.inc_dec_spf.specs.Tile.{IsAimed, IsTile}
 use Rattle.inc_dec_spf.specs.TileEntries.{TileEntries}
 use Rattle.mrt_rows.specs.declared.row_over.FirstLinks.{FirstLinks}
 use Rattle.mrt_rows.specs.declared.tiles.Tiles.{Tiles}
-use Rattle.mrt_rows.specs.Held.{AreTiles, AreTilesAimed}
 use Rattle.mrt_rows.specs.Put.{AreFirstLinks, AreInCommonBlockOfMoreLinks}
+use Rattle.mrt_rows.specs.TilesAimed.{AreTiles, AreTilesAimed, HaveLinksAt, HavePlace}
 
 module _ (g : Topology) (w : Directions) (wanted : List Bool) (aims : List ℕ) (places j s t : ℕ) (below : j < places)
     (s_within : s < length g.ids) (t_within : t < length g.ids)
@@ -28,9 +28,14 @@ module _ (g : Topology) (w : Directions) (wanted : List Bool) (aims : List ℕ) 
 pub tile_links : (g : Topology) (w : Directions) (tiles : Tiles) (places j s t : ℕ) (links : FirstLinks) → AreTiles g places tiles → AreTilesAimed g w tiles
     → j < places → s < length g.ids → t < length g.ids
     → ((k h : ℕ) → HaveCommonBlockOfMoreLinks g w s t k h → (slice_get tiles.wanted.items k ≡ Some true) × IsAimOf g w (aim_at tiles.aims.items places j) s t)
-    → slice_get tiles.up.links (s * tiles.up.width + j) ≡ Some links.up → slice_get tiles.down.links (s * tiles.down.width + j) ≡ Some links.down
-    → AreFirstLinks g w s t links
-tile_links g w tiles places j s t links are aimed below s_within t_within over up down = record {
-  up = first_link g w tiles.wanted.items tiles.aims.items places j s t below s_within t_within over Up tiles.up links.up are.up aimed.up up;
-  down = first_link g w tiles.wanted.items tiles.aims.items places j s t below s_within t_within over Down tiles.down links.down are.down aimed.down down;
+    → HaveLinksAt tiles s j links → AreFirstLinks g w s t links
+tile_links g w tiles places j s t links are aimed below s_within t_within over at = record {
+  up = first_link g w tiles.wanted.items tiles.aims.items places j s t below s_within t_within over Up tiles.up links.up are.up aimed.up at.up;
+  down = first_link g w tiles.wanted.items tiles.aims.items places j s t below s_within t_within over Down tiles.down links.down are.down aimed.down at.down;
+}
+
+pub have_place : (g : Topology) (tiles : Tiles) (places s j : ℕ) → AreTiles g places tiles → s < length g.ids → j < places → HavePlace tiles s j
+have_place g tiles places s j are within below = record {
+  up = (omega (arith, are.up.nodes, within), omega (arith, are.up.width, below));
+  down = (omega (arith, are.down.nodes, within), omega (arith, are.down.width, below));
 }

@@ -1,12 +1,19 @@
 -- What the columns of all destinations have in common.
-use Rattle.std.specs.Prelude.{◌≡◌, length}
+use Rattle.std.specs.Prelude.{◌≡◌, ◌<◌, ℕ, length}
 use Rattle.mrt_graph.specs.Topology.{Topology}
 use Rattle.link_direction.specs.Directions.{Directions}
 use Rattle.inc_dec_spf.specs.declared.reach.Dir.TheVariants.{Down, Up}
 use Rattle.inc_dec_spf.specs.Turns.{AreTurns}
 use Rattle.mrt_rows.specs.declared.common.Common.{Common}
+use Rattle.mrt_rows.specs.declared.row_over.FirstLinks.{FirstLinks}
+use Rattle.mrt_rows.specs.declared.tiles.Tiles.{Tiles}
 use Rattle.mrt_rows.specs.NearOf.{AreSoles}
-use Rattle.mrt_rows.specs.Put.{AreHeadsMarked, AreHomes}
+use Rattle.mrt_rows.specs.Put.{AreFirstLinks, AreHeadsMarked}
+use Rattle.mrt_rows.specs.TilesAimed.{AreTiles, HaveLinksAt}
+
+-- the links of each node are those by which it begins the least paths to its head
+pub record AreHomes (g : Topology) (w : Directions) (homes : Tiles) : Type 0 where
+  pub each : (v : ℕ) (home : FirstLinks) → v < length g.ids → HaveLinksAt homes v 0 home → AreFirstLinks g w v (w.head v) home
 
 -- the nodes by their turns, marks on the heads of blocks, the sole links, and the links home of all nodes
 pub record AreCommon (g : Topology) (w : Directions) (common : Common) : Type 0 where
@@ -15,5 +22,5 @@ pub record AreCommon (g : Topology) (w : Directions) (common : Common) : Type 0 
   pub a_mark_each : length common.heads.items ≡ length g.ids
   pub marked : AreHeadsMarked g w common.heads.items
   pub soles : AreSoles g w common.soles.items
-  pub a_home_each : length common.homes.items ≡ length g.ids
-  pub homes : AreHomes g w common.homes.items
+  pub one_place : AreTiles g 1 common.homes
+  pub homes : AreHomes g w common.homes

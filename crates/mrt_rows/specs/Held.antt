@@ -1,40 +1,17 @@
 -- What is held between the columns of two destinations, and aimed at one.
-use Rattle.std.specs.Prelude.{◌≡◌, ◌<◌, ◌⊎◌, ◌*◌, ℕ, Bool, true, List, Some, length, slice_get, slice_index}
+use Rattle.std.specs.Prelude.{◌≡◌, ◌<◌, ℕ, Bool, List, Some, length, slice_get}
 use Rattle.mrt_graph.specs.DirectedLists.{DirectedLists}
 use Rattle.mrt_graph.specs.Topology.{Topology}
 use Rattle.link_direction.specs.Directions.{Directions}
-use Rattle.inc_dec_spf.specs.declared.reach.Dir.TheVariants.{Down, Up}
-use Rattle.inc_dec_spf.specs.BlockAims.{aim_at}
-use Rattle.inc_dec_spf.specs.Tile.{IsAimed, IsTile}
 use Rattle.mrt_rows.specs.declared.column.Columns.{Columns}
 use Rattle.mrt_rows.specs.declared.column.Target.{Target}
-use Rattle.mrt_rows.specs.declared.tiles.Tiles.{Tiles}
 use Rattle.mrt_rows.specs.Chain.{AreBelow, AreBlockAims}
 use Rattle.mrt_rows.specs.Common.{AreCommon}
 use Rattle.mrt_rows.specs.Said.{AreRooted, directions_of}
+use Rattle.mrt_rows.specs.TilesAimed.{AreShared, AreTiles, AreTilesAimed}
 
--- tiles of the graph up and down with so many places for each node, what its blocks aim at there, and a mark on each block
-pub record AreTiles (g : Topology) (places : ℕ) (tiles : Tiles) : Type 0 where
-  pub aims : length tiles.aims.items ≡ length g.ids * places
-  pub a_mark_each : length tiles.wanted.items ≡ length g.ids
-  pub up : IsTile g places tiles.up
-  pub down : IsTile g places tiles.down
-
--- in the marked blocks they are aimed at what these aim at
-pub record AreTilesAimed (g : Topology) (w : Directions) (tiles : Tiles) : Type 0 where
-  pub up : IsAimed g w tiles.wanted.items Up tiles.aims.items tiles.up
-  pub down : IsAimed g w tiles.wanted.items Down tiles.aims.items tiles.down
-
--- of each block what it aims at at the first place; and each marked block is wanted still, or is taken, where it aims at one
--- node at all places
-pub record AreShared (count width : ℕ) (aims : List ℕ) (marks wanted : List Bool) (firsts : List ℕ) (taken : List Bool) : Type 0 where
-  pub one_each : length wanted ≡ count
-  pub first : (k : ℕ) → k < count → slice_index firsts k ≡ aim_at aims width 0 k
-  pub alike : (j k : ℕ) → j < width → slice_get taken k ≡ Some true → aim_at aims width j k ≡ slice_index firsts k
-  pub marked : (k : ℕ) → slice_get marks k ≡ Some true → (slice_get wanted k ≡ Some true) ⊎ (slice_get taken k ≡ Some true)
-
--- what the blocks aim at for the destinations in their places, and marks on the blocks of more than one link on the way from
--- one of these to the root; the tiles are aimed so in the marked blocks, those of one place where they share what they aim at
+-- the destinations are nodes; the blocks aim for them; the tiles are aimed so in the blocks of more than one link on the ways
+-- from them to the root: those of one place where a block aims at one node for all, and else those of a place for each
 pub record AreBothAimed (g : Topology) (root : ℕ) (w : Directions) (held : Columns) : Type 0 where
   pub within : (j t : ℕ) → slice_get held.targets.items j ≡ Some t → t < length g.ids
   pub marks : List Bool

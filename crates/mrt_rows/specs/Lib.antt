@@ -16,3 +16,4 @@ pub mod RowsTo
 pub mod Said
 pub mod Source
 pub mod TheColumn
+pub mod TilesAimed

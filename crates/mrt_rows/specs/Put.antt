@@ -1,17 +1,14 @@
 -- The rows of nodes that have a block in common, and the links home.
-use Rattle.std.specs.Prelude.{◌≡◌, ◌≢◌, ◌<◌, ◌*◌, ℕ, Bool, true, List, Option, Some, length, slice_get}
+use Rattle.std.specs.Prelude.{◌≡◌, ◌≢◌, ◌<◌, ℕ, Bool, true, List, Option, Some, length, slice_get}
 use Rattle.mrt_graph.specs.declared.cert.Row.{Row}
 use Rattle.mrt_graph.specs.GraphInvariant.{IsTopology}
 use Rattle.mrt_graph.specs.Topology.{Topology}
 use Rattle.link_direction.specs.CommonBlock.{HaveCommonBlock}
 use Rattle.link_direction.specs.Directions.{Directions}
 use Rattle.link_direction.specs.OrderedGadag.{IsOrderedGadag}
-use Rattle.inc_dec_spf.specs.declared.reach.Dir.{Dir}
 use Rattle.inc_dec_spf.specs.declared.reach.Dir.TheVariants.{Down, Up}
 use Rattle.inc_dec_spf.specs.FirstLink.{IsFirstLink}
 use Rattle.inc_dec_spf.specs.LeastPath.{HasMoreLinks, HaveCommonBlockOfMoreLinks}
-use Rattle.inc_dec_spf.specs.Tile.{IsTile}
-use Rattle.inc_dec_spf.specs.TileEntries.{TileEntries}
 use Rattle.mrt_rows.specs.declared.row_over.FirstLinks.{FirstLinks}
 use Rattle.mrt_rows.specs.RowLines.{HasOneLink, LineOf}
 
@@ -29,20 +26,10 @@ NoneOfOneLink g w s t = (k h link : ℕ) → HaveCommonBlock w s t k h → ¬ Ha
 pub record AreHeadsMarked (g : Topology) (w : Directions) (marks : List Bool) : Type 0 where
   pub each : (v : ℕ) → v < length g.ids → HasMoreLinks g w (w.block v) → slice_get marks (w.head v) ≡ Some true
 
--- a tile of width one has the links by which all nodes whose blocks have more than one link begin the least paths to their heads
-pub record HasHomeLinks (g : Topology) (w : Directions) (dir : Dir) (tile : TileEntries) : Type 0 where
-  pub is : IsTile g 1 tile
-  pub each : (s link : ℕ) → s < length g.ids → HasMoreLinks g w (w.block s) → slice_get tile.links (s * tile.width) ≡ Some link
-      → IsFirstLink g w dir s (w.head s) link
-
 -- the links by which s begins the least paths to t, where they have a block of more than one link in common
 pub record AreFirstLinks (g : Topology) (w : Directions) (s t : ℕ) (links : FirstLinks) : Type 0 where
   pub up : AreInCommonBlockOfMoreLinks g w s t → IsFirstLink g w Up s t links.up
   pub down : AreInCommonBlockOfMoreLinks g w s t → IsFirstLink g w Down s t links.down
-
--- those of all nodes to their heads
-pub record AreHomes (g : Topology) (w : Directions) (homes : List FirstLinks) : Type 0 where
-  pub each : (v : ℕ) (home : FirstLinks) → slice_get homes v ≡ Some home → AreFirstLinks g w v (w.head v) home
 
 -- the row of s for t is as the line of its tag says, whichever the other rows are
 pub record IsOwnRow (g : Topology) (root : ℕ) (w : Directions) (s t : ℕ) (row : Row) : Type 0 where

@@ -25,8 +25,8 @@ pub struct Target {
 }
 
 /// What the rows of all nodes have in common, and the room in which columns are made: the nodes below others on the way from one
-/// destination to the root; some destinations side by side; and tiles for the blocks of more than one link on the way from one
-/// of them to the root: one place wide for the blocks that aim at one node for all of them, and else a place for each.
+/// destination to the root; some destinations side by side; what the blocks aim at for them, with tiles for the blocks of more
+/// than one link on the ways to the root: `shared`, of one place, for those that aim at one node for all, `each` for the others.
 #[derive(Drop)]
 pub struct Columns {
     common: Common,
@@ -38,8 +38,6 @@ pub struct Columns {
 
 impl Columns {
     /// What the columns have in common, and room for so many destinations side by side.
-    ///
-    /// It takes time in proportion to the nodes and the links.
     pub fn new(alloc: Global, rooted: &Rooted, width: u16) -> Result<Columns, NoMemory>
         requires rooted { IsRooted rooted.now }
         requires some { 0 < width }
@@ -64,7 +62,8 @@ impl Columns {
     /// Aims at `to`, and answers its place among the destinations that the tiles are aimed at.
     ///
     /// Where the tiles are not aimed at `to`, they are aimed at it and the next nodes by number, the marked ones among them if
-    /// there are marks, in time in proportion to the links, and times the width in the blocks that aim apart. It takes no memory.
+    /// there are marks, in time in proportion to the nodes times the width, and to the links, those in the blocks that aim apart
+    /// times the width. It takes no memory.
     pub fn aim(&mut self, rooted: &Rooted, to: NodeNo, marks: Option<&[bool]>) -> Target
         requires rooted { IsRooted rooted.now }
         requires to { IsNode rooted.now to }
@@ -119,8 +118,19 @@ impl Columns {
             &mut self.shared.aims,
             &mut self.shared.wanted,
         );
-        self.each.aim(rooted, &self.common);
-        self.shared.aim(rooted, &self.common);
+        let common = &self.common;
+        self.each.aim(
+            rooted,
+            &common.by_order,
+            &common.against_order,
+            &common.heads,
+        );
+        self.shared.aim(
+            rooted,
+            &common.by_order,
+            &common.against_order,
+            &common.heads,
+        );
     }
 
     /// The row of `s` for `to`, by its row for what it aims at.

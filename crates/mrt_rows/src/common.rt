@@ -2,32 +2,31 @@
 
 ghost use Rattle.std.specs.Prelude.{◌≡◌, ◌≢◌, ◌<◌, ℕ, IfOk, Some, false, length, slice_get, true};
 ghost use Rattle.mrt_graph.specs.{declared.gadag.Place.Place, Related.IsRelation};
-ghost use Rattle.inc_dec_spf.specs.declared.reach.Dir.TheVariants.{Down, Up};
-ghost use Rattle.inc_dec_spf.specs.{Against.against, FirstLink.no_link, Turns.AreTurns};
+ghost use Rattle.inc_dec_spf.specs.FirstLink.{no_link};
 ghost use Rattle.mrt_rows.specs.{Common.AreCommon, Said.IsNode, Said.IsRooted, Said.words_of, Source.IsSourceBy};
 ghost use Rattle.mrt_rows.specs.NearOf.{AreSoles, IsNearRow, IsPlaceOf, IsSoleOf};
-ghost use Rattle.mrt_rows.specs.Put.{AreFirstLinks, AreHeadsMarked, AreHomes, AreInCommonBlockOfMoreLinks, HasHomeLinks};
+ghost use Rattle.mrt_rows.specs.Put.{AreFirstLinks, AreHeadsMarked, AreInCommonBlockOfMoreLinks};
 
 use crate::directed::Rooted;
 use crate::row_over::{FirstLinks, Source, end_row, member_row, row_home};
-use inc_dec_spf::{Aiming, Dir, NO_LINK, Tile, is_sole, nodes_by_turn, put_heads};
+use crate::tiles::Tiles;
+use inc_dec_spf::{Dir, NO_LINK, is_sole, nodes_by_turn, put_heads};
 use mrt_graph::{LinkNo, NoMemory, NodeNo, Relation, Row, Tag};
 use std::alloc::Global;
 
-/// The nodes by their turns, marks on the root and on heads of blocks of more than one link, the sole links, the links home.
+/// The nodes by their turns, marks on the root and on heads of blocks of more than one link, the sole links, and tiles of width
+/// one in which each block aims at its head.
 #[derive(Drop)]
 pub struct Common {
     pub by_order: Vec<NodeNo>,
     pub against_order: Vec<NodeNo>,
     pub heads: Vec<bool>,
     pub soles: Vec<LinkNo>,
-    pub homes: Vec<FirstLinks>,
+    pub homes: Tiles,
 }
 
 impl Common {
     /// What they have in common.
-    ///
-    /// It takes time in proportion to the nodes and the links.
     pub fn new(alloc: Global, rooted: &Rooted) -> Result<Common, NoMemory>
         requires { IsRooted rooted.now }
         ensures { IfOk result (AreCommon rooted.now.graph.now (words_of rooted.now)) }
@@ -35,18 +34,13 @@ impl Common {
         let count = rooted.graph.node_count() as usize;
         let by_order = nodes_by_turn(alloc, rooted.graph, rooted.directed, Dir::Up)?;
         let against_order = nodes_by_turn(alloc, rooted.graph, rooted.directed, Dir::Down)?;
-        let none = LinkNo::new(NO_LINK);
-        let mut soles = vec![in alloc; none; count]?;
+        let mut soles = vec![in alloc; LinkNo::new(NO_LINK); count]?;
         let mut heads = vec![in alloc; false; count]?;
         take_soles(rooted, &mut soles, &mut heads);
-        let up = home_tile(alloc, rooted, Dir::Up, &against_order, &heads)?;
-        let down = home_tile(alloc, rooted, Dir::Down, &by_order, &heads)?;
-        let home = FirstLinks {
-            up: none,
-            down: none,
-        };
-        let mut homes = vec![in alloc; home; count]?;
-        take_homes(rooted, &up, &down, &mut homes);
+        let mut homes = Tiles::new(alloc, rooted, 1)?;
+        put_heads(rooted.graph, rooted.directed, 1, &mut homes.aims);
+        homes.wanted.fill(true);
+        homes.aim(rooted, &by_order, &against_order, &heads);
         Ok(Common {
             by_order,
             against_order,
@@ -69,7 +63,7 @@ impl Common {
             node: s,
             place: rooted.place(s),
             sole: self.soles[at],
-            home: self.homes[at],
+            home: self.homes.links_of(s, 0),
         }
     }
 
@@ -157,54 +151,5 @@ pub fn mark(v: NodeNo, sole: LinkNo, marks: &mut [bool])
 {
     if sole.get() == NO_LINK {
         marks[v.get() as usize] = true;
-    }
-}
-
-/// A tile of width one in which each block aims at its head, by the nodes by the turns of the other direction.
-fn home_tile(
-    alloc: Global,
-    rooted: &Rooted,
-    dir: Dir,
-    turns: &[NodeNo],
-    heads: &[bool],
-) -> Result<Tile, NoMemory>
-    requires rooted { IsRooted rooted.now }
-    requires turns { AreTurns rooted.now.graph.now (words_of rooted.now) (against dir) turns.now }
-    requires a_mark_each { length heads.now ≡ length rooted.now.graph.now.ids }
-    requires heads { AreHeadsMarked rooted.now.graph.now (words_of rooted.now) heads.now }
-    ensures { IfOk result (HasHomeLinks rooted.now.graph.now (words_of rooted.now) dir) }
-{
-    let count = rooted.graph.node_count() as usize;
-    let mut aims = vec![in alloc; rooted.root; count]?;
-    put_heads(rooted.graph, rooted.directed, 1, &mut aims);
-    let wanted = vec![in alloc; true; count]?;
-    let mut tile = Tile::new(alloc, rooted.graph, 1)?;
-    let aiming = Aiming {
-        graph: rooted.graph,
-        directed: rooted.directed,
-        dir,
-        turns,
-        aims: aims.as_slice(),
-        wanted: wanted.as_slice(),
-    };
-    tile.aim(&aiming, heads);
-    Ok(tile)
-}
-
-/// Takes the links home of all nodes from two such tiles.
-fn take_homes(rooted: &Rooted, up: &Tile, down: &Tile, homes: &mut [FirstLinks])
-    requires rooted { IsRooted rooted.now }
-    requires up { HasHomeLinks rooted.now.graph.now (words_of rooted.now) Up up.now }
-    requires down { HasHomeLinks rooted.now.graph.now (words_of rooted.now) Down down.now }
-    requires one_each { length homes.old ≡ length rooted.now.graph.now.ids }
-    ensures one_each { length homes.new ≡ length rooted.now.graph.now.ids }
-    ensures homes { AreHomes rooted.now.graph.now (words_of rooted.now) homes.new }
-{
-    for n in 0..rooted.graph.node_count() {
-        let s = NodeNo::new(n);
-        homes[n as usize] = FirstLinks {
-            up: up.links_of(s)[0],
-            down: down.links_of(s)[0],
-        };
     }
 }

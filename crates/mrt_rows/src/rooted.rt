@@ -31,20 +31,10 @@ impl Model for RootedColumns {
 }
 
 impl RootedColumns {
-    /// What makes the columns of a graph from a root. There is a certificate of the two, though it is not made.
+    /// What makes the columns of a graph from a root, for so many destinations, wherever they lie: as many as there are, at most
+    /// 64, side by side. There is a certificate of the two, though it is not made.
     ///
     /// It takes time and memory in proportion to the nodes and the links.
-    pub fn new(alloc: Global, g: &Graph, root: NodeNo) -> Result<RootedColumns, NoMemory>
-        requires { root < length g.now.ids }
-        ensures root { IfOk result (λ rooted. rooted.root ≡ root) }
-        ensures made { IfOk result (MakeColumns g.now) }
-        ensures cert { IfOk result (λ _. (file : CertFile) × IsCertOf g.now root file) }
-        ensures kept { IfOk result (λ _. IsTopology g.now) }
-    {
-        RootedColumns::for_some(alloc, g, root, WIDTH as usize)
-    }
-
-    /// The same for so many destinations, wherever they lie: as many as there are, at most 64, side by side.
     pub fn for_some(
         alloc: Global,
         g: &Graph,
@@ -78,9 +68,9 @@ impl RootedColumns {
 
     /// Aims at `to`, for its column.
     ///
-    /// It takes time in proportion to the nodes. The first time for `to` and the next 63 nodes by number, or as many as the width
-    /// has, it takes time in proportion to the links, and times the width in the blocks where the ways to these part. It takes
-    /// no memory.
+    /// It takes time in proportion to the nodes. Where it is not aimed at `to`, it is aimed at it and the next 63 nodes by number,
+    /// or as many as the width has, in time in proportion to the nodes times the width, and to the links, those in the blocks
+    /// through which not all ways go alike times the width. It takes no memory.
     pub fn aim(&mut self, g: &Graph, to: NodeNo)
         requires made { MakeColumns g.now self.old }
         requires to { to < length g.now.ids }

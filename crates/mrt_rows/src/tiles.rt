@@ -1,10 +1,11 @@
 //! Tiles up and down, aimed at some nodes side by side.
 
-ghost use Rattle.std.specs.Prelude.{◌≡◌, ◌<◌, ◌≤◌, ◌+◌, ◌*◌, ℕ, IfOk, IsTrue, Some, length, slice_get, slice_index, true};
-ghost use Rattle.mrt_rows.specs.{Common.AreCommon, Said.IsRooted, Said.words_of};
-ghost use Rattle.mrt_rows.specs.Held.{AreShared, AreTiles, AreTilesAimed};
+ghost use Rattle.std.specs.Prelude.{◌≡◌, ◌<◌, ◌*◌, ℕ, IfOk, IsTrue, length, slice_index};
+ghost use Rattle.inc_dec_spf.specs.declared.reach.Dir.TheVariants.{Down, Up};
+ghost use Rattle.inc_dec_spf.specs.Turns.{AreTurns};
+ghost use Rattle.mrt_rows.specs.{Put.AreHeadsMarked, Said.IsRooted, Said.words_of};
+ghost use Rattle.mrt_rows.specs.TilesAimed.{AreShared, AreTiles, AreTilesAimed, HaveLinksAt, HavePlace};
 
-use crate::common::Common;
 use crate::directed::Rooted;
 use crate::row_over::FirstLinks;
 use inc_dec_spf::{Aiming, Dir, Tile};
@@ -22,8 +23,6 @@ pub struct Tiles {
 
 impl Tiles {
     /// Tiles of this width, in which no block is marked.
-    ///
-    /// It takes time and memory in proportion to the nodes times the width.
     pub fn new(alloc: Global, rooted: &Rooted, width: u16) -> Result<Tiles, NoMemory>
         ensures { IfOk result (AreTiles rooted.now.graph.now width) }
     {
@@ -40,12 +39,21 @@ impl Tiles {
         })
     }
 
-    /// Aims the tiles in the marked blocks at what these aim at.
+    /// Aims the tiles in the marked blocks at what these aim at, by the nodes by their turns and marks on heads.
     ///
     /// It takes time in proportion to the nodes, and to the ends of those in the marked blocks and of the heads times the width.
-    pub fn aim(&mut self, rooted: &Rooted, common: &Common)
+    pub fn aim(
+        &mut self,
+        rooted: &Rooted,
+        by_order: &[NodeNo],
+        against_order: &[NodeNo],
+        heads: &[bool],
+    )
         requires rooted { IsRooted rooted.now }
-        requires common { AreCommon rooted.now.graph.now (words_of rooted.now) common.now }
+        requires up { AreTurns rooted.now.graph.now (words_of rooted.now) Up by_order.now }
+        requires down { AreTurns rooted.now.graph.now (words_of rooted.now) Down against_order.now }
+        requires a_mark_each { length heads.now ≡ length rooted.now.graph.now.ids }
+        requires heads { AreHeadsMarked rooted.now.graph.now (words_of rooted.now) heads.now }
         requires tiles { AreTiles rooted.now.graph.now self.old.up.width self.old }
         ensures tiles { (places : ℕ) → AreTiles rooted.now.graph.now places self.old
             → AreTiles rooted.now.graph.now places self.new }
@@ -57,30 +65,26 @@ impl Tiles {
             graph: rooted.graph,
             directed: rooted.directed,
             dir: Dir::Up,
-            turns: common.against_order.as_slice(),
+            turns: against_order,
             aims: self.aims.as_slice(),
             wanted: self.wanted.as_slice(),
         };
-        self.up.aim(&up, &common.heads);
+        self.up.aim(&up, heads);
         let down = Aiming {
             graph: rooted.graph,
             directed: rooted.directed,
             dir: Dir::Down,
-            turns: common.by_order.as_slice(),
+            turns: by_order,
             aims: self.aims.as_slice(),
             wanted: self.wanted.as_slice(),
         };
-        self.down.aim(&down, &common.heads);
+        self.down.aim(&down, heads);
     }
 
     /// The links of node s at a place.
     pub fn links_of(&self, s: NodeNo, at: usize) -> FirstLinks
-        requires up { s < self.now.up.nodes }
-        requires down { s < self.now.down.nodes }
-        requires up_place { at < self.now.up.width }
-        requires down_place { at < self.now.down.width }
-        ensures up { slice_get self.now.up.links (s * self.now.up.width + at) ≡ Some result.up }
-        ensures down { slice_get self.now.down.links (s * self.now.down.width + at) ≡ Some result.down }
+        requires { HavePlace self.now s at }
+        ensures { HaveLinksAt self.now s at result }
     {
         FirstLinks {
             up: self.up.links_of(s)[at],
@@ -89,7 +93,8 @@ impl Tiles {
     }
 }
 
-/// Takes of the marked blocks those that aim at one node at all places: their marks are moved. It tells what each block aims at first.
+/// Moves the marks of the blocks that aim at one node at all places from `wanted` to `shared`, and puts what each block aims at
+/// at the first place. (No clause tells that all such marks are moved.)
 pub fn take_shared(
     width: usize,
     aims: &[NodeNo],
@@ -105,10 +110,10 @@ pub fn take_shared(
 {
     for k in 0..wanted.len() {
         let of_block = &aims[k * width..k * width + width];
-        let is_taken = wanted[k] && are_one(of_block);
+        let is_shared = wanted[k] && are_one(of_block);
         firsts[k] = of_block[0];
-        shared[k] = is_taken;
-        wanted[k] = wanted[k] && !is_taken;
+        shared[k] = is_shared;
+        wanted[k] = wanted[k] && !is_shared;
     }
 }
 

@@ -40,7 +40,7 @@ fn line_by(
     if island.root.get() >= graph.node_count() {
         return None;
     }
-    let Ok(mut columns) = RootedColumns::new(alloc, graph, island.root) else {
+    let Ok(mut columns) = RootedColumns::for_some(alloc, graph, island.root, 64) else {
         return None;
     };
     columns.aim(graph, to);

@@ -21,17 +21,17 @@ loop-k-preserved c =
     let long = range_length aims (k * width) width room in
     let zero_read = get_or_default_zero row 0 first (omega (arith, long, c.requires.some)) in
     let is : first ≡ aim_at aims width 0 k = c.index-of_block-0.is ∙ zero_read ∙ range_index aims (k * width) width 0 room c.requires.some in
-    one_shared (length c.args.wanted.now) width aims c.args.wanted.now c.loop-k.wanted c.loop-k.firsts c.loop-k.shared k first c.if-wanted-k.is_taken
+    one_shared (length c.args.wanted.now) width aims c.args.wanted.now c.loop-k.wanted c.loop-k.firsts c.loop-k.shared k first c.if-wanted-k.is_shared
     c.if-wanted-k-2.wanted c.loop-k.invariant below is
     (λ taken j j_below. elim c.if-wanted-k.branch [
       | then-wanted-k t ↦
           sym (range_index aims (k * width) width j room j_below)
-          ∙ t.are_one-is_taken.ensures (sym t.is_taken-is ∙ taken) j (omega (arith, long, j_below))
+          ∙ t.are_one-is_shared.ensures (sym t.is_shared-is ∙ taken) j (omega (arith, long, j_below))
           ∙ sym (c.index-of_block-0.is ∙ zero_read)
-      | else-wanted-k t ↦ let no : false ≡ true = sym t.if-wanted-k.false ∙ sym t.is_taken-is ∙ taken in (cc)
+      | else-wanted-k t ↦ let no : false ≡ true = sym t.if-wanted-k.false ∙ sym t.is_shared-is ∙ taken in (cc)
     ])
     (λ at. elim c.if-wanted-k-2.branch [
-      | then-wanted-k-2 t ↦ elim (cases_Bool c.if-wanted-k.is_taken) [
+      | then-wanted-k-2 t ↦ elim (cases_Bool c.if-wanted-k.is_shared) [
         | inl taken ↦ inr taken
         | inr left ↦ inl (t.wanted-is ∙ ap (λ (b : Bool). not b) left)
       ]

@@ -1,7 +1,10 @@
 use Rattle.std.proofs.Common.{◌≡◌, ◌*◌, ◌∙◌, ℕ, Bool, List, Some, length, slice_get, sym, subst, ap}
 use Rattle.std.specs.Vec.{with_items}
 use Rattle.std.proofs.lemmas.List.{with_items_is}
+use Rattle.inc_dec_spf.specs.declared.reach.Dir.TheVariants.{Down, Up}
+use Rattle.inc_dec_spf.specs.Turns.{AreTurns}
 use Rattle.mrt_rows.specs.NearOf.{AreSoles}
+use Rattle.mrt_rows.specs.Put.{AreHeadsMarked}
 use Rattle.mrt_rows.specs.Said.{words_of}
 use Rattle.mrt_rows.proofs.HeldColumns.{aims_moved, shared_moved}
 use Rattle.mrt_rows.proofs.column.Columns.aim_tiles.Goals as goal
@@ -20,6 +23,42 @@ put_ways-requires-clause-room c =
 
 pub put_ways-requires-clause-a_mark_each : goal.put_ways-requires-clause-a_mark_each
 put_ways-requires-clause-a_mark_each c = ap (λ (bs : List Bool). length bs) c.deref_mut-2.ensures.value ∙ c.requires.held.each.a_mark_each
+
+pub aim-requires-clause-up : goal.aim-requires-clause-up
+aim-requires-clause-up c =
+    let rooted = c.args.rooted.now in
+    subst (λ (turns : List ℕ). AreTurns rooted.graph.now (words_of rooted) Up turns) (sym c.deref-4.ensures.value) c.requires.held.common.by_order
+
+pub aim-requires-clause-down : goal.aim-requires-clause-down
+aim-requires-clause-down c =
+    let rooted = c.args.rooted.now in
+    subst (λ (turns : List ℕ). AreTurns rooted.graph.now (words_of rooted) Down turns) (sym c.deref-5.ensures.value) c.requires.held.common.against_order
+
+pub aim-requires-clause-a_mark_each : goal.aim-requires-clause-a_mark_each
+aim-requires-clause-a_mark_each c = ap (λ (bs : List Bool). length bs) c.deref-6.ensures.value ∙ c.requires.held.common.a_mark_each
+
+pub aim-requires-clause-heads : goal.aim-requires-clause-heads
+aim-requires-clause-heads c =
+    let rooted = c.args.rooted.now in
+    subst (λ (hs : List Bool). AreHeadsMarked rooted.graph.now (words_of rooted) hs) (sym c.deref-6.ensures.value) c.requires.held.common.marked
+
+pub aim-requires-2-clause-up : goal.aim-requires-2-clause-up
+aim-requires-2-clause-up c =
+    let rooted = c.args.rooted.now in
+    subst (λ (turns : List ℕ). AreTurns rooted.graph.now (words_of rooted) Up turns) (sym c.deref-7.ensures.value) c.requires.held.common.by_order
+
+pub aim-requires-2-clause-down : goal.aim-requires-2-clause-down
+aim-requires-2-clause-down c =
+    let rooted = c.args.rooted.now in
+    subst (λ (turns : List ℕ). AreTurns rooted.graph.now (words_of rooted) Down turns) (sym c.deref-8.ensures.value) c.requires.held.common.against_order
+
+pub aim-requires-2-clause-a_mark_each : goal.aim-requires-2-clause-a_mark_each
+aim-requires-2-clause-a_mark_each c = ap (λ (bs : List Bool). length bs) c.deref-9.ensures.value ∙ c.requires.held.common.a_mark_each
+
+pub aim-requires-2-clause-heads : goal.aim-requires-2-clause-heads
+aim-requires-2-clause-heads c =
+    let rooted = c.args.rooted.now in
+    subst (λ (hs : List Bool). AreHeadsMarked rooted.graph.now (words_of rooted) hs) (sym c.deref-9.ensures.value) c.requires.held.common.marked
 
 pub returns-clause-held : goal.returns-clause-held
 returns-clause-held c =

@@ -1,7 +1,7 @@
 use Rattle.std.proofs.Common.{rules, ◌≡◌, ◌≤◌, ℕ, zero, suc, List, Some, length, slice_get, sym, subst, arith}
 use Rattle.std.specs.Prelude.{replicate}
 use Rattle.std.proofs.lemmas.Option.{same_Some}
-use Rattle.mrt_rows.specs.Held.{AreTiles}
+use Rattle.mrt_rows.specs.TilesAimed.{AreTiles}
 use Rattle.mrt_rows.proofs.column.Columns.new.Goals as goal
 
 same_each : (n k j t : ℕ) → slice_get (replicate n k) j ≡ Some t → t ≡ k

@@ -3,10 +3,8 @@ use Rattle.mrt_graph.specs.Topology.{Topology}
 use Rattle.link_direction.specs.Directions.{Directions}
 use Rattle.inc_dec_spf.specs.declared.reach.Dir.{Dir}
 use Rattle.inc_dec_spf.specs.declared.reach.Dir.TheVariants.{Down, Up}
-use Rattle.inc_dec_spf.specs.FirstLink.{AreOthersInOneBlock}
 use Rattle.inc_dec_spf.specs.Tile.{IsAimed}
 use Rattle.inc_dec_spf.specs.TileEntries.{TileEntries}
-use Rattle.inc_dec_spf.specs.Turns.{AreTurns}
 use Rattle.mrt_rows.specs.Said.{words_of}
 use Rattle.mrt_rows.proofs.Rooting.{are_directions, has_directions, og_of, turns_too}
 use Rattle.mrt_rows.proofs.Sharing.{others_in_one_block}
@@ -23,17 +21,13 @@ aim-requires-clause-aiming c =
     record {
       kept = c.requires.rooted.kept;
       directed = has_directions c.requires.rooted;
-      turns = λ from w are. subst (λ (turns : List ℕ). AreTurns g w Down turns) (sym c.as_slice.ensures.value)
-          (turns_too c.requires.rooted w are.says Down c.args.common.now.against_order.items c.requires.common.against_order);
-      aims = ap (λ (xs : List ℕ). length xs) c.as_slice-2.ensures.value ∙ c.requires.tiles.aims;
-      a_mark_each = ap (λ (bs : List Bool). length bs) c.as_slice-3.ensures.value ∙ c.requires.tiles.a_mark_each;
+      turns = λ from w are. turns_too c.requires.rooted w are.says Down c.args.against_order.now c.requires.down;
+      aims = ap (λ (xs : List ℕ). length xs) c.as_slice.ensures.value ∙ c.requires.tiles.aims;
+      a_mark_each = ap (λ (bs : List Bool). length bs) c.as_slice-2.ensures.value ∙ c.requires.tiles.a_mark_each;
     }
 
 pub aim-requires-clause-nodes : goal.aim-requires-clause-nodes
 aim-requires-clause-nodes c = c.requires.tiles.up.nodes
-
-pub aim-requires-clause-heads : goal.aim-requires-clause-heads
-aim-requires-clause-heads c = ap (λ (marks : List Bool). length marks) c.deref.ensures.value ∙ c.requires.common.a_mark_each
 
 pub aim-requires-2-clause-aiming : goal.aim-requires-2-clause-aiming
 aim-requires-2-clause-aiming c =
@@ -41,18 +35,14 @@ aim-requires-2-clause-aiming c =
     record {
       kept = c.requires.rooted.kept;
       directed = has_directions c.requires.rooted;
-      turns = λ from w are. subst (λ (turns : List ℕ). AreTurns g w Up turns) (sym c.as_slice-4.ensures.value)
-          (turns_too c.requires.rooted w are.says Up c.args.common.now.by_order.items c.requires.common.by_order);
-      aims = ap (λ (xs : List ℕ). length xs) c.as_slice-5.ensures.value ∙ c.requires.tiles.aims
+      turns = λ from w are. turns_too c.requires.rooted w are.says Up c.args.by_order.now c.requires.up;
+      aims = ap (λ (xs : List ℕ). length xs) c.as_slice-3.ensures.value ∙ c.requires.tiles.aims
           ∙ ap (λ (k : ℕ). length g.ids * k) (sym c.requires.tiles.down.width);
-      a_mark_each = ap (λ (bs : List Bool). length bs) c.as_slice-6.ensures.value ∙ c.requires.tiles.a_mark_each;
+      a_mark_each = ap (λ (bs : List Bool). length bs) c.as_slice-4.ensures.value ∙ c.requires.tiles.a_mark_each;
     }
 
 pub aim-requires-2-clause-nodes : goal.aim-requires-2-clause-nodes
 aim-requires-2-clause-nodes c = c.requires.tiles.down.nodes
-
-pub aim-requires-2-clause-heads : goal.aim-requires-2-clause-heads
-aim-requires-2-clause-heads c = ap (λ (marks : List Bool). length marks) c.deref-2.ensures.value ∙ c.requires.common.a_mark_each
 
 pub returns-clause-tiles : goal.returns-clause-tiles
 returns-clause-tiles c = λ places are. record {
@@ -68,14 +58,9 @@ returns-clause-aimed c =
     let g = rooted.graph.now in
     let w = words_of rooted in
     let are = are_directions c.requires.rooted in
-    let others = others_in_one_block (og_of c.requires.rooted) c.args.common.now.heads.items c.requires.common.marked in
-    let others_up : AreOthersInOneBlock g w c.deref.result.now =
-    subst (λ (marks : List Bool). AreOthersInOneBlock g w marks) (sym c.deref.ensures.value) others in
-    let others_down : AreOthersInOneBlock g w c.deref-2.result.now =
-    subst (λ (marks : List Bool). AreOthersInOneBlock g w marks) (sym c.deref-2.ensures.value) others in
+    let others = others_in_one_block (og_of c.requires.rooted) c.args.heads.now c.requires.heads in
     record {
-      up = aimed_moved g w Up _ _ _ _ c.aim.new.self c.as_slice-3.ensures.value c.as_slice-2.ensures.value
-          (c.aim.ensures.aimed rooted.root w are others_up);
-      down = aimed_moved g w Down _ _ _ _ c.aim-2.new.self c.as_slice-6.ensures.value c.as_slice-5.ensures.value
-          (c.aim-2.ensures.aimed rooted.root w are others_down);
+      up = aimed_moved g w Up _ _ _ _ c.aim.new.self c.as_slice-2.ensures.value c.as_slice.ensures.value (c.aim.ensures.aimed rooted.root w are others);
+      down = aimed_moved g w Down _ _ _ _ c.aim-2.new.self c.as_slice-4.ensures.value c.as_slice-3.ensures.value
+          (c.aim-2.ensures.aimed rooted.root w are others);
     }
