@@ -12,22 +12,28 @@ use crate::ways::{take_own_ways, take_ways};
 use mrt_graph::{Directed, Graph, LinkNo, NoMemory, NodeNo};
 use std::alloc::Global;
 
-/// The least paths from node s to every node with which it has a block of more than one link in common, up or down.
+/// The least paths from a node to every node with which it has a block of more than one link in common, up or down.
 ///
-/// It is a fan of one source. It takes time in proportion to the nodes, and to the ends of those in its blocks.
-pub fn spf(alloc: Global, g: &Graph, d: &Directed, s: NodeNo, dir: Dir) -> Result<Reach, NoMemory>
-    requires source { s < length g.now.ids }
+/// It is a fan of one source. It takes time in proportion to the nodes, and to the ends of those in the source's blocks.
+pub fn spf(
+    alloc: Global,
+    g: &Graph,
+    d: &Directed,
+    source: NodeNo,
+    dir: Dir,
+) -> Result<Reach, NoMemory>
+    requires source { source < length g.now.ids }
     requires directed { HasDirections g.now d.now }
-    ensures { (w : Directions) → Says g.now d.now w → IfOk result (IsReach g.now w dir s) }
+    ensures { (w : Directions) → Says g.now d.now w → IfOk result (IsReach g.now w dir source) }
 {
     let count = g.node_count();
     let turns = nodes_by_turn(alloc, g, d, dir)?;
     let mut fan = Fan::new(alloc, g, 1)?;
-    fan.open(g, d, dir, &turns, s);
+    fan.open(g, d, dir, &turns, source);
     let mut hops = vec![in alloc; None; count as usize]?;
     for n in 0..count {
         let t = NodeNo::new(n);
-        hops[n as usize] = fan.hop(g, s, s, t);
+        hops[n as usize] = fan.hop(g, source, source, t);
     }
     Ok(Reach { hops })
 }

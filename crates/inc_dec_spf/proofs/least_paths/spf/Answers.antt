@@ -18,8 +18,8 @@ loop-n-preserved c =
       each = λ root w are t hop below at. elim (cases_eq t n) [
         | inl same ↦
             let now : slice_get (set hops n new) t ≡ Some new = ap (λ (v : ℕ). slice_get (set hops n new) v) same ∙ set_there hops n new within in
-            subst (λ (o : Option Hop). IsHop c.args.g.now w c.args.dir c.args.s t o) (same_Some new hop (sym now ∙ at))
-            (subst (λ (v : ℕ). IsHop c.args.g.now w c.args.dir c.args.s v new) (c.new-t.ensures ∙ sym same)
+            subst (λ (o : Option Hop). IsHop c.args.g.now w c.args.dir c.args.source t o) (same_Some new hop (sym now ∙ at))
+            (subst (λ (v : ℕ). IsHop c.args.g.now w c.args.dir c.args.source v new) (c.new-t.ensures ∙ sym same)
             (c.hop.ensures w c.args.dir (c.open.ensures.open root w are)))
         | inr other ↦ c.loop-n.invariant.each root w are t hop (omega (arith, below, other)) (sym (set_elsewhere hops n t new other) ∙ at)
       ];

@@ -9,5 +9,5 @@ abbrev pub invariant-loop-n : goal.invariant-loop-n
 invariant-loop-n l = record {
   one_each : length l.hops.items ≡ length l.g.ids;
   each : (root : ℕ) (w : Directions) → AreDirections l.g l.d root w → (t : ℕ) (hop : Option Hop) → t < l.n → slice_get l.hops.items t ≡ Some hop
-      → IsHop l.g w l.fn.dir l.s t hop;
+      → IsHop l.g w l.fn.dir l.source t hop;
 }
