@@ -191,7 +191,7 @@ fn sweep(
 {
     for x in opening.turns {
         if is_reached(*x, from_costs.len(), costs) {
-            take(*x, costs, places, from_costs, from_places);
+            take_from(*x, costs, places, from_costs, from_places);
             keep_onward(opening, *x, stops, from_costs, from_places);
             offer_on(opening, *x, from_costs, from_places, costs, places);
         }
@@ -212,7 +212,13 @@ fn is_reached(x: NodeNo, width: usize, costs: &[u32]) -> bool
 }
 
 /// Takes what is known of x.
-fn take(x: NodeNo, costs: &[u32], places: &[u16], from_costs: &mut [u32], from_places: &mut [u16])
+fn take_from(
+    x: NodeNo,
+    costs: &[u32],
+    places: &[u16],
+    from_costs: &mut [u32],
+    from_places: &mut [u16],
+)
     requires room { x * length from_costs.old + length from_costs.old ≤ length costs.now }
     requires from_places { length from_places.old ≡ length from_costs.old }
     requires lanes { AreLanes costs.now places.now }

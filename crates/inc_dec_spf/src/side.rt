@@ -34,7 +34,13 @@ pub fn take_over(left: &[u32], metric: u16, link: LinkNo, costs: &mut [u32], lin
 }
 
 /// Takes the ways over an end like this, but for those whose aim is the end's own node: the way back is none.
-pub fn take_on(leg: &Leg, aims: &[NodeNo], left: &[u32], costs: &mut [u32], links: &mut [LinkNo])
+pub fn take_onward(
+    leg: &Leg,
+    aims: &[NodeNo],
+    left: &[u32],
+    costs: &mut [u32],
+    links: &mut [LinkNo],
+)
     requires one_aim_each { length aims.now ≡ length costs.old }
     requires one_left_each { length left.now ≡ length costs.old }
     requires one_link_each { length links.old ≡ length costs.old }
@@ -50,7 +56,7 @@ pub fn take_on(leg: &Leg, aims: &[NodeNo], left: &[u32], costs: &mut [u32], link
     }
 }
 
-/// Takes the ways that end with this end, where they are less: nothing is left where its node is the aim.
+/// Takes the ways that end with this end, where they are less: nothing is left where it leads to the aim.
 pub fn take_last(end: End, aims: &[NodeNo], costs: &mut [u32], links: &mut [LinkNo])
     requires one_aim_each { length aims.now ≡ length costs.old }
     requires one_link_each { length links.old ≡ length costs.old }

@@ -9,7 +9,7 @@ ghost use Rattle.inc_dec_spf.specs.Side.{AreCosts, AreTaken, IsRowPut, cost_from
 
 use crate::aiming::Aiming;
 use crate::offers::{is_sole, leads_on};
-use crate::side::{FAR, Leg, NO_LINK, either, take_last, take_on, take_over};
+use crate::side::{FAR, Leg, NO_LINK, either, take_last, take_onward, take_over};
 use mrt_graph::{LinkNo, NodeNo, Role};
 
 /// Takes the least ways from x over its ends in the wanted blocks to the aims side by side, of which each block has its own.
@@ -79,7 +79,7 @@ fn take_leg(aiming: &Aiming, leg: &Leg, all: &[u32], costs: &mut [u32], links: &
         if leg.own {
             take_over(left, end.metric, end.link, costs, links);
         } else {
-            take_on(leg, aims, left, costs, links);
+            take_onward(leg, aims, left, costs, links);
         }
     } else {
         take_last(leg.end, aims, costs, links);

@@ -39,7 +39,7 @@ module _ (og : OrderedGraph) where
   own_block s a k h (ToHead x y z) away = absurd (away y)
   own_block s a k h (FromHead x y z) away = sym x
 
-  -- a block of two nodes is named by a number below their count
+  -- the block that two nodes have in common has a number below the count of nodes
   pub common_within : (s u k h : ℕ) → s < n → u < n → HaveCommonBlock w s u k h → k < n
   common_within s u k h within u_within (Peers x y z) = subst (λ (b : ℕ). b < n) x (og.ordered.heads.block_within s within)
   common_within s u k h within u_within (ToHead x y z) = subst (λ (b : ℕ). b < n) x (og.ordered.heads.block_within s within)

@@ -11,7 +11,7 @@ use Rattle.mrt_rows.specs.NearOf.{AreSoles}
 use Rattle.mrt_rows.specs.Put.{AreFirstLinks, AreHeadsMarked}
 use Rattle.mrt_rows.specs.TilesAimed.{AreTiles, HaveLinksAt}
 
--- the links of each node are those by which it begins the least paths to its head
+-- the links of each node are those by which it begins the least paths to its head, where its block has more than one link
 pub record AreHomes (g : Topology) (w : Directions) (homes : Tiles) : Type 0 where
   pub each : (v : ℕ) (home : FirstLinks) → v < length g.ids → HaveLinksAt homes v 0 home → AreFirstLinks g w v (w.head v) home
 

@@ -10,8 +10,9 @@ use Rattle.mrt_rows.specs.Common.{AreCommon}
 use Rattle.mrt_rows.specs.Said.{AreRooted, directions_of}
 use Rattle.mrt_rows.specs.TilesAimed.{AreShared, AreTiles, AreTilesAimed}
 
--- the destinations are nodes; the blocks aim for them; the tiles are aimed so in the blocks of more than one link on the ways
--- from them to the root: those of one place where a block aims at one node for all, and else those of a place for each
+-- the destinations are nodes; each block aims, for each of them, at its node on the way from it to the root, or at its head;
+-- and the tiles are aimed so in the blocks of more than one link on these ways: in the shared ones, which aim at one node for
+-- all, those of one place, in the others those of a place for each
 pub record AreBothAimed (g : Topology) (root : ℕ) (w : Directions) (held : Columns) : Type 0 where
   pub within : (j t : ℕ) → slice_get held.targets.items j ≡ Some t → t < length g.ids
   pub marks : List Bool

@@ -1,4 +1,4 @@
--- The rows of nodes that have a block in common, and the links home.
+-- The rows of nodes that have a block in common, and the first links that they are made from.
 use Rattle.std.specs.Prelude.{◌≡◌, ◌≢◌, ◌<◌, ℕ, Bool, true, List, Option, Some, length, slice_get}
 use Rattle.mrt_graph.specs.declared.cert.Row.{Row}
 use Rattle.mrt_graph.specs.GraphInvariant.{IsTopology}

@@ -20,8 +20,9 @@ pub record HavePlace (tiles : Tiles) (s j : ℕ) : Type 0 where
   pub up : (s < tiles.up.nodes) × (j < tiles.up.width)
   pub down : (s < tiles.down.nodes) × (j < tiles.down.width)
 
--- the links that they have there
+-- they have a place j for node s, and there these links
 pub record HaveLinksAt (tiles : Tiles) (s j : ℕ) (links : FirstLinks) : Type 0 where
+  pub place : HavePlace tiles s j
   pub up : slice_get tiles.up.links (s * tiles.up.width + j) ≡ Some links.up
   pub down : slice_get tiles.down.links (s * tiles.down.width + j) ≡ Some links.down
 
@@ -30,8 +31,8 @@ pub record AreTilesAimed (g : Topology) (w : Directions) (tiles : Tiles) : Type 
   pub up : IsAimed g w tiles.wanted.items Up tiles.aims.items tiles.up
   pub down : IsAimed g w tiles.wanted.items Down tiles.aims.items tiles.down
 
--- firsts has what each block aims at at the first place; each marked block is still wanted, or shared, and a shared one aims at
--- one node at all places
+-- firsts has for each block the node that it aims at in the first place; each marked block is still wanted, or shared, and a
+-- shared one aims at one node in all places
 pub record AreShared (count width : ℕ) (aims : List ℕ) (marks wanted : List Bool) (firsts : List ℕ) (shared : List Bool) : Type 0 where
   pub first : (k : ℕ) → k < count → slice_index firsts k ≡ aim_at aims width 0 k
   pub alike : (j k : ℕ) → j < width → slice_get shared k ≡ Some true → aim_at aims width j k ≡ slice_index firsts k

@@ -14,7 +14,7 @@ use inc_dec_spf::put_heads;
 use mrt_graph::{LinkNo, NoMemory, NodeNo, Row, relation_of};
 use std::alloc::Global;
 
-/// So many destinations are taken side by side.
+/// At most so many destinations are taken side by side.
 pub(crate) const WIDTH: u16 = 64;
 
 /// A node that is aimed at, and its place beside others.
@@ -62,8 +62,8 @@ impl Columns {
     /// Aims at `to`, and answers its place among the destinations that the tiles are aimed at.
     ///
     /// Where the tiles are not aimed at `to`, they are aimed at it and the next nodes by number, the marked ones among them if
-    /// there are marks, in time in proportion to the nodes times the width, and to the links, those in the blocks that aim apart
-    /// times the width. It takes no memory.
+    /// there are marks, in time in proportion to the nodes times the width, and to the links, times the width in the blocks that do
+    /// not aim at one node for all. It takes no memory.
     pub fn aim(&mut self, rooted: &Rooted, to: NodeNo, marks: Option<&[bool]>) -> Target
         requires rooted { IsRooted rooted.now }
         requires to { IsNode rooted.now to }

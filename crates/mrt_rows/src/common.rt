@@ -27,6 +27,8 @@ pub struct Common {
 
 impl Common {
     /// What they have in common.
+    ///
+    /// It takes time in proportion to the nodes and the links.
     pub fn new(alloc: Global, rooted: &Rooted) -> Result<Common, NoMemory>
         requires { IsRooted rooted.now }
         ensures { IfOk result (AreCommon rooted.now.graph.now (words_of rooted.now)) }

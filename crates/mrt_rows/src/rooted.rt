@@ -31,10 +31,10 @@ impl Model for RootedColumns {
 }
 
 impl RootedColumns {
-    /// What makes the columns of a graph from a root, for so many destinations, wherever they lie: as many as there are, at most
-    /// 64, side by side. There is a certificate of the two, though it is not made.
+    /// What makes the columns of a graph from a root, for so many destinations, wherever they lie; so many, at most 64, are taken
+    /// side by side. There is a certificate of the graph and the root, though it is not made.
     ///
-    /// It takes time and memory in proportion to the nodes and the links.
+    /// It takes time and memory in proportion to the nodes times as many as are side by side, and time to the links.
     pub fn for_some(
         alloc: Global,
         g: &Graph,
@@ -68,9 +68,9 @@ impl RootedColumns {
 
     /// Aims at `to`, for its column.
     ///
-    /// It takes time in proportion to the nodes. Where it is not aimed at `to`, it is aimed at it and the next 63 nodes by number,
-    /// or as many as the width has, in time in proportion to the nodes times the width, and to the links, those in the blocks
-    /// through which not all ways go alike times the width. It takes no memory.
+    /// It takes time in proportion to the nodes. Where there is no place for `to`, it is aimed at and the next nodes by number, as
+    /// many as are side by side, in time in proportion to the nodes times these, and to the links, times these in the blocks that
+    /// do not aim at one node for all. It takes no memory.
     pub fn aim(&mut self, g: &Graph, to: NodeNo)
         requires made { MakeColumns g.now self.old }
         requires to { to < length g.now.ids }

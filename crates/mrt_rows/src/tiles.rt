@@ -1,4 +1,4 @@
-//! Tiles up and down, aimed at some nodes side by side.
+//! Tiles up and down, and what they are aimed at.
 
 ghost use Rattle.std.specs.Prelude.{◌≡◌, ◌<◌, ◌*◌, ℕ, IfOk, IsTrue, length, slice_index};
 ghost use Rattle.inc_dec_spf.specs.declared.reach.Dir.TheVariants.{Down, Up};
@@ -12,7 +12,7 @@ use inc_dec_spf::{Aiming, Dir, Tile};
 use mrt_graph::{NoMemory, NodeNo};
 use std::alloc::Global;
 
-/// What the blocks of a graph aim at, for some nodes side by side; marks on blocks; and tiles that are aimed so in the marked ones.
+/// What the blocks of a graph aim at, at some places side by side; marks on blocks; and tiles that are aimed so in the marked ones.
 #[derive(Drop)]
 pub struct Tiles {
     pub aims: Vec<NodeNo>,
@@ -23,6 +23,8 @@ pub struct Tiles {
 
 impl Tiles {
     /// Tiles of this width, in which no block is marked.
+    ///
+    /// It takes time and memory in proportion to the nodes times the width.
     pub fn new(alloc: Global, rooted: &Rooted, width: u16) -> Result<Tiles, NoMemory>
         ensures { IfOk result (AreTiles rooted.now.graph.now width) }
     {
@@ -39,7 +41,8 @@ impl Tiles {
         })
     }
 
-    /// Aims the tiles in the marked blocks at what these aim at, by the nodes by their turns and marks on heads.
+    /// Aims the tiles in the marked blocks at what these aim at. It is given the nodes by ascending and by descending order, and
+    /// marks on the heads of blocks of more than one link.
     ///
     /// It takes time in proportion to the nodes, and to the ends of those in the marked blocks and of the heads times the width.
     pub fn aim(
@@ -50,8 +53,8 @@ impl Tiles {
         heads: &[bool],
     )
         requires rooted { IsRooted rooted.now }
-        requires up { AreTurns rooted.now.graph.now (words_of rooted.now) Up by_order.now }
-        requires down { AreTurns rooted.now.graph.now (words_of rooted.now) Down against_order.now }
+        requires by_order { AreTurns rooted.now.graph.now (words_of rooted.now) Up by_order.now }
+        requires against_order { AreTurns rooted.now.graph.now (words_of rooted.now) Down against_order.now }
         requires a_mark_each { length heads.now ≡ length rooted.now.graph.now.ids }
         requires heads { AreHeadsMarked rooted.now.graph.now (words_of rooted.now) heads.now }
         requires tiles { AreTiles rooted.now.graph.now self.old.up.width self.old }

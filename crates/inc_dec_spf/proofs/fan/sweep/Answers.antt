@@ -40,8 +40,8 @@ is_reached-requires c =
     row c.args.opening.now c.requires.opening c.loop-x.x-index c.x-item.result (length c.args.from_costs.now) (length c.loop-x.from_costs) (length c.loop-x.costs)
     c.loop-x-test.true c.x-item.is (c.loop-x.auto.costs ∙ c.requires.begun.one_cost_each) c.loop-x.auto.from_costs
 
-pub take-requires-clause-room : goal.take-requires-clause-room
-take-requires-clause-room c =
+pub take_from-requires-clause-room : goal.take_from-requires-clause-room
+take_from-requires-clause-room c =
     row c.args.opening.now c.requires.opening c.loop-x.x-index c.x-item.result (length c.args.from_costs.now) (length c.loop-x.from_costs) (length c.loop-x.costs)
     c.loop-x-test.true c.x-item.is (c.loop-x.auto.costs ∙ c.requires.begun.one_cost_each) c.loop-x.auto.from_costs
 
@@ -54,7 +54,7 @@ offer_on-requires-clause-node c = (turn c.args.opening.now c.requires.opening c.
 pub offer_on-requires-clause-room : goal.offer_on-requires-clause-room
 offer_on-requires-clause-room c =
     c.loop-x.auto.costs ∙ c.requires.begun.one_cost_each
-    ∙ ap (λ (m : ℕ). length c.args.opening.now.graph.now.ids * m) (sym (c.keep_onward.auto.from_costs ∙ c.take.auto.from_costs ∙ c.loop-x.auto.from_costs))
+    ∙ ap (λ (m : ℕ). length c.args.opening.now.graph.now.ids * m) (sym (c.keep_onward.auto.from_costs ∙ c.take_from.auto.from_costs ∙ c.loop-x.auto.from_costs))
 
 pub offer_on-requires-clause-low : goal.offer_on-requires-clause-low
 offer_on-requires-clause-low c = λ j less. elim (cases_lt j (length c.args.from_costs.now)) [
@@ -62,15 +62,15 @@ offer_on-requires-clause-low c = λ j less. elim (cases_lt j (length c.args.from
       let opening = c.args.opening.now in
       let d = c.requires.opening.directed in
       let width = length c.args.from_costs.now in
-      let taken = c.take.auto.from_costs ∙ c.loop-x.auto.from_costs in
+      let taken = c.take_from.auto.from_costs ∙ c.loop-x.auto.from_costs in
       let there = (turn opening c.requires.opening c.loop-x.x-index c.x-item.result c.loop-x-test.true c.x-item.is).0 in
       lane_low opening d.root d.directions d.are c.requires.opening width j below c.loop-x.x-index c.x-item.result there (known_at c.loop-x.costs c.loop-x.places)
       (c.loop-x.invariant.swept d.root j d.directions d.are below) _
-      (lane_kept opening c.x-item.result width (length c.loop-x.from_costs) (length c.take.new.from_costs) j (known_at c.loop-x.costs c.loop-x.places) _ _
+      (lane_kept opening c.x-item.result width (length c.loop-x.from_costs) (length c.take_from.new.from_costs) j (known_at c.loop-x.costs c.loop-x.places) _ _
       c.loop-x.auto.from_costs taken
-      (c.take.ensures.taken j (omega (arith, below, c.loop-x.auto.from_costs))) (c.keep_onward.ensures.onward j)) less
+      (c.take_from.ensures.taken j (omega (arith, below, c.loop-x.auto.from_costs))) (c.keep_onward.ensures.onward j)) less
   | inr past ↦
-      let none = get_or_past c.keep_onward.new.from_costs j 0 (omega (arith, past, c.keep_onward.auto.from_costs, c.take.auto.from_costs, c.loop-x.auto.from_costs)) in
+      let none = get_or_past c.keep_onward.new.from_costs j 0 (omega (arith, past, c.keep_onward.auto.from_costs, c.take_from.auto.from_costs, c.loop-x.auto.from_costs)) in
       omega (arith, none)
 ]
 
@@ -85,15 +85,15 @@ loop-x-preserved c =
     let before = c.loop-x.invariant in
     elim c.if-is_reached.branch [
       | then-is_reached t ↦
-          let taken = t.take.auto.from_costs ∙ c.loop-x.auto.from_costs in
+          let taken = t.take_from.auto.from_costs ∙ c.loop-x.auto.from_costs in
           rw (t.costs-is, t.places-is) (record {
             lanes = t.offer_on.ensures.lanes;
             swept = λ root j w are below.
                 lane_turned opening root w are c.requires.opening width j below i x there found (before.swept root j w are below)
                 t.keep_onward.new.from_costs t.keep_onward.new.from_places (known_at t.offer_on.new.costs t.offer_on.new.places)
                 (t.keep_onward.auto.from_costs ∙ taken)
-                (lane_kept opening x width (length c.loop-x.from_costs) (length t.take.new.from_costs) j found _ _ c.loop-x.auto.from_costs taken
-                (t.take.ensures.taken j (omega (arith, below, c.loop-x.auto.from_costs))) (t.keep_onward.ensures.onward j))
+                (lane_kept opening x width (length c.loop-x.from_costs) (length t.take_from.new.from_costs) j found _ _ c.loop-x.auto.from_costs taken
+                (t.take_from.ensures.taken j (omega (arith, below, c.loop-x.auto.from_costs))) (t.keep_onward.ensures.onward j))
                 (t.offer_on.ensures.offered root w are);
           })
       | else-is_reached t ↦ rw (t.costs-is, t.places-is) (record {

@@ -31,12 +31,12 @@ returns-else-leg c = λ w says.
     let width = length c.args.costs.now in
     let named = (place_says aiming.graph.now aiming.directed.now w leg.end.to c.place.result says c.requires.node c.place.ensures).1 in
     let inside : w.block leg.end.to ≡ leg.block = sym named ∙ eqb-true c.place.result.block leg.block (sym c.eq.ensures ∙ c.if-eq.true) in
-    taken_by _ _ leg.end.metric leg.end.link c.args.costs.now c.args.links.now c.take_on.new.costs c.take_on.new.links
+    taken_by _ _ leg.end.metric leg.end.link c.args.costs.now c.args.links.now c.take_onward.new.costs c.take_onward.new.links
     (λ j below.
     let aim = row_index aiming.aims.now c.get.result leg.block n width j c.requires.aiming.aims c.requires.block c.get.ensures.value below in
     let left = row_index c.args.all.now c.get-2.result leg.end.to n width j c.requires.rows.one_each c.requires.node c.get-2.ensures.value below in
     rw (eq-eqb (w.block leg.end.to) leg.block inside, c.if-leg.false, aim, left) refl)
-    c.take_on.ensures
+    c.take_onward.ensures
 
 pub returns-else-eq : goal.returns-else-eq
 returns-else-eq c = λ w says.

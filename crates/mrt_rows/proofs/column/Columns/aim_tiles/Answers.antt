@@ -24,13 +24,13 @@ put_ways-requires-clause-room c =
 pub put_ways-requires-clause-a_mark_each : goal.put_ways-requires-clause-a_mark_each
 put_ways-requires-clause-a_mark_each c = ap (λ (bs : List Bool). length bs) c.deref_mut-2.ensures.value ∙ c.requires.held.each.a_mark_each
 
-pub aim-requires-clause-up : goal.aim-requires-clause-up
-aim-requires-clause-up c =
+pub aim-requires-clause-by_order : goal.aim-requires-clause-by_order
+aim-requires-clause-by_order c =
     let rooted = c.args.rooted.now in
     subst (λ (turns : List ℕ). AreTurns rooted.graph.now (words_of rooted) Up turns) (sym c.deref-4.ensures.value) c.requires.held.common.by_order
 
-pub aim-requires-clause-down : goal.aim-requires-clause-down
-aim-requires-clause-down c =
+pub aim-requires-clause-against_order : goal.aim-requires-clause-against_order
+aim-requires-clause-against_order c =
     let rooted = c.args.rooted.now in
     subst (λ (turns : List ℕ). AreTurns rooted.graph.now (words_of rooted) Down turns) (sym c.deref-5.ensures.value) c.requires.held.common.against_order
 
@@ -42,13 +42,13 @@ aim-requires-clause-heads c =
     let rooted = c.args.rooted.now in
     subst (λ (hs : List Bool). AreHeadsMarked rooted.graph.now (words_of rooted) hs) (sym c.deref-6.ensures.value) c.requires.held.common.marked
 
-pub aim-requires-2-clause-up : goal.aim-requires-2-clause-up
-aim-requires-2-clause-up c =
+pub aim-requires-2-clause-by_order : goal.aim-requires-2-clause-by_order
+aim-requires-2-clause-by_order c =
     let rooted = c.args.rooted.now in
     subst (λ (turns : List ℕ). AreTurns rooted.graph.now (words_of rooted) Up turns) (sym c.deref-7.ensures.value) c.requires.held.common.by_order
 
-pub aim-requires-2-clause-down : goal.aim-requires-2-clause-down
-aim-requires-2-clause-down c =
+pub aim-requires-2-clause-against_order : goal.aim-requires-2-clause-against_order
+aim-requires-2-clause-against_order c =
     let rooted = c.args.rooted.now in
     subst (λ (turns : List ℕ). AreTurns rooted.graph.now (words_of rooted) Down turns) (sym c.deref-8.ensures.value) c.requires.held.common.against_order
 

@@ -24,14 +24,14 @@ put_heads-requires-clause-directed c = has_directions c.requires
 pub put_heads-requires-clause-room : goal.put_heads-requires-clause-room
 put_heads-requires-clause-room c = ap (λ (xs : List ℕ). length xs) c.deref_mut-3.ensures.value ∙ c.in_ok-homes.ensures.aims
 
-pub aim-requires-clause-up : goal.aim-requires-clause-up
-aim-requires-clause-up c =
+pub aim-requires-clause-by_order : goal.aim-requires-clause-by_order
+aim-requires-clause-by_order c =
     let rooted = c.args.rooted.now in
     subst (λ (turns : List ℕ). AreTurns rooted.graph.now (words_of rooted) Up turns) (sym c.deref.ensures.value)
     (c.in_ok-by_order.ensures rooted.root (words_of rooted) (are_directions c.requires))
 
-pub aim-requires-clause-down : goal.aim-requires-clause-down
-aim-requires-clause-down c =
+pub aim-requires-clause-against_order : goal.aim-requires-clause-against_order
+aim-requires-clause-against_order c =
     let rooted = c.args.rooted.now in
     subst (λ (turns : List ℕ). AreTurns rooted.graph.now (words_of rooted) Down turns) (sym c.deref-2.ensures.value)
     (c.in_ok-against_order.ensures rooted.root (words_of rooted) (are_directions c.requires))

@@ -21,7 +21,7 @@ aim-requires-clause-aiming c =
     record {
       kept = c.requires.rooted.kept;
       directed = has_directions c.requires.rooted;
-      turns = λ from w are. turns_too c.requires.rooted w are.says Down c.args.against_order.now c.requires.down;
+      turns = λ from w are. turns_too c.requires.rooted w are.says Down c.args.against_order.now c.requires.against_order;
       aims = ap (λ (xs : List ℕ). length xs) c.as_slice.ensures.value ∙ c.requires.tiles.aims;
       a_mark_each = ap (λ (bs : List Bool). length bs) c.as_slice-2.ensures.value ∙ c.requires.tiles.a_mark_each;
     }
@@ -35,7 +35,7 @@ aim-requires-2-clause-aiming c =
     record {
       kept = c.requires.rooted.kept;
       directed = has_directions c.requires.rooted;
-      turns = λ from w are. turns_too c.requires.rooted w are.says Up c.args.by_order.now c.requires.up;
+      turns = λ from w are. turns_too c.requires.rooted w are.says Up c.args.by_order.now c.requires.by_order;
       aims = ap (λ (xs : List ℕ). length xs) c.as_slice-3.ensures.value ∙ c.requires.tiles.aims
           ∙ ap (λ (k : ℕ). length g.ids * k) (sym c.requires.tiles.down.width);
       a_mark_each = ap (λ (bs : List Bool). length bs) c.as_slice-4.ensures.value ∙ c.requires.tiles.a_mark_each;

@@ -23,6 +23,7 @@ returns c =
     let down = slice_get_read downs (length downs) c.args.at c.index-links_of-at-2.result refl (omega (arith, c.links_of-2.ensures.one_each, c.requires.down.1))
     c.index-links_of-at-2.is in
     record {
+      place = c.requires;
       up = c.links_of.ensures.there c.args.at c.index-links_of-at.result up;
       down = c.links_of-2.ensures.there c.args.at c.index-links_of-at-2.result down;
     }

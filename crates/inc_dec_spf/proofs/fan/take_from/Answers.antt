@@ -4,7 +4,7 @@ use Rattle.std.proofs.lemmas.Bool.{cases_lt}
 use Rattle.std.proofs.lemmas.List.{get_or_past}
 use Rattle.inc_dec_spf.specs.Known.{AreLanes, known_at}
 use Rattle.inc_dec_spf.proofs.SideBySide.{range_index, range_length}
-use Rattle.inc_dec_spf.proofs.fan.take.Goals as goal
+use Rattle.inc_dec_spf.proofs.fan.take_from.Goals as goal
 
 -- a copy of the entries of one node
 module _ (costs places from_costs from_places : List ℕ) (at n : ℕ) (room : at + n ≤ length costs) (are : AreLanes costs places)

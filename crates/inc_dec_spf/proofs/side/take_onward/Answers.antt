@@ -2,7 +2,7 @@ use Rattle.std.proofs.Common.{◌∙◌, slice_index, refl, arith}
 use Rattle.std.proofs.lemmas.Grind.{get_or_default_zero}
 use Rattle.inc_dec_spf.specs.Side.{left_onward}
 use Rattle.inc_dec_spf.proofs.SideBySide.{one_taken}
-use Rattle.inc_dec_spf.proofs.side.take_on.Goals as goal
+use Rattle.inc_dec_spf.proofs.side.take_onward.Goals as goal
 
 pub loop-j-preserved : goal.loop-j-preserved
 loop-j-preserved c =
