@@ -35,4 +35,5 @@ else
     echo "Nothing is kept of how the program was built or of its gate ($program.built); $(rt version 2>/dev/null | head -n 1)."
 fi
 echo
-exec "$here/measure/shapes.py" --program "$program" --shapes ring,mesh,chain-of-rings,spur --markdown --check "$@"
+forms=certify,check,upgrade,table,trace,fabric-ten,proxy,lfa,order,flood,survey
+exec "$here/measure/shapes.py" --program "$program" --shapes ring,mesh,chain-of-rings,spur --forms $forms --markdown --check "$@"

@@ -164,30 +164,35 @@ def report(programs, shape, size, forms):
 def spread(values, digits):
     """The least and the greatest of some values, as a text."""
     least, most = (f"{value:.{digits}f}" for value in (min(values), max(values)))
-    return least if least == most else f"{least} to {most}"
+    return least if least == most else f"{least}-{most}"
 
 
 def cell(row):
+    """Milliseconds, and the multiple of sha256sum."""
     if row is None or not row.seconds:
         return ""
-    return f"{row.seconds * 1000:.0f} ms, {row.seconds / row.sha:.2f}"
+    return f"{row.seconds * 1000:.0f}, {row.seconds / row.sha:.2f}"
 
 
 def markdown(results):
     """The rows of each form over some shapes, as a table of README.md."""
     shapes = list(results)
     names = " | ".join(shape.replace("-", " ") for shape in shapes)
-    yield f"| Form | {names} | peak memory | beside the file | twice the nodes |"
+    yield f"| Form | {names} | MB | beside the file | twice the nodes |"
     yield "|---" * (len(shapes) + 4) + "|"
     for form in FORMS:
-        rows = {shape: whole[form] for shape, (whole, _, asked) in results.items() if form in asked and form in whole}
-        timed = [row for row in rows.values() if row.seconds]
+        # (a survey has no row of whole size)
+        is_whole = any(form in whole for whole, _, _ in results.values())
+        rows = {shape: it[0 if is_whole else 1].get(form) for shape, it in results.items() if form in it[2]}
+        timed = {shape: row for shape, row in rows.items() if row and row.seconds}
         if not timed:
             continue
-        grown = [it for it in (growth(rows[shape], results[shape][1].get(form)) for shape in rows) if it]
-        memory, beside = ([row.memory / 1e6 for row in timed], [row.memory / row.file for row in timed])
+        grown = [growth(row, results[shape][1].get(form)) for shape, row in timed.items()] if is_whole else []
+        grown = [it for it in grown if it]
+        memory, beside = zip(*((row.memory / 1e6, row.memory / row.file) for row in timed.values()))
         cells = " | ".join(cell(rows.get(shape)) for shape in shapes)
-        yield f"| `{form}` | {cells} | {spread(memory, 0)} MB | {spread(beside, 1)} | {spread(grown, 1) if grown else ''} |"
+        name = f"`{form}`" if is_whole else f"`{form}`, half the size"
+        yield f"| {name} | {cells} | {spread(memory, 0)} | {spread(beside, 1)} | {spread(grown, 1) if grown else ''} |"
 
 
 # the words
