@@ -9,7 +9,7 @@ use Rattle.fabric.specs.declared.event.Event.{Event}
 use Rattle.fabric.specs.declared.event.Event.TheVariants.{Fail, Inject, Step}
 use Rattle.fabric.specs.declared.event.Outcome.{Outcome}
 use Rattle.fabric.specs.declared.event.Outcome.TheVariants as outcomes
-use Rattle.fabric.specs.declared.packet.Entry.{Entry}
+use Rattle.fabric_script.specs.declared.entry.Entry.{Entry}
 use Rattle.fabric.specs.declared.packet.Packet.{Packet}
 use Rattle.mrt_graph.proofs.ListPlaces.{pushed_at, set_elsewhere, set_there}
 

@@ -6,8 +6,8 @@ use Rattle.fabric.specs.Answers.{AreInside, HasElement, IsOpen, MayEnter}
 use Rattle.fabric.specs.FabricParts.{FabricParts, node_at}
 use Rattle.fabric.specs.declared.event.Failure.{Failure}
 use Rattle.fabric.specs.declared.event.Failure.TheVariants as failures
-use Rattle.fabric.specs.declared.packet.Entry.{Entry}
-use Rattle.fabric.specs.declared.packet.Entry.TheVariants as entries
+use Rattle.fabric_script.specs.declared.entry.Entry.{Entry}
+use Rattle.fabric_script.specs.declared.entry.Entry.TheVariants as entries
 use Rattle.mrt_graph.specs.declared.node_id.NodeId.{NodeId}
 use Rattle.primary_alt.specs.Routers.{IsRouter}
 use Rattle.primary_alt.proofs.RouterFacts.{router_alone, router_or_network, router_within}

@@ -16,7 +16,7 @@ use Rattle.fabric.specs.declared.event.Failure.{Failure}
 use Rattle.fabric.specs.declared.event.Outcome.{Outcome}
 use Rattle.fabric.specs.declared.event.Outcome.TheVariants as outcomes
 use Rattle.fabric.specs.declared.event.Refused.TheVariants as refusals
-use Rattle.fabric.specs.declared.packet.Entry.{Entry}
+use Rattle.fabric_script.specs.declared.entry.Entry.{Entry}
 use Rattle.fabric.specs.declared.packet.Packet.{Packet}
 use Rattle.fabric.specs.declared.packet.State.TheVariants as states
 use Rattle.fabric.proofs.LifeSteps.{entering_kept}

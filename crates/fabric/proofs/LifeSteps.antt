@@ -10,8 +10,8 @@ use Rattle.fabric.specs.KeptState.{IsKeptPacket}
 use Rattle.fabric.specs.PacketHop.{IsHop, PacketHop}
 use Rattle.fabric.specs.declared.event.Failure.{Failure}
 use Rattle.fabric.specs.declared.event.Outcome.{Outcome}
-use Rattle.fabric.specs.declared.packet.Entry.{Entry}
-use Rattle.fabric.specs.declared.packet.Entry.TheVariants as entries
+use Rattle.fabric_script.specs.declared.entry.Entry.{Entry}
+use Rattle.fabric_script.specs.declared.entry.Entry.TheVariants as entries
 use Rattle.fabric.specs.declared.packet.Loss.TheVariants as losses
 use Rattle.fabric.specs.declared.packet.Mode.{Mode}
 use Rattle.fabric.specs.declared.packet.Mode.TheVariants as modes

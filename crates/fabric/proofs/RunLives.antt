@@ -11,7 +11,7 @@ use Rattle.fabric.specs.Served.{AreRowsOn}
 use Rattle.fabric.specs.declared.event.Event.{Event}
 use Rattle.fabric.specs.declared.event.Event.TheVariants.{Inject}
 use Rattle.fabric.specs.declared.event.Failure.{Failure}
-use Rattle.fabric.specs.declared.packet.Entry.{Entry}
+use Rattle.fabric_script.specs.declared.entry.Entry.{Entry}
 use Rattle.fabric.specs.declared.packet.Mode.TheVariants as modes
 use Rattle.fabric.specs.declared.packet.Packet.{Packet}
 use Rattle.fabric.specs.declared.packet.State.TheVariants as states

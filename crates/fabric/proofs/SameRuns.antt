@@ -14,8 +14,8 @@ use Rattle.fabric.specs.declared.event.Event.TheVariants.{Fail, Inject, Step}
 use Rattle.fabric.specs.declared.event.Failure.{Failure}
 use Rattle.fabric.specs.declared.event.Failure.TheVariants as failures
 use Rattle.fabric.specs.declared.event.Outcome.{Outcome}
-use Rattle.fabric.specs.declared.packet.Entry.{Entry}
-use Rattle.fabric.specs.declared.packet.Entry.TheVariants as entries
+use Rattle.fabric_script.specs.declared.entry.Entry.{Entry}
+use Rattle.fabric_script.specs.declared.entry.Entry.TheVariants as entries
 use Rattle.fabric.specs.declared.packet.Mode.{Mode}
 use Rattle.fabric.specs.declared.packet.Mode.TheVariants as modes
 use Rattle.fabric.specs.declared.packet.Packet.{Packet}

@@ -8,7 +8,7 @@ use Rattle.fabric.specs.declared.event.Event.TheVariants.{Fail, Inject, Step}
 use Rattle.fabric.specs.declared.event.Failure.{Failure}
 use Rattle.fabric.specs.declared.event.Outcome.{Outcome}
 use Rattle.fabric.specs.declared.event.Refused.{Refused}
-use Rattle.fabric.specs.declared.packet.Entry.{Entry}
+use Rattle.fabric_script.specs.declared.entry.Entry.{Entry}
 use Rattle.fabric.specs.declared.packet.Packet.{Packet}
 use Rattle.mrt_graph.proofs.ListPlaces.{at_left, set_elsewhere}
 

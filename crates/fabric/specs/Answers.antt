@@ -10,8 +10,8 @@ use Rattle.fabric.specs.declared.event.Failure.TheVariants.{Bond, Node}
 use Rattle.fabric.specs.declared.event.Outcome.{Outcome}
 use Rattle.fabric.specs.declared.event.Outcome.TheVariants as outcomes
 use Rattle.fabric.specs.declared.event.Refused.TheVariants.{Ended, Full, NoSuchPacket, NoSuchPlace, SecondFailure}
-use Rattle.fabric.specs.declared.packet.Entry.{Entry}
-use Rattle.fabric.specs.declared.packet.Entry.TheVariants.{Blue, Red, Repair}
+use Rattle.fabric_script.specs.declared.entry.Entry.{Entry}
+use Rattle.fabric_script.specs.declared.entry.Entry.TheVariants.{Blue, Red, Repair}
 use Rattle.fabric.specs.declared.packet.Packet.{Packet}
 use Rattle.fabric.specs.declared.packet.State.TheVariants.{Going}
 use Rattle.primary_alt.specs.Routers.{IsRouter}

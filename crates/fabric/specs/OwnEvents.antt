@@ -6,7 +6,7 @@ use Rattle.fabric.specs.declared.event.Event.TheVariants.{Fail, Inject, Step}
 use Rattle.fabric.specs.declared.event.Failure.{Failure}
 use Rattle.fabric.specs.declared.event.Outcome.TheVariants as outcomes
 use Rattle.fabric.specs.declared.event.Refused.TheVariants.{Ended}
-use Rattle.fabric.specs.declared.packet.Entry.{Entry}
+use Rattle.fabric_script.specs.declared.entry.Entry.{Entry}
 
 -- what concerns a packet: it enters, it has a step, an element fails
 pub data OwnEvent : Type 0 where

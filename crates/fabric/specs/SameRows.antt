@@ -3,7 +3,7 @@ use Rattle.std.specs.Prelude.{◌≡◌, ℕ, Contains, List, Some}
 use Rattle.fabric.specs.FabricParts.{FabricParts, node_at}
 use Rattle.fabric.specs.declared.event.Event.{Event}
 use Rattle.fabric.specs.declared.event.Event.TheVariants.{Inject}
-use Rattle.fabric.specs.declared.packet.Entry.{Entry}
+use Rattle.fabric_script.specs.declared.entry.Entry.{Entry}
 use Rattle.mrt_graph.specs.Rows.{AreSameFor, Rows}
 
 -- the parts with these rows in place of their own

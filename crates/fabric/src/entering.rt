@@ -6,9 +6,10 @@ ghost use Rattle.fabric.specs.{FabricParts.ArePartsKept, FabricState.entering, F
 
 use crate::event::Failure;
 use crate::island::{is_at_network, node_of};
-use crate::packet::{Entry, Mode, Packet, State};
+use crate::packet::{Mode, Packet, State};
 use crate::parts::Parts;
 use area_graph::Spot;
+use fabric_script::Entry;
 use mrt_graph::{Color, RowsOf};
 
 /// Whether a packet may enter at a node for another one.

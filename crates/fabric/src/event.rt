@@ -1,8 +1,9 @@
 //! Events, and the answers to them.
 
 use crate::numbers::PacketNo;
-use crate::packet::{Entry, Loss};
+use crate::packet::Loss;
 use area_graph::{BondNo, Spot};
+use fabric_script::Entry;
 use mrt_graph::Color;
 
 /// A node or a bond of the area that fails.

@@ -26,7 +26,7 @@ pub use lines::{outcome_line, push_answer_line};
 pub use loss_law::losses_have_their_causes;
 pub use numbers::PacketNo;
 pub use order_law::own_events_decide_the_answers;
-pub use packet::{Entry, Loss, Mode, Packet, State};
+pub use packet::{Loss, Mode, Packet, State};
 pub use packet_law::{
     a_switched_packet_is_never_lost, no_place_twice, one_change_of_mode, packets_end,
 };

@@ -3,14 +3,6 @@
 use area_graph::Spot;
 use mrt_graph::Color;
 
-/// How a packet enters: on a color, or in primary mode, to be repaired where a failure cuts its hop.
-#[derive(Clone, Copy, PartialEq, Eq)]
-pub enum Entry {
-    Blue,
-    Red,
-    Repair,
-}
-
 /// By what a packet is sent: by the primaries, or by the rows of a color, on which it entered or to which it was
 /// switched.
 #[derive(Clone, Copy, PartialEq, Eq)]

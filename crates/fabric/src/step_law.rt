@@ -3,7 +3,8 @@
 ghost use Rattle.std.specs.Prelude.{◌≡◌, ◌≢◌, ℕ, Err, List, Some, slice_get};
 ghost use Rattle.fabric.specs.{Answers.IsAnswer, FabricParts.ArePartsKept, FabricParts.FabricParts, FabricStep.FabricStep, Runs.IsRun};
 ghost use Rattle.fabric.specs.{Served.AreRowsOn, declared.event.Event.Event, declared.event.Failure.Failure, declared.event.Refused.Refused};
-ghost use Rattle.fabric.specs.{declared.packet.Entry.Entry, declared.packet.Packet.Packet};
+ghost use Rattle.fabric.specs.declared.packet.Packet.{Packet};
+ghost use Rattle.fabric_script.specs.declared.entry.Entry.{Entry};
 ghost use Rattle.fabric.specs.FabricState.{Answer, FabricState, start};
 ghost use Rattle.fabric.specs.declared.event.Event.TheVariants as events;
 

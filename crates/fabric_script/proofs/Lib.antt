@@ -1,16 +1,6 @@
-pub mod ByDestinations
-pub mod Entered
-pub mod Gathered
 pub mod LeastRoom
 pub mod LinesSay
 pub mod NamesRead
 pub mod NamesSpelled
-pub mod NotThere
-pub mod OneText
-pub mod Placed
-pub mod RunsOn
-pub mod ServedEvents
 pub mod SpellingsTold
 pub mod StepsRead
-pub mod StepsTold
-pub mod TraceTold

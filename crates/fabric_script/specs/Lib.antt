@@ -1,10 +1,4 @@
-pub mod Destinations
-pub mod NamedEvents
 pub mod Names
-pub mod RunTexts
-pub mod ScriptLines
 pub mod ScriptFaults
+pub mod ScriptLines
 pub mod Taking
-pub mod Told
-pub mod Unstepped
-pub mod Trace

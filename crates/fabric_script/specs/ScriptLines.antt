@@ -4,8 +4,8 @@ use Rattle.std.specs.Option.{option_and_then, option_map}
 use Rattle.std.specs.Str.{bytes_eq}
 use Rattle.mrt_graph.specs.Spelling.{address_in, number_in}
 use Rattle.mrt_graph.specs.TextLines.{words_of}
-use Rattle.fabric.specs.declared.packet.Entry.{Entry}
-use Rattle.fabric.specs.declared.packet.Entry.TheVariants.{Blue, Red, Repair}
+use Rattle.fabric_script.specs.declared.entry.Entry.{Entry}
+use Rattle.fabric_script.specs.declared.entry.Entry.TheVariants.{Blue, Red, Repair}
 use Rattle.fabric_script.specs.declared.event.ScriptEvent.{ScriptEvent}
 use Rattle.fabric_script.specs.declared.event.ScriptEvent.TheVariants.{Fail, Inject, Step}
 use Rattle.fabric_script.specs.declared.line.Start.{Start}

@@ -1,6 +1,6 @@
 //! What the lines of a script say.
 
-use fabric::Entry;
+use crate::entry::Entry;
 use mrt_graph::NodeId;
 
 /// What has failed, by name: a node, or the link of a router with this link data.

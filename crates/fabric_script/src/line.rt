@@ -6,9 +6,9 @@ ghost use Rattle.fabric_script.specs.Names.{failure_in};
 ghost use Rattle.mrt_graph.specs.TextLines.{words_of};
 ghost use Rattle.fabric_script.specs.ScriptLines.{entry_in, event_in, event_in_words, injection_in, packet_in, room_in, start_in, start_in_words};
 
+use crate::entry::Entry;
 use crate::event::ScriptEvent;
 use crate::names::{read_failure, read_node};
-use fabric::Entry;
 use mrt_graph::{first_word, read_address, read_number};
 
 /// What the first line says: a router, and how many packets there may be.

@@ -1,7 +1,7 @@
 //! What is asked for by a trace.
 
+use crate::entry::Entry;
 use crate::event::FailureName;
-use fabric::Entry;
 use mrt_graph::NodeId;
 
 /// From which router to which node a packet is to go, how it enters, and what has failed before, if anything has.

@@ -23,7 +23,7 @@ use Rattle.fabric.specs.Served.{AreRowsOn}
 use Rattle.fabric.specs.declared.event.Event.{Event}
 use Rattle.fabric_script.specs.declared.script.Script.{Script}
 use Rattle.fabric_script.specs.declared.trace.Trace.{Trace as PacketTrace}
-use Rattle.fabric_script.specs.RunTexts.{IsScriptText, IsTraceText}
+use Rattle.fabric_runs.specs.RunTexts.{IsScriptText, IsTraceText}
 use Rattle.fabric_script.specs.ScriptFaults.{IsFirstFault as IsFirstFaultOfScript, IsScript}
 use Rattle.lsdb.specs.Installing.{IsKept}
 use Rattle.lsdb.specs.Orders.{newest_in}

@@ -4,7 +4,7 @@ use Rattle.area_graph.specs.Fits.{Fits}
 use Rattle.fabric.specs.FabricParts.{FabricParts}
 use Rattle.fabric_script.specs.declared.script.Script.{Script}
 use Rattle.fabric_script.specs.declared.trace.Trace.{Trace}
-use Rattle.fabric_script.specs.RunTexts.{IsScriptText, IsTraceText}
+use Rattle.fabric_runs.specs.RunTexts.{IsScriptText, IsTraceText}
 use Rattle.fabric_script.specs.ScriptFaults.{IsFirstFault, IsScript}
 use Rattle.mrt_graph.specs.declared.cert.CertFile.{CertFile}
 use Rattle.mrt_graph.specs.Certificate.{row_of}

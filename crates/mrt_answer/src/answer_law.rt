@@ -14,7 +14,8 @@ ghost use Rattle.mrt_answer.specs.Flooded.{GivesFlood, HoldsFlood, IsRefusedFloo
 use crate::survey_law::made_networks_are_taken;
 use area_graph::the_newest_records_give_an_area;
 use cert_format::one_spelling;
-use fabric_script::{lines_are_a_script_or_have_a_fault, one_text_each};
+use fabric_runs::one_text_each;
+use fabric_script::lines_are_a_script_or_have_a_fault;
 use flood_core::bytes_are_updates_or_have_a_fault;
 use flood_script::{
     lines_are_a_flood_script_or_have_a_fault, one_text_each as one_flood_text_each,

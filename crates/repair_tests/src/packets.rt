@@ -6,9 +6,8 @@ ghost use Rattle.primary_alt.specs.RoutesMade.{AreMadeWith};
 
 use crate::networks::{Network, network_of};
 use area_graph::{BondNo, Spot};
-use fabric::{
-    Entry, Event, Fabric, Failure, PacketNo, a_certificate_serves_each_event, outcome_line,
-};
+use fabric::{Event, Fabric, Failure, PacketNo, a_certificate_serves_each_event, outcome_line};
+use fabric_script::Entry;
 use mrt_graph::NoMemory;
 use parts_of_tests::{LAN, LINE, LsaTold, TRIANGLE};
 use std::alloc::Global;

@@ -1,0 +1,10 @@
+pub mod ByDestinations
+pub mod Entered
+pub mod Gathered
+pub mod NotThere
+pub mod OneText
+pub mod Placed
+pub mod RunsOn
+pub mod ServedEvents
+pub mod StepsTold
+pub mod TraceTold
