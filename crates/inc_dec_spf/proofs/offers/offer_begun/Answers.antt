@@ -20,6 +20,29 @@ end_is : (g : Topology) (x place : ℕ) (ends : List End) (end : End) → AreEnd
 end_is g x place ends end kept below item =
     all_at (IsEnd (length g.ids) g.links x) ends place end kept.kept (slice_get_read ends (length ends) place end refl below item)
 
+pub mark-mark-requires : goal.mark-mark-requires
+mark-mark-requires c =
+    let is = end_is c.args.opening.now.graph.now c.args.source c.loop-place.place c.ends-end-items.result.now c.end-item.result c.ends-end-items.ensures.kept
+    c.loop-place-test.true c.end-item.is in
+    omega (arith, is.link, c.requires.opening.directed.are.says.one_mark_each)
+
+pub overflow_mul-at : goal.overflow_mul-at
+overflow_mul-at c =
+    let g = c.args.opening.now.graph.now in
+    let is = end_is g c.args.source c.loop-place.place c.ends-end-items.result.now c.end-item.result c.ends-end-items.ensures.kept c.loop-place-test.true c.end-item.is in
+    let row = row_within c.end-item.result.to (length g.ids) c.args.width (length c.loop-place.costs) (c.loop-place.auto.costs ∙ c.requires.room) is.to in
+    omega (arith, row, ap (λ (v : ℕ). v * c.args.width) c.get.ensures.value)
+
+pub overflow_add-at : goal.overflow_add-at
+overflow_add-at c =
+    let g = c.args.opening.now.graph.now in
+    let is = end_is g c.args.source c.loop-place.place c.ends-end-items.result.now c.end-item.result c.ends-end-items.ensures.kept c.loop-place-test.true c.end-item.is in
+    let row = row_within c.end-item.result.to (length g.ids) c.args.width (length c.loop-place.costs) (c.loop-place.auto.costs ∙ c.requires.room) is.to in
+    omega (arith, row, c.requires.place, ap (λ (v : ℕ). v * c.args.width) c.get.ensures.value)
+
+pub offer_at-requires-clause-lanes : goal.offer_at-requires-clause-lanes
+offer_at-requires-clause-lanes c = c.loop-place.invariant.lanes
+
 pub loop-place-init : goal.loop-place-init
 loop-place-init c = record {
   lanes = c.requires.lanes;

@@ -1,6 +1,10 @@
-use Rattle.std.proofs.Common.{◌≡◌, ◌*◌, ◌∙◌, ℕ, length, inl, inr, refl, sym, ap, arith}
+use Rattle.std.proofs.Common.{◌≡◌, ◌<◌, ◌*◌, ◌∙◌, ℕ, List, get_or, length, inl, inr, refl, sym, ap, arith}
 use Rattle.std.proofs.lemmas.Bool.{eqb-false, eqb-true}
 use Rattle.std.proofs.lemmas.Option.{slice_get_read}
+use Rattle.mrt_graph.specs.declared.link.End.{End}
+use Rattle.mrt_graph.specs.GraphInvariant.{AreEnds, IsEnd}
+use Rattle.mrt_graph.specs.Topology.{Topology}
+use Rattle.mrt_graph.proofs.ListTests.{all_at}
 use Rattle.inc_dec_spf.specs.Known.{IsOver, known_at}
 use Rattle.inc_dec_spf.specs.Offers.{IsFurtherOffer}
 use Rattle.inc_dec_spf.proofs.EndsOffer.{further_back, further_is, further_not}
@@ -8,8 +12,44 @@ use Rattle.link_direction.proofs.TwoNodes.{place_says}
 use Rattle.inc_dec_spf.proofs.InBlocks.{step_early}
 use Rattle.inc_dec_spf.proofs.Marks.{IsMarkedEnd}
 use Rattle.inc_dec_spf.proofs.Offering.{none_yet, offered_all, offered_more, offered_none}
+use Rattle.inc_dec_spf.proofs.SideBySide.{row_within}
 use Rattle.inc_dec_spf.proofs.offers.offer_on.Goals as goal
 use Rattle.inc_dec_spf.proofs.offers.offer_on.Goals.{then-eq+then-leads_on, else-eq, else-eq-via-then-eq+else-leads_on, else-eq-via-else-eq}
+
+-- the end at a place of a node's ends
+end_is : (g : Topology) (x place : ℕ) (ends : List End) (end : End) → AreEnds (length g.ids) g.links x ends → place < length ends → end ≡ get_or ends place end
+    → IsEnd (length g.ids) g.links x end
+end_is g x place ends end kept below item =
+    all_at (IsEnd (length g.ids) g.links x) ends place end kept.kept (slice_get_read ends (length ends) place end refl below item)
+
+pub mark-mark-requires : goal.mark-mark-requires
+mark-mark-requires c =
+    let is = end_is c.args.opening.now.graph.now c.args.x c.loop-end.end-index c.ends-end-items.result.now c.end-item.result c.ends-end-items.ensures.kept c.loop-end-test.true c.end-item.is in
+    omega (arith, is.link, c.requires.opening.directed.are.says.one_mark_each)
+
+pub overflow_mul-at : goal.overflow_mul-at
+overflow_mul-at c =
+    let g = c.args.opening.now.graph.now in
+    let is = end_is g c.args.x c.loop-end.end-index c.ends-end-items.result.now c.end-item.result c.ends-end-items.ensures.kept c.loop-end-test.true c.end-item.is in
+    let row = row_within c.get.result (length g.ids) (length c.args.from_costs.now) (length c.loop-end.costs) (c.loop-end.auto.costs ∙ c.requires.room)
+    (omega (arith, is.to, c.get.ensures.value)) in
+    omega (arith, row)
+
+pub offer_over-requires-clause-room : goal.offer_over-requires-clause-room
+offer_over-requires-clause-room c =
+    let g = c.args.opening.now.graph.now in
+    let is = end_is g c.args.x c.loop-end.end-index c.ends-end-items.result.now c.end-item.result c.ends-end-items.ensures.kept c.loop-end-test.true c.end-item.is in
+    row_within c.get.result (length g.ids) (length c.args.from_costs.now) (length c.loop-end.costs) (c.loop-end.auto.costs ∙ c.requires.room)
+    (omega (arith, is.to, c.get.ensures.value))
+
+pub offer_over-requires-clause-lanes : goal.offer_over-requires-clause-lanes
+offer_over-requires-clause-lanes c = c.loop-end.invariant.lanes
+
+pub offer_over-requires-clause-from : goal.offer_over-requires-clause-from
+offer_over-requires-clause-from c = c.requires.from
+
+pub offer_over-requires-clause-low : goal.offer_over-requires-clause-low
+offer_over-requires-clause-low c = c.requires.low
 
 pub loop-end-init : goal.loop-end-init
 loop-end-init c = record {

@@ -1,12 +1,15 @@
 use Rattle.std.proofs.Common.{rules, ◌≡◌, ◌∙◌, ◌<◌, ℕ, Bool, false, true, List, Some, get_or, length, slice_get, refl, sym, ap, subst, arith}
+use Rattle.std.proofs.lemmas.Bool.{false≢true}
 use Rattle.std.proofs.lemmas.List.{get_or-replicate}
 use Rattle.std.proofs.lemmas.Option.{same_Some, slice_get-get_or, slice_get_read}
 use Rattle.mrt_graph.specs.declared.gadag.Mark.{Mark}
 use Rattle.mrt_graph.specs.declared.link.End.{End}
 use Rattle.mrt_graph.specs.DirectedLists.{DirectedLists}
-use Rattle.mrt_graph.specs.GraphInvariant.{IsTopology}
+use Rattle.mrt_graph.specs.GraphInvariant.{AreEnds, IsEnd, IsTopology}
 use Rattle.mrt_graph.specs.Topology.{Topology}
 use Rattle.mrt_graph.proofs.EndsAt.{end_leads}
+use Rattle.mrt_graph.proofs.ListTests.{all_at}
+use Rattle.inc_dec_spf.specs.Aiming.{AreRows, IsAiming}
 use Rattle.inc_dec_spf.specs.HasDirections.{HasDirections}
 use Rattle.inc_dec_spf.specs.Rest.{far}
 use Rattle.inc_dec_spf.specs.Side.{AreTaken}
@@ -28,6 +31,35 @@ block_within g d x place ends end mark kept has list below read at =
     let it = inside_of_link g has.root has.directions end.link x end.to (record { kept = kept; ordered = has.are.ordered }) (end_leads g x place ends end kept list marked.there) in
     subst (λ (b : ℕ). b < length g.ids) (it.in_block ∙ sym (marked_block g d has.directions x place ends end mark kept has.are.says marked))
     (has.are.ordered.heads.block_within it.m it.within)
+
+-- the end at a place of a node's ends
+end_is : (g : Topology) (x place : ℕ) (ends : List End) (end : End) → AreEnds (length g.ids) g.links x ends → place < length ends → end ≡ get_or ends place end
+    → IsEnd (length g.ids) g.links x end
+end_is g x place ends end kept below item =
+    all_at (IsEnd (length g.ids) g.links x) ends place end kept.kept (slice_get_read ends (length ends) place end refl below item)
+
+pub mark-mark-requires : goal.mark-mark-requires
+mark-mark-requires c =
+    let is = end_is c.args.aiming.now.graph.now c.args.x c.loop-end.end-index c.ends-end-items.result.now c.end-item.result c.ends-end-items.ensures.kept c.loop-end-test.true c.end-item.is in
+    omega (arith, is.link, c.requires.aiming.directed.are.says.one_mark_each)
+
+pub take_leg-requires-clause-node : goal.take_leg-requires-clause-node
+take_leg-requires-clause-node c =
+    (end_is c.args.aiming.now.graph.now c.args.x c.loop-end.end-index c.ends-end-items.result.now c.end-item.result c.ends-end-items.ensures.kept c.loop-end-test.true c.end-item.is).to
+
+pub take_leg-requires-clause-aiming : goal.take_leg-requires-clause-aiming
+take_leg-requires-clause-aiming c = subst (λ (n : ℕ). IsAiming c.args.aiming.now n) (sym (c.loop-end.auto.costs ∙ c.fill.ensures.len)) c.requires.aiming
+
+pub take_leg-requires-clause-one_link_each : goal.take_leg-requires-clause-one_link_each
+take_leg-requires-clause-one_link_each c =
+    c.loop-end.auto.links ∙ c.fill-2.ensures.len ∙ c.requires.one_link_each ∙ sym (c.loop-end.auto.costs ∙ c.fill.ensures.len)
+
+pub take_leg-requires-clause-rows : goal.take_leg-requires-clause-rows
+take_leg-requires-clause-rows c =
+    subst (λ (n : ℕ). AreRows c.args.aiming.now n c.args.all.now) (sym (c.loop-end.auto.costs ∙ c.fill.ensures.len)) c.requires.rows
+
+pub take_leg-requires-clause-most : goal.take_leg-requires-clause-most
+take_leg-requires-clause-most c = c.loop-end.invariant.most
 
 pub loop-end-init : goal.loop-end-init
 loop-end-init c =
@@ -112,7 +144,7 @@ loop-end-preserved c =
               | else-takes_link-via-else-takes_link t' ↦
                   let tells = taken_on d root (sought aiming w) own x place kept ends end mark is are.says marked kept_is on in
                   let yes = c.takes_link.ensures.1 (tells.0, same_Some (get_or wanted c.get.result false) true (sym is_set ∙ tells.1), tells.2) in
-                  let no = t'.if-takes_link.false in (cc)
+                  let no = t'.if-takes_link.false in false≢true (sym no ∙ yes)
             ] in
             all_passed aiming w own width x place ends end c.loop-end.costs c.loop-end.links list there none (c.loop-end.invariant.least root w are ready);
       })

@@ -1,11 +1,46 @@
-use Rattle.std.proofs.Common.{◌≡◌, ◌∙◌, ℕ, List, length, sym, ap, subst, arith}
+use Rattle.std.proofs.Common.{◌≡◌, ◌*◌, ◌∙◌, ℕ, Bool, List, length, sym, ap, subst}
 use Rattle.std.specs.Vec.{with_items}
 use Rattle.std.proofs.lemmas.List.{with_items_is}
 use Rattle.inc_dec_spf.specs.declared.fan.Opening.{Opening}
 use Rattle.inc_dec_spf.specs.Fan.{IsOpen}
 use Rattle.inc_dec_spf.specs.FanEntries.{FanEntries, fan_entries}
-use Rattle.inc_dec_spf.specs.Opening.{AreFirstOffered}
+use Rattle.inc_dec_spf.specs.Opening.{AreFirstOffered, AreStops}
 use Rattle.inc_dec_spf.proofs.fan.Fan.open.Goals as goal
+
+pub begin-requires-clause-costs : goal.begin-requires-clause-costs
+begin-requires-clause-costs c =
+    let fan = c.self.inside in
+    let n = length c.args.g.now.ids in
+    ap (λ (xs : List ℕ). length xs) c.deref_mut.ensures.value ∙ c.self.invariant.one_cost_each
+    ∙ ap (λ (k : ℕ). k * length fan.from_costs.items) (ap (λ (e : FanEntries). e.nodes) c.self.view_is ∙ c.requires.nodes)
+    ∙ ap (λ (m : ℕ). n * m) (sym (c.len-width.ensures ∙ fan.from_costs.ok.0))
+
+pub begin-requires-clause-places : goal.begin-requires-clause-places
+begin-requires-clause-places c =
+    let fan = c.self.inside in
+    let n = length c.args.g.now.ids in
+    ap (λ (xs : List ℕ). length xs) c.deref_mut-2.ensures.value ∙ c.self.invariant.one_place_each
+    ∙ ap (λ (k : ℕ). k * length fan.from_costs.items) (ap (λ (e : FanEntries). e.nodes) c.self.view_is ∙ c.requires.nodes)
+    ∙ ap (λ (m : ℕ). n * m) (sym (c.len-width.ensures ∙ fan.from_costs.ok.0))
+
+pub begin-requires-clause-stops : goal.begin-requires-clause-stops
+begin-requires-clause-stops c =
+    ap (λ (bs : List Bool). length bs) c.deref_mut-3.ensures.value ∙ ap (λ (e : FanEntries). e.nodes) c.self.view_is ∙ c.requires.nodes
+
+pub sweep-requires-clause-stops : goal.sweep-requires-clause-stops
+sweep-requires-clause-stops c =
+    let fan = c.self.inside in
+    let stops = c.deref.ensures.value ∙ with_items_is fan.stops c.begin.new.stops (c.begin.auto.stops ∙ c.deref_mut-3.ensures.len) in
+    let width : c.len-width.result ≡ length c.deref_mut-6.result.now =
+    c.len-width.ensures ∙ fan.from_costs.ok.0 ∙ sym (ap (λ (xs : List ℕ). length xs) c.deref_mut-6.ensures.value) in
+    let opening : Opening = record { graph = c.args.g; directed = c.args.d; dir = c.args.dir; turns = c.args.turns; first = c.args.first } in
+    subst (λ (m : ℕ). AreStops opening m c.deref.result.now) width
+    (subst (λ (bs : List Bool). AreStops opening c.len-width.result bs) (sym stops) c.begin.ensures.stops)
+
+pub sweep-requires-clause-from_places : goal.sweep-requires-clause-from_places
+sweep-requires-clause-from_places c =
+    ap (λ (xs : List ℕ). length xs) c.deref_mut-7.ensures.value ∙ c.self.invariant.one_source_each
+    ∙ sym (ap (λ (xs : List ℕ). length xs) c.deref_mut-6.ensures.value)
 
 pub sweep-requires-clause-begun : goal.sweep-requires-clause-begun
 sweep-requires-clause-begun c =
@@ -13,7 +48,7 @@ sweep-requires-clause-begun c =
     let costs = c.deref_mut-4.ensures.value ∙ with_items_is fan.costs c.begin.new.costs (c.begin.auto.costs ∙ c.deref_mut.ensures.len) in
     let places = c.deref_mut-5.ensures.value ∙ with_items_is fan.places c.begin.new.places (c.begin.auto.places ∙ c.deref_mut-2.ensures.len) in
     let width : c.len-width.result ≡ length c.deref_mut-6.result.now =
-    omega (arith, c.len-width.ensures, fan.from_costs.ok.0, ap (λ (xs : List ℕ). length xs) c.deref_mut-6.ensures.value) in
+    c.len-width.ensures ∙ fan.from_costs.ok.0 ∙ sym (ap (λ (xs : List ℕ). length xs) c.deref_mut-6.ensures.value) in
     let opening : Opening = record { graph = c.args.g; directed = c.args.d; dir = c.args.dir; turns = c.args.turns; first = c.args.first } in
     subst (λ (m : ℕ). AreFirstOffered opening m c.deref_mut-4.result.now c.deref_mut-5.result.now) width
     (subst (λ (xs : List ℕ). AreFirstOffered opening c.len-width.result xs c.deref_mut-5.result.now) (sym costs)

@@ -1,12 +1,12 @@
-use Rattle.std.proofs.Common.{rules, ◌≡◌, ◌∙◌, ◌<◌, ℕ, Bool, List, false, true, Some, get_or, length, slice_index, inl, inr, sym, ap, subst, arith}
+use Rattle.std.proofs.Common.{◌≡◌, ◌∙◌, ◌<◌, ◌*◌, ℕ, Bool, List, false, true, Some, get_or, length, slice_index, inl, inr, sym, ap, subst, arith}
 use Rattle.std.specs.Vec.{with_items}
-use Rattle.std.proofs.lemmas.Bool.{cases_Bool, cases_eq}
+use Rattle.std.proofs.lemmas.Bool.{cases_Bool, cases_eq, false≢true}
 use Rattle.std.proofs.lemmas.List.{with_items_is}
 use Rattle.std.proofs.lemmas.Option.{same_Some, slice_get-get_or}
 use Rattle.mrt_graph.proofs.EndsAt.{list_of_ends}
 use Rattle.inc_dec_spf.specs.Aiming.{HaveOwnWays, IsAiming}
 use Rattle.inc_dec_spf.specs.FirstLink.{HasLinksAt}
-use Rattle.inc_dec_spf.specs.Side.{IsRowPut}
+use Rattle.inc_dec_spf.specs.Side.{AreCosts, IsRowPut}
 use Rattle.inc_dec_spf.specs.TileEntries.{TileEntries}
 use Rattle.inc_dec_spf.specs.Ways.{AreLeast, AreReady}
 use Rattle.link_direction.proofs.ClosedBlocks.{IsOrdered}
@@ -37,10 +37,20 @@ loop-n-init c =
     let own : HaveOwnWays aiming width costs_now links_now = subst (λ (n : ℕ). HaveOwnWays aiming n costs_now links_now) wide
     (subst (λ (xs : List ℕ). HaveOwnWays aiming many xs links_now) (sym all_costs)
     (subst (λ (ys : List ℕ). HaveOwnWays aiming many c.take_own_ways.new.all_costs ys) (sym all_links) c.take_own_ways.ensures.own)) in
+    let cost_room = ap (λ (xs : List ℕ). length xs) costs ∙ c.take_own_ways.auto.costs ∙ ap (λ (xs : List ℕ). length xs) c.deref_mut-3.ensures.value in
+    let link_room = ap (λ (xs : List ℕ). length xs) links ∙ c.take_own_ways.auto.links ∙ ap (λ (xs : List ℕ). length xs) c.deref_mut-4.ensures.value in
+    let wider = ap (λ (m : ℕ). tile.nodes * m) (sym cost_room) in
     record {
-      nodes = search rules;
-      width = search rules;
-      kept = search rules;
+      nodes = ap (λ (e : TileEntries). e.nodes) c.self.view_is;
+      width = cost_room ∙ view_width;
+      kept = record {
+        one_cost_each = ap (λ (xs : List ℕ). length xs) all_costs ∙ c.take_own_ways.auto.all_costs ∙ ap (λ (xs : List ℕ). length xs) c.deref_mut.ensures.value
+            ∙ c.self.invariant.one_cost_each ∙ wider;
+        one_link_each = ap (λ (xs : List ℕ). length xs) all_links ∙ c.take_own_ways.auto.all_links ∙ ap (λ (xs : List ℕ). length xs) c.deref_mut-2.ensures.value
+            ∙ c.self.invariant.one_link_each ∙ wider;
+        most = subst AreCosts (sym all_costs) c.take_own_ways.ensures.rows.most;
+        one_place_each = link_room ∙ c.self.invariant.one_place_each ∙ sym cost_room;
+      };
       own = own;
       linked = λ root s w are within at. elim at [
         | inl one ↦ (own root s w are within).linked one
@@ -75,10 +85,20 @@ loop-n-preserved c =
           (subst (λ (xs : List ℕ). IsRowPut s (length xs) (λ j. slice_index xs j) t.deref_mut-then-heads-n-3.result.now all)
           (t.deref-then-heads-n.ensures.value ∙ links) t.keep.ensures)) in
           let s_within : s < length g.ids = omega (arith, t.new-s.ensures, c.loop-n-test.true, c.node_count-n-end.ensures.count) in
+          let costs = with_items_is tile.costs t.take_ways.new.costs (t.take_ways.auto.costs ∙ t.deref_mut-then-heads-n.ensures.len) in
+          let cost_room = ap (λ (xs : List ℕ). length xs) costs ∙ t.take_ways.auto.costs ∙ ap (λ (xs : List ℕ). length xs) t.deref_mut-then-heads-n.ensures.value in
+          let link_room = ap (λ (xs : List ℕ). length xs) links ∙ t.take_ways.auto.links ∙ ap (λ (xs : List ℕ). length xs) t.deref_mut-then-heads-n-2.ensures.value in
+          let wider = ap (λ (m : ℕ). tile.nodes * m) (sym cost_room) in
           rw (t.self-inside-is) (record {
-            nodes = search rules;
-            width = search rules;
-            kept = search rules;
+            nodes = before.nodes;
+            width = cost_room ∙ before.width;
+            kept = record {
+              one_cost_each = before.kept.one_cost_each ∙ wider;
+              one_link_each = ap (λ (xs : List ℕ). length xs) all_links ∙ t.keep.auto.all ∙ ap (λ (xs : List ℕ). length xs) t.deref_mut-then-heads-n-3.ensures.value
+                  ∙ before.kept.one_link_each ∙ wider;
+              most = before.kept.most;
+              one_place_each = link_room ∙ before.kept.one_place_each ∙ sym cost_room;
+            };
             own = before.own;
             linked = λ root y w are within at.
                 subst (λ (xs : List ℕ). HasLinksAt g w aiming.wanted.now aiming.dir aiming.aims.now width xs y) (sym all_links) (elim (cases_eq y s) [
@@ -90,7 +110,7 @@ loop-n-preserved c =
                       (subst (λ (xs : List ℕ). AreReady aiming w false width xs s) (sym t.deref.ensures.value) ready) in
                       subst (λ (v : ℕ). HasLinksAt g w aiming.wanted.now aiming.dir aiming.aims.now width all v) (sym same)
                       (links_kept aiming root w is false s width ends.0 t.take_ways.new.costs t.take_ways.new.links tile.all_links.items all s_within ends.1
-                      (λ u k h inside share own. (cc))
+                      (λ u k h inside share own. absurd (false≢true own))
                       (subst (λ (m : ℕ). AreLeast aiming w false m s ends.0 (length ends.0) t.take_ways.new.costs t.take_ways.new.links) wide
                       (t.take_ways.ensures.least root w ends.0 are ready_now ends.1)) put)
                   | inr other ↦
@@ -112,7 +132,7 @@ loop-n-preserved c =
             | inl same ↦
                 let here = slice_get-get_or heads y false (omega (arith, within, c.requires.heads)) in
                 let clear = here ∙ ap (λ (b : Bool). Some b) (ap (λ (k : ℕ). get_or heads k false) same ∙ t.if-heads-n.false) in
-                let no = same_Some false true (sym clear ∙ early.1) in absurd (cc)
+                let no = same_Some false true (sym clear ∙ early.1) in absurd (false≢true no)
             | inr other ↦ inr (omega (arith, early.0, other), early.1)
           ]
         ]);
