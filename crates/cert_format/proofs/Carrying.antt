@@ -16,7 +16,6 @@ use Rattle.mrt_graph.specs.RowPlace.{place_of_row}
 use Rattle.mrt_graph.specs.RowRules.{same_links}
 use Rattle.mrt_graph.specs.Tags.{carried, is_near, same_tag}
 use Rattle.mrt_graph.proofs.ListPlaces.{set_elsewhere, set_there}
-use Rattle.mrt_graph.proofs.ListTests.{there}
 use Rattle.mrt_graph.proofs.Relations.{not_with_lower, unrelated_tells}
 use Rattle.mrt_graph.proofs.RowPlaces.{column_above, column_below, row_at}
 use Rattle.cert_format.specs.Down.{IsDown}

@@ -5,6 +5,7 @@ use Rattle.std.proofs.lemmas.Bool.{cases_Bool, cases_eq, ne_eqb}
 use Rattle.std.proofs.lemmas.List.{append-nil}
 use Rattle.mrt_graph.specs.Certificate.{IsCertLink, IsCertNode, certificate_of}
 use Rattle.mrt_graph.specs.declared.cert.CertFile.{CertFile}
+use Rattle.mrt_graph.specs.declared.cert.CertLink.{CertLink}
 use Rattle.mrt_graph.specs.declared.cert.CertNode.{CertNode}
 use Rattle.mrt_graph.specs.declared.cert.Row.{Row}
 use Rattle.mrt_graph.proofs.Bytes.{IsBytes}
@@ -18,7 +19,7 @@ use Rattle.cert_format.specs.Folded.{head_fault}
 use Rattle.cert_format.specs.Layout.{End, after_nodes, collected, link_form, node_form, repeated, row_form}
 use Rattle.cert_format.specs.Limits.{IsCertFile}
 use Rattle.cert_format.specs.Parts.{IsWhole, Parts, text_of}
-use Rattle.cert_format.specs.Reading.{IsFileRow, IsNode}
+use Rattle.cert_format.specs.Reading.{IsFileRow, IsHeader, IsListOf, IsNode}
 use Rattle.cert_format.specs.Taking.{IsTail}
 use Rattle.cert_format.specs.Versions.{row_count, stray_head, tag_count}
 use Rattle.cert_format.proofs.Certain.{none_is}
@@ -59,6 +60,48 @@ filled_in header parts whole = elim (cases_eq header.version 1) [
       (rows.0, filled_two header parts rows.0 whole other rows.1)
 ]
 
+at_most : (a b : ℕ) → a ≡ b → a ≤ b
+at_most a b e = omega arith
+
+no_fewer : (a b : ℕ) → a ≡ b → a < b → ⊥
+no_fewer a b e fewer = omega arith
+
+-- the lists that a header announces
+abbrev parts_with : Header → List CertNode → List CertLink → List Row → List ℕ → Parts
+parts_with header nodes links rows down = record { header = Some header; nodes = nodes; links = links; rows = rows; row_count = row_count header.version nodes; down = down }
+
+are_whole : (header : Header) (nodes : List CertNode) (links : List CertLink) (rows : List Row) (down : List ℕ) → IsHeader header.version header.nodes header.links header.root
+    → IsListOf header.nodes (IsNode header.nodes) nodes → IsListOf header.links (IsCertLink (length nodes)) links → IsListOf (row_count header.version nodes) (IsFileRow (tag_count header.version) header.links) rows
+    → stray_head header.version nodes ≡ None → (header.version ≡ 1) ⊎ IsDown (certificate_of nodes [] []) down → IsWhole header (parts_with header nodes links rows down)
+are_whole header nodes links rows down is n l r heads told = record {
+  header = refl;
+  under = record {
+    header = is;
+    few_nodes = at_most (length nodes) header.nodes n.many;
+    few_links = at_most (length links) header.links l.many;
+    few_rows = at_most (length rows) (row_count header.version nodes) r.many;
+    nodes = n.each;
+    links = subst (λ (k : ℕ). AllByRecursion (IsCertLink k) links) n.many l.each;
+    rows = r.each;
+    nodes_first = λ fewer. absurd (no_fewer (length nodes) header.nodes n.many fewer);
+    links_first = λ fewer. absurd (no_fewer (length links) header.links l.many fewer);
+    shape = λ _. record { many = refl; heads = heads; listed = told };
+  };
+  nodes = n.many;
+  links = l.many;
+  rows = r.many;
+}
+
+-- the file whose parts these are
+file_with : (bytes : List ℕ) (header : Header) (parts : Parts) → IsWhole header parts → bytes ≡ text_of parts → first_fault bytes ≡ None → (f : CertFile) × IsCertFile f × (bytes ≡ cert_text f)
+file_with bytes header parts whole text none =
+    let all : text_of parts ++ [] ≡ bytes = append-nil (text_of parts) ∙ sym text in
+    let tail : IsTail parts [] = record { faultless = none_is (text_of parts ++ []) (ap first_fault all ∙ none); short = inl refl } in
+    let rows = filled_in header parts whole in
+    let f : CertFile = record { version = header.version; root = header.root; cert = certificate_of parts.nodes parts.links rows.0 } in
+    let file = whole_file parts header [] rows.0 whole tail rows.1 in
+    (f, file.0, sym all ∙ same_stream (text_of parts ++ []) (cert_text f) file.1)
+
 pub file_spelled : (bytes : List ℕ) → IsBytes bytes → first_fault bytes ≡ None → (f : CertFile) × IsCertFile f × (bytes ≡ cert_text f)
 file_spelled bytes are none =
     let h = header_read (λ version nodes links. collected nodes (node_form nodes) (after_nodes version links)) 0 bytes are none in
@@ -72,35 +115,11 @@ file_spelled bytes are none =
     (sym (heads_pass header.version header.links n.at n.one n.rest heads) ∙ n.faultless) in
     let r = repeated_read (row_form tags header.links) row_text (IsFileRow tags header.links) (row_read tags header.links (few_tag_count header.version)) rows_left End l.at l.rest l.are l.faultless in
     let down = listed header.version n.one heads in
-    let parts : Parts = record { header = Some header; nodes = n.one; links = l.one; rows = r.one; row_count = rows_left; down = down.0 } in
-    let whole : IsWhole header parts = record {
-      header = refl;
-      under = record {
-        header = h.keeps;
-        few_nodes = omega (arith, n.keeps.many);
-        few_links = omega (arith, l.keeps.many);
-        few_rows = omega (arith, r.keeps.many);
-        nodes = n.keeps.each;
-        links = subst (λ (k : ℕ). AllByRecursion (IsCertLink k) l.one) n.keeps.many l.keeps.each;
-        rows = r.keeps.each;
-        nodes_first = λ fewer. absurd (omega (arith, fewer, n.keeps.many));
-        links_first = λ fewer. absurd (omega (arith, fewer, l.keeps.many));
-        shape = λ _. record { many = refl; heads = heads; listed = down.1 };
-      };
-      nodes = n.keeps.many;
-      links = l.keeps.many;
-      rows = r.keeps.many;
-    } in
-    let text : bytes ≡ text_of parts =
+    let text : bytes ≡ text_of (parts_with header n.one l.one r.one down.0) =
     h.spelled ∙ ap (λ (t : List ℕ). header_text header.version header.nodes header.links header.root ++ t)
     (n.spelled ∙ ap (λ (t : List ℕ). flat_map node_text n.one ++ t) (l.spelled ∙ ap (λ (t : List ℕ). flat_map link_text l.one ++ t)
     (r.spelled ∙ ap (λ (t : List ℕ). flat_map row_text r.one ++ t) (end_read r.at r.rest r.faultless) ∙ append-nil (flat_map row_text r.one)))) in
-    let all : text_of parts ++ [] ≡ bytes = append-nil (text_of parts) ∙ sym text in
-    let tail : IsTail parts [] = record { faultless = none_is (text_of parts ++ []) (ap first_fault all ∙ none); short = inl refl } in
-    let rows = filled_in header parts whole in
-    let f : CertFile = record { version = header.version; root = header.root; cert = certificate_of n.one l.one rows.0 } in
-    let file = whole_file parts header [] rows.0 whole tail rows.1 in
-    (f, file.0, sym all ∙ same_stream (text_of parts ++ []) (cert_text f) file.1)
+    file_with bytes header (parts_with header n.one l.one r.one down.0) (are_whole header n.one l.one r.one down.0 h.keeps n.keeps l.keeps r.keeps heads down.1) text none
 
 -- these bytes are a certificate file, or have a first fault
 abbrev pub AreEither : List ℕ → Type 0

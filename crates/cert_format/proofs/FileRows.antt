@@ -1,5 +1,5 @@
 -- The rows that stand in a file.
-use Rattle.std.proofs.Common.{◌≡◌, ◌∙◌, ◌==◌, ◌<◌, ◌≤◌, ◌*◌, ◌-◌, ◌+◌, ◌++◌, ℕ, Bool, cond, take, drop, length-append, true, false, not, List, [], ◌∷◌, Some, filter, length, map, get_or, slice_get, inl, inr, refl, sym, ap, arith}
+use Rattle.std.proofs.Common.{◌≡◌, ◌∙◌, ◌==◌, ◌<◌, ◌≤◌, ◌*◌, ◌-◌, ◌+◌, ◌++◌, ℕ, Bool, cond, take, drop, length-append, true, not, List, [], ◌∷◌, Some, filter, length, map, get_or, slice_get, inl, inr, refl, sym, ap, arith}
 use Rattle.std.proofs.lemmas.Bool.{cases_Bool, cases_eq, eq-eqb, false≢true, ne_eqb}
 use Rattle.std.proofs.lemmas.List.{take-append-drop, same_lists, length-map}
 use Rattle.std.proofs.lemmas.List.Elements.{filter-append, filter_more}

@@ -22,6 +22,8 @@ pub mod PartsText
 pub mod Placings
 pub mod Puttings
 pub mod Room
+pub mod RoomLeft
+pub mod RowTexts
 pub mod SpellingLength
 pub mod Spreading
 pub mod Taking

@@ -2,6 +2,7 @@ use Rattle.std.proofs.Common.{◌∙◌, Ok, None, length, sym, ap, arith}
 use Rattle.std.proofs.lemmas.Result.{err_from_is_err_and}
 use Rattle.cert_format.specs.Held.{held_of}
 use Rattle.cert_format.specs.Parts.{parts_of}
+use Rattle.cert_format.specs.Reading.{Rest}
 use Rattle.cert_format.specs.Taking.{Takes, TookParts}
 use Rattle.cert_format.proofs.Feeding.{cut_err, cut_none, cut_still, cut_whole}
 use Rattle.cert_format.proofs.cert_reader.read_cut.Goals as goal
@@ -28,3 +29,15 @@ returns-clause-reads c =
     let took : TookParts (parts_of c.args.kept.now) c.new-2.result (parts_of c.take.new.self) c.in-Some.field-0 = rw c.in-Some.is at c.in_ok-take.ensures.takes in
     rw c.new-4.ensures (cut_whole (parts_of c.args.kept.now) (parts_of c.take.new.self) (held_of c.args.held.now) c.args.piece.now c.fill-rest.result.now c.new-2.result c.in-Some.field-0 c.new-3.result c.size-3.result
     took (rw (c.new-2.ensures, c.bytes.ensures.value) c.fill-rest.ensures.stream) (rw c.new-2.ensures (omega (arith, c.bytes.ensures.len, c.fill-rest.ensures.within, c.next_size.ensures.value))) c.size-3.ensures.value c.new-3.ensures)
+
+pub take-requires-clause-place : goal.take-requires-clause-place
+take-requires-clause-place c = ap (λ (it : Rest). it.at) c.new-2.ensures ∙ c.size-2.ensures.value
+
+pub returns-in_err-take-clause-keeps : goal.returns-in_err-take-clause-keeps
+returns-in_err-take-clause-keeps c = c.take.ensures.keeps
+
+pub returns-in_default-clause-keeps : goal.returns-in_default-clause-keeps
+returns-in_default-clause-keeps c = c.take.ensures.keeps
+
+pub returns-clause-keeps : goal.returns-clause-keeps
+returns-clause-keeps c = c.take.ensures.keeps

@@ -4,6 +4,27 @@ use Rattle.cert_format.proofs.PartsText.{under}
 use Rattle.cert_format.proofs.Taking.{ended}
 use Rattle.cert_format.proofs.kept.Kept.take.Goals as goal
 
+pub take_node-requires-clause-lacks : goal.take_node-requires-clause-lacks
+take_node-requires-clause-lacks c = omega (arith, c.if-len-header.true, c.len.ensures)
+
+pub take_link-requires-clause-nodes : goal.take_link-requires-clause-nodes
+take_link-requires-clause-nodes c =
+    let so = under (parts_of c.args.self.now) c.in-Some.header c.in-Some.is c.requires.parts in
+    omega (arith, c.if-len-header.false, c.len.ensures, so.few_nodes)
+
+pub take_rows-requires-clause-nodes : goal.take_rows-requires-clause-nodes
+take_rows-requires-clause-nodes c =
+    let so = under (parts_of c.args.self.now) c.in-Some.header c.in-Some.is c.requires.parts in
+    omega (arith, c.if-len-header.false, c.len.ensures, so.few_nodes)
+
+pub take_rows-requires-clause-links : goal.take_rows-requires-clause-links
+take_rows-requires-clause-links c =
+    let so = under (parts_of c.args.self.now) c.in-Some.header c.in-Some.is c.requires.parts in
+    omega (arith, c.if-len-header-2.false, c.len-2.ensures, so.few_links)
+
+pub take_rows-requires-clause-lacks : goal.take_rows-requires-clause-lacks
+take_rows-requires-clause-lacks c = omega (arith, c.if-len-self.true, c.len-3.ensures)
+
 pub returns-clause-takes : goal.returns-clause-takes
 returns-clause-takes c =
     let so = under (parts_of c.args.self.now) c.in-Some.header c.in-Some.is c.requires.parts in

@@ -1,9 +1,12 @@
-use Rattle.std.proofs.Common.{◌∙◌, List, Vec, Global, Ok, Err, length, ap, subst, arith}
+use Rattle.std.specs.List.{AllByRecursion}
+use Rattle.std.proofs.Common.{◌≡◌, ◌<◌, ◌≤◌, ◌∙◌, ◌++◌, ℕ, List, [], ◌∷◌, Vec, Global, Ok, Err, length, sym, ap, subst, length-append, arith}
+use Rattle.mrt_graph.proofs.Members.{all_append}
 use Rattle.std.proofs.lemmas.Result.{err_from_is_err_and}
 use Rattle.mrt_graph.specs.declared.cert.CertNode.{CertNode}
-use Rattle.cert_format.specs.Parts.{IsKnown, Parts, parts_of}
+use Rattle.cert_format.specs.Parts.{IsBare, IsKnown, Parts, parts_of}
+use Rattle.cert_format.specs.Reading.{IsNode}
 use Rattle.cert_format.proofs.Known.{known_err, known_ok, with_nodes}
-use Rattle.cert_format.proofs.PartsText.{few_bytes}
+use Rattle.cert_format.proofs.PartsText.{few_bytes, under}
 use Rattle.cert_format.proofs.Taking.{node_refused, with_node}
 use Rattle.cert_format.proofs.Room.{room_at_node, room_stays}
 use Rattle.cert_format.proofs.kept.Kept.take_node.Goals as goal
@@ -15,6 +18,32 @@ node-requires c =
 pub returns-in-Err-clause-takes : goal.returns-in-Err-clause-takes
 returns-in-Err-clause-takes c =
     node_refused (parts_of c.args.self.now) c.args.header c.args.rest c.in-Err.fault c.unless_cut.result c.requires.header c.requires.parts c.requires.lacks c.requires.place c.in-Err.ensures c.unless_cut.ensures
+
+few_pushed : (old mid new : List CertNode) (node : CertNode) (n : ℕ) → mid ≡ old → new ≡ mid ++ node ∷ [] → length old < n → length new ≤ n
+few_pushed old mid new node n same is lacks = omega (arith, ap length same, ap length is, length-append mid (node ∷ []), lacks)
+
+kept_pushed : (old mid new : List CertNode) (node : CertNode) (n : ℕ) → mid ≡ old → new ≡ mid ++ node ∷ [] → AllByRecursion (IsNode n) old → IsNode n node → AllByRecursion (IsNode n) new
+kept_pushed old mid new node n same is kept keeps =
+    let all : new ≡ old ++ node ∷ [] = is ∙ ap (λ (it : List CertNode). it ++ node ∷ []) same in
+    subst (AllByRecursion (IsNode n)) (sym all) (all_append (IsNode n) old (node ∷ []) kept (keeps, tt))
+
+pub know-requires-clause-header : goal.know-requires-clause-header
+know-requires-clause-header c = (under (parts_of c.args.self.now) c.args.header c.requires.header c.requires.parts).header
+
+pub know-requires-clause-nodes : goal.know-requires-clause-nodes
+know-requires-clause-nodes c =
+    few_pushed c.args.self.now.nodes.items c.make_room.new.self.nodes.items c.push_reserved.new.self.items c.in-Ok.node c.args.header.nodes (ap (λ (it : Parts). it.nodes) c.make_room.ensures.same) c.push_reserved.ensures.items c.requires.lacks
+
+pub know-requires-clause-kept : goal.know-requires-clause-kept
+know-requires-clause-kept c =
+    kept_pushed c.args.self.now.nodes.items c.make_room.new.self.nodes.items c.push_reserved.new.self.items c.in-Ok.node c.args.header.nodes (ap (λ (it : Parts). it.nodes) c.make_room.ensures.same) c.push_reserved.ensures.items
+    (under (parts_of c.args.self.now) c.args.header c.requires.header c.requires.parts).nodes c.in-Ok.ensures.1
+
+pub know-requires-clause-bare : goal.know-requires-clause-bare
+know-requires-clause-bare c =
+    let bare = (under (parts_of c.args.self.now) c.args.header c.requires.header c.requires.parts).nodes_first c.requires.lacks in
+    let same : IsBare (parts_of c.make_room.new.self) = subst IsBare (sym c.make_room.ensures.same) bare in
+    record { links = same.links; rows = same.rows; row_count = same.row_count; down = same.down }
 
 pub returns-in_err-make_room-in-Ok-clause-room : goal.returns-in_err-make_room-in-Ok-clause-room
 returns-in_err-make_room-in-Ok-clause-room c =
