@@ -1,6 +1,7 @@
 pub mod AllMarked
 pub mod ByTurn
 pub mod EndCosts
+pub mod EndRead
 pub mod EndsOffer
 pub mod FirstLinks
 pub mod HomePaths

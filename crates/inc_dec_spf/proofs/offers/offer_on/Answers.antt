@@ -1,12 +1,9 @@
-use Rattle.std.proofs.Common.{◌≡◌, ◌<◌, ◌*◌, ◌∙◌, ℕ, List, get_or, length, inl, inr, refl, sym, ap, arith}
+use Rattle.std.proofs.Common.{◌≡◌, ◌*◌, ◌∙◌, ℕ, length, inl, inr, refl, sym, ap, arith}
 use Rattle.std.proofs.lemmas.Bool.{eqb-false, eqb-true}
 use Rattle.std.proofs.lemmas.Option.{slice_get_read}
-use Rattle.mrt_graph.specs.declared.link.End.{End}
-use Rattle.mrt_graph.specs.GraphInvariant.{AreEnds, IsEnd}
-use Rattle.mrt_graph.specs.Topology.{Topology}
-use Rattle.mrt_graph.proofs.ListTests.{all_at}
 use Rattle.inc_dec_spf.specs.Known.{IsOver, known_at}
 use Rattle.inc_dec_spf.specs.Offers.{IsFurtherOffer}
+use Rattle.inc_dec_spf.proofs.EndRead.{end_is}
 use Rattle.inc_dec_spf.proofs.EndsOffer.{further_back, further_is, further_not}
 use Rattle.link_direction.proofs.TwoNodes.{place_says}
 use Rattle.inc_dec_spf.proofs.InBlocks.{step_early}
@@ -15,12 +12,6 @@ use Rattle.inc_dec_spf.proofs.Offering.{none_yet, offered_all, offered_more, off
 use Rattle.inc_dec_spf.proofs.SideBySide.{row_within}
 use Rattle.inc_dec_spf.proofs.offers.offer_on.Goals as goal
 use Rattle.inc_dec_spf.proofs.offers.offer_on.Goals.{then-eq+then-leads_on, else-eq, else-eq-via-then-eq+else-leads_on, else-eq-via-else-eq}
-
--- the end at a place of a node's ends
-end_is : (g : Topology) (x place : ℕ) (ends : List End) (end : End) → AreEnds (length g.ids) g.links x ends → place < length ends → end ≡ get_or ends place end
-    → IsEnd (length g.ids) g.links x end
-end_is g x place ends end kept below item =
-    all_at (IsEnd (length g.ids) g.links x) ends place end kept.kept (slice_get_read ends (length ends) place end refl below item)
 
 pub mark-mark-requires : goal.mark-mark-requires
 mark-mark-requires c =

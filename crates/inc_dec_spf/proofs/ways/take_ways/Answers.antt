@@ -5,10 +5,9 @@ use Rattle.std.proofs.lemmas.Option.{same_Some, slice_get-get_or, slice_get_read
 use Rattle.mrt_graph.specs.declared.gadag.Mark.{Mark}
 use Rattle.mrt_graph.specs.declared.link.End.{End}
 use Rattle.mrt_graph.specs.DirectedLists.{DirectedLists}
-use Rattle.mrt_graph.specs.GraphInvariant.{AreEnds, IsEnd, IsTopology}
+use Rattle.mrt_graph.specs.GraphInvariant.{IsTopology}
 use Rattle.mrt_graph.specs.Topology.{Topology}
 use Rattle.mrt_graph.proofs.EndsAt.{end_leads}
-use Rattle.mrt_graph.proofs.ListTests.{all_at}
 use Rattle.inc_dec_spf.specs.Aiming.{AreRows, IsAiming}
 use Rattle.inc_dec_spf.specs.HasDirections.{HasDirections}
 use Rattle.inc_dec_spf.specs.Rest.{far}
@@ -16,6 +15,7 @@ use Rattle.inc_dec_spf.specs.Side.{AreTaken}
 use Rattle.inc_dec_spf.specs.Ways.{AreLeast, left_at, sought}
 use Rattle.link_direction.proofs.ClosedBlocks.{IsOrdered, inside_of_link}
 use Rattle.link_direction.proofs.TwoNodes.{place_says}
+use Rattle.inc_dec_spf.proofs.EndRead.{end_is}
 use Rattle.inc_dec_spf.proofs.EndCosts.{IsWayOn, all_passed, all_taken_over}
 use Rattle.inc_dec_spf.proofs.Marks.{IsMarkedEnd, marked_block}
 use Rattle.inc_dec_spf.proofs.SideBySide.{far_costs, most_kept}
@@ -31,12 +31,6 @@ block_within g d x place ends end mark kept has list below read at =
     let it = inside_of_link g has.root has.directions end.link x end.to (record { kept = kept; ordered = has.are.ordered }) (end_leads g x place ends end kept list marked.there) in
     subst (λ (b : ℕ). b < length g.ids) (it.in_block ∙ sym (marked_block g d has.directions x place ends end mark kept has.are.says marked))
     (has.are.ordered.heads.block_within it.m it.within)
-
--- the end at a place of a node's ends
-end_is : (g : Topology) (x place : ℕ) (ends : List End) (end : End) → AreEnds (length g.ids) g.links x ends → place < length ends → end ≡ get_or ends place end
-    → IsEnd (length g.ids) g.links x end
-end_is g x place ends end kept below item =
-    all_at (IsEnd (length g.ids) g.links x) ends place end kept.kept (slice_get_read ends (length ends) place end refl below item)
 
 pub mark-mark-requires : goal.mark-mark-requires
 mark-mark-requires c =
