@@ -7,7 +7,7 @@ use Rattle.cert_format.specs.CertText.{row_text}
 use Rattle.cert_format.specs.Versions.{rows_in, stands_in}
 use Rattle.cert_format.proofs.FileRows.{stand_more}
 
--- of the first rows and one more, which stands there
+-- the bytes of one row more, where it stands in the file
 pub row_put : (version : ℕ) (rows : List Row) (i : ℕ) (row : Row) (old now new piece : List ℕ) → i < length rows → row ≡ get_or rows i row → stands_in version row ≡ true
     → now ≡ old ++ flat_map row_text (rows_in version (take i rows)) → piece ≡ row_text row → new ≡ now ++ piece → new ≡ old ++ flat_map row_text (rows_in version (take (i + 1) rows))
 row_put version rows i row old now new piece within is stands so_far piece_is new_is =
@@ -16,7 +16,7 @@ row_put version rows i row old now new piece within is stands so_far piece_is ne
     new_is ∙ ap (λ (it : List ℕ). now ++ it) piece_is ∙ ap (λ (it : List ℕ). it ++ row_text row) so_far
     ∙ flat_map_more row_text old front row ∙ ap (λ (it : List Row). old ++ flat_map row_text it) (sym more)
 
--- a row that does not
+-- there are no more, where it does not
 pub none_stands : (version : ℕ) (rows : List Row) (i : ℕ) (row : Row) → i < length rows → row ≡ get_or rows i row → stands_in version row ≡ false
     → rows_in version (take (i + 1) rows) ≡ rows_in version (take i rows)
 none_stands version rows i row within is left =

@@ -35,7 +35,7 @@ few_next parts None = omega arith
 few_next parts (Some header) =
     three_few (nat_lt (length parts.nodes) header.nodes) (nat_lt (length parts.links) header.links) (nat_lt (length parts.rows) parts.row_count)
 
--- what is left is less than a part
+-- what is left is at most 14 bytes
 left_few : (parts : Parts) (bytes : List ℕ) → IsTail parts bytes → length bytes ≤ 14
 left_few parts bytes tail =
     let few : next_size parts ≤ 14 = few_next parts parts.header in

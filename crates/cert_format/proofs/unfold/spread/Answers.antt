@@ -1,5 +1,5 @@
 use Rattle.std.proofs.Common.{◌≡◌, ◌∙◌, ◌<◌, ◌-◌, ◌+◌, ◌*◌, ◌++◌, ℕ, List, [], length, replicate, take, drop, sym, ap, subst, arith}
-use Rattle.std.proofs.lemmas.List.{append-nil, take_all, drop_all}
+use Rattle.std.proofs.lemmas.List.{with_items_is}
 use Rattle.mrt_graph.specs.declared.cert.Row.{Row}
 use Rattle.mrt_graph.specs.Certificate.{certificate_of}
 use Rattle.cert_format.specs.Unfolding.{AreBlank, IsSpreading, blank_row, marks_of}
@@ -36,12 +36,6 @@ loop-s-init c =
     rw (left, sym pairs) (blank_start near c.make_places.new.rows.items (length marks) rows) in
     record { many = so.many; blank = blank; left = so.counted; spread = so }
 
--- all rows are written over
-over_all : (len : ℕ) (new old : List Row) → len ≡ length old → length new ≡ length old → take len (new ++ drop (length new) old) ≡ new
-over_all len new old all same =
-    let none : drop (length new) old ≡ [] = drop_all (length new) old (omega (arith, same)) in
-    ap (λ (it : List Row). take len (new ++ it)) none ∙ ap (take len) (append-nil new) ∙ take_all len new (omega (arith, all, same))
-
 back_one : (s : ℕ) → 0 < s → s ≡ s - 1 + 1
 back_one s some = omega (arith, some)
 
@@ -54,7 +48,7 @@ loop-s-preserved c =
     let after = c.spread_from-left.ensures in
     let same : length c.spread_from-left.new.rows ≡ length c.loop-s.rows.items = after.many ∙ ap length c.deref_mut.ensures.value in
     let all : take c.loop-s.rows.len (c.spread_from-left.new.rows ++ drop (length c.spread_from-left.new.rows) c.loop-s.rows.items) ≡ c.spread_from-left.new.rows =
-    over_all c.loop-s.rows.len c.spread_from-left.new.rows c.loop-s.rows.items (omega (arith, c.loop-s.rows.ok.0)) same in
+    with_items_is c.loop-s.rows c.spread_from-left.new.rows (omega (arith, same, c.loop-s.rows.ok.0)) in
     let at : IsSpreading marks near c.loop-s.rows.items ((c.loop-s.s - 1 + 1) * (n - 1)) c.loop-s.left =
     subst (λ (k : ℕ). IsSpreading marks near c.loop-s.rows.items (k * (n - 1)) c.loop-s.left) (back_one c.loop-s.s c.loop-s-test.true) before.spread in
     let from : IsSpreading marks near c.deref_mut.result.now ((c.loop-s.s - 1 + 1) * (n - 1)) c.loop-s.left =
