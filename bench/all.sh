@@ -35,5 +35,9 @@ else
     echo "Nothing is kept of how the program was built or of its gate ($program.built); $(rt version 2>/dev/null | head -n 1)."
 fi
 echo
-forms=certify,check,upgrade,table,trace,fabric-ten,proxy,lfa,order,flood,survey
+echo "A cell has milliseconds, and the multiple of what sha256sum takes of the largest file that the form reads or writes. Then come megabytes at the"
+echo "peak, their multiple of that file, and how many times longer twice the nodes take."
+echo
+# (no survey is of these networks)
+forms=certify,check,upgrade,table,trace,fabric-ten,proxy,lfa,order,flood
 exec "$here/measure/shapes.py" --program "$program" --shapes ring,mesh,chain-of-rings,spur --forms $forms --markdown --check "$@"

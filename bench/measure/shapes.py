@@ -181,18 +181,14 @@ def markdown(results):
     yield f"| Form | {names} | MB | beside the file | twice the nodes |"
     yield "|---" * (len(shapes) + 4) + "|"
     for form in FORMS:
-        # (a survey has no row of whole size)
-        is_whole = any(form in whole for whole, _, _ in results.values())
-        rows = {shape: it[0 if is_whole else 1].get(form) for shape, it in results.items() if form in it[2]}
-        timed = {shape: row for shape, row in rows.items() if row and row.seconds}
+        rows = {shape: whole[form] for shape, (whole, _, asked) in results.items() if form in asked and form in whole}
+        timed = [row for row in rows.values() if row.seconds]
         if not timed:
             continue
-        grown = [growth(row, results[shape][1].get(form)) for shape, row in timed.items()] if is_whole else []
-        grown = [it for it in grown if it]
-        memory, beside = zip(*((row.memory / 1e6, row.memory / row.file) for row in timed.values()))
+        grown = [it for it in (growth(rows[shape], results[shape][1].get(form)) for shape in rows) if it]
+        memory, beside = ([row.memory / 1e6 for row in timed], [row.memory / row.file for row in timed])
         cells = " | ".join(cell(rows.get(shape)) for shape in shapes)
-        name = f"`{form}`" if is_whole else f"`{form}`, half the size"
-        yield f"| {name} | {cells} | {spread(memory, 0)} | {spread(beside, 1)} | {spread(grown, 1) if grown else ''} |"
+        yield f"| `{form}` | {cells} | {spread(memory, 0)} | {spread(beside, 1)} | {spread(grown, 1) if grown else ''} |"
 
 
 # the words

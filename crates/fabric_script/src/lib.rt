@@ -1,4 +1,5 @@
-//! Scripts of events: the names of nodes and links that words give, and the lines of a script file.
+//! Scripts of events, and what is asked of a trace: the names of nodes and links that words give, how a packet enters,
+//! and the lines of a script file.
 #![tactic(auto)]
 
 mod entry;
