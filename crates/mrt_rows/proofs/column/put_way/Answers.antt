@@ -27,6 +27,27 @@ loop-to-smaller c =
     let other = differ_by at c.args.rooted.now.root c.ne.result c.ne.ensures c.loop-to-test.true in
     omega (arith, ap w.order c.place-place.ensures.head, c.requires.rooted.ordered.heads.lower at c.loop-to.invariant.within other)
 
+pub overflow_mul-at : goal.overflow_mul-at
+overflow_mul-at c =
+    let g = c.args.rooted.now.graph.now in
+    let block_within = c.requires.rooted.ordered.heads.block_within c.loop-to.c c.loop-to.invariant.within in
+    let own_within : c.get.result < length g.ids = omega (arith, c.get.ensures.value, c.place-place.ensures.block, block_within) in
+    omega (arith, row_within c.get.result (length g.ids) c.args.width (length c.loop-to.aims) (c.loop-to.invariant.room ∙ c.requires.room) own_within)
+
+pub overflow_add-at : goal.overflow_add-at
+overflow_add-at c =
+    let g = c.args.rooted.now.graph.now in
+    let block_within = c.requires.rooted.ordered.heads.block_within c.loop-to.c c.loop-to.invariant.within in
+    let own_within : c.get.result < length g.ids = omega (arith, c.get.ensures.value, c.place-place.ensures.block, block_within) in
+    omega (arith, row_within c.get.result (length g.ids) c.args.width (length c.loop-to.aims) (c.loop-to.invariant.room ∙ c.requires.room) own_within, c.requires.place)
+
+pub offset_bounds-aims-at : goal.offset_bounds-aims-at
+offset_bounds-aims-at c =
+    let g = c.args.rooted.now.graph.now in
+    let block_within = c.requires.rooted.ordered.heads.block_within c.loop-to.c c.loop-to.invariant.within in
+    let own_within : c.get.result < length g.ids = omega (arith, c.get.ensures.value, c.place-place.ensures.block, block_within) in
+    omega (arith, row_within c.get.result (length g.ids) c.args.width (length c.loop-to.aims) (c.loop-to.invariant.room ∙ c.requires.room) own_within, c.requires.place)
+
 pub bounds-aims-at : goal.bounds-aims-at
 bounds-aims-at c =
     let g = c.args.rooted.now.graph.now in
