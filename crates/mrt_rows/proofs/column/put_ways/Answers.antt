@@ -1,6 +1,6 @@
 use Rattle.std.proofs.Common.{◌≡◌, ◌∙◌, ◌<◌, ℕ, length, slice_get, inl, inr, refl, sym, ap, subst, arith}
 use Rattle.std.proofs.lemmas.Bool.{cases_eq}
-use Rattle.std.proofs.lemmas.Option.{same_Some, slice_get_read}
+use Rattle.std.proofs.lemmas.Option.{same_Some, slice_get_read, slice_get_within}
 use Rattle.inc_dec_spf.specs.BlockAims.{aim_at}
 use Rattle.mrt_rows.specs.Chain.{AreWayAims}
 use Rattle.mrt_rows.specs.Said.{words_of}
@@ -19,6 +19,14 @@ loop-at-init c = record {
   ahead = λ i y low high y_within.
       (c.put_heads.ensures.heads c.args.rooted.now.root (words_of c.args.rooted.now) (are_directions c.requires.rooted)).each i y high y_within;
 }
+
+pub put_way-requires-clause-to : goal.put_way-requires-clause-to
+put_way-requires-clause-to c =
+    c.requires.within c.loop-at.at c.index-targets-at.result (slice_get_read c.args.targets.now (length c.args.targets.now) c.loop-at.at
+    c.index-targets-at.result refl c.loop-at-test.true c.index-targets-at.is)
+
+pub put_way-requires-clause-room : goal.put_way-requires-clause-room
+put_way-requires-clause-room c = c.loop-at.invariant.room ∙ c.put_heads.ensures.room ∙ c.requires.room
 
 pub loop-at-preserved : goal.loop-at-preserved
 loop-at-preserved c =
@@ -50,3 +58,8 @@ loop-at-preserved c =
           c.put_way.ensures.others i (w.block y) high (λ same. omega (arith, low, same))
           ∙ c.loop-at.invariant.ahead i y (omega (arith, low)) high y_within;
     }
+
+pub returns-clause-aims : goal.returns-clause-aims
+returns-clause-aims c = record {
+  each = λ j t there. c.loop-at.invariant.done j t (omega (arith, slice_get_within c.args.targets.now j t there, c.loop-at-test.false)) there;
+}

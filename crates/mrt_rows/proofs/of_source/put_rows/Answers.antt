@@ -29,6 +29,12 @@ carried_to-from-requires-clause-target c =
     (turn_at c.args.making.now.common.by_order.items c.deref-t-items.result.now c.loop-t.t-index c.t-item.result c.deref-t-items.ensures.value
     c.loop-t-test.true c.t-item.is)
 
+pub carried_to-from-requires-clause-source : goal.carried_to-from-requires-clause-source
+carried_to-from-requires-clause-source c = c.source-source.ensures.source.place
+
+pub carried_to-from-requires-clause-node : goal.carried_to-from-requires-clause-node
+carried_to-from-requires-clause-node c = c.source-source.ensures.source.within
+
 pub row-near-requires-clause-target : goal.row-near-requires-clause-target
 row-near-requires-clause-target c =
     c.requires.made.common.by_order.within c.loop-t.t-index c.t-item.result

@@ -1,4 +1,4 @@
-use Rattle.std.proofs.Common.{rules, ◌≡◌, ◌∙◌, ℕ, List, length, sym, ap, subst}
+use Rattle.std.proofs.Common.{rules, ◌≡◌, ◌∙◌, ℕ, List, length, sym, ap, subst, arith}
 use Rattle.std.specs.List.{remove}
 use Rattle.std.proofs.lemmas.List.{with_items_is}
 use Rattle.mrt_graph.specs.declared.cert.Row.{Row}
@@ -20,6 +20,11 @@ pub put_rows-requires-clause-one_each : goal.put_rows-requires-clause-one_each
 put_rows-requires-clause-one_each c =
     let made : length c.in_ok-rows.rows.items ≡ c.node_count-count.result = search rules in
     ap (λ (xs : List Row). length xs) c.deref_mut.ensures.value ∙ made ∙ c.node_count-count.ensures.count
+
+pub remove-requires : goal.remove-requires
+remove-requires c =
+    let made : length c.in_ok-rows.rows.items ≡ c.node_count-count.result = search rules in
+    omega (arith, c.in_ok-rows.rows.ok.0, made, c.node_count-count.ensures.count, c.requires.source, c.get.ensures.value)
 
 pub returns : goal.returns
 returns c = λ w says.

@@ -31,6 +31,19 @@ index-requires-2 c =
     let same : c.get-2.result * c.len.result ≡ c.get-2.result * width = ap (λ (n : ℕ). c.get-2.result * n) wide in
     omega (arith, columns.each.aims.small, row_within c.get-2.result (length g.ids) width (length aims) held.each.aims own_within, below, same)
 
+pub overflow_mul-at : goal.overflow_mul-at
+overflow_mul-at c =
+    let g = c.args.rooted.now.graph.now in
+    let columns = c.args.self.now in
+    let aims = columns.each.aims.items in
+    let width = length columns.targets.items in
+    let held = c.requires.aimed.held in
+    let wide : c.len.result ≡ width = c.len.ensures ∙ columns.targets.ok.0 in
+    let block_within = c.requires.aimed.rooted.ordered.heads.block_within c.args.s c.requires.source in
+    let own_within : c.get-2.result < length g.ids = omega (arith, c.get-2.ensures.value, c.place.ensures.block, block_within) in
+    let same : c.get-2.result * c.len.result ≡ c.get-2.result * width = ap (λ (n : ℕ). c.get-2.result * n) wide in
+    omega (arith, columns.each.aims.small, row_within c.get-2.result (length g.ids) width (length aims) held.each.aims own_within, same)
+
 pub overflow_add-at : goal.overflow_add-at
 overflow_add-at c =
     let g = c.args.rooted.now.graph.now in

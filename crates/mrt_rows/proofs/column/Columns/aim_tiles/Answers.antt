@@ -1,4 +1,4 @@
-use Rattle.std.proofs.Common.{◌≡◌, ◌*◌, ◌∙◌, ℕ, Bool, List, Some, length, slice_get, sym, subst, ap}
+use Rattle.std.proofs.Common.{◌≡◌, ◌<◌, ◌*◌, ◌∙◌, ℕ, Bool, List, Some, length, slice_get, refl, sym, ap, subst, arith}
 use Rattle.std.specs.Vec.{with_items}
 use Rattle.std.proofs.lemmas.List.{with_items_is}
 use Rattle.inc_dec_spf.specs.declared.reach.Dir.TheVariants.{Down, Up}
@@ -59,6 +59,68 @@ pub aim-requires-2-clause-heads : goal.aim-requires-2-clause-heads
 aim-requires-2-clause-heads c =
     let rooted = c.args.rooted.now in
     subst (λ (hs : List Bool). AreHeadsMarked rooted.graph.now (words_of rooted) hs) (sym c.deref-9.ensures.value) c.requires.held.common.marked
+
+pub take_shared-requires-clause-some : goal.take_shared-requires-clause-some
+take_shared-requires-clause-some c = subst (λ (n : ℕ). 0 < n) (sym (c.len.ensures ∙ c.args.self.now.targets.ok.0)) c.requires.held.some_places
+
+pub take_shared-requires-clause-room : goal.take_shared-requires-clause-room
+take_shared-requires-clause-room c =
+    let g = c.args.rooted.now.graph.now in
+    let held = c.requires.held in
+    let columns = c.args.self.now in
+    let aims = with_items_is columns.each.aims c.put_ways.new.aims (c.put_ways.ensures.room ∙ c.deref_mut.ensures.len) in
+    let put = with_items_is columns.each.wanted c.put_ways.new.marks (c.put_ways.auto.marks ∙ c.deref_mut-2.ensures.len) in
+    let as_many = ap (λ (bs : List Bool). length bs) (c.deref_mut-3.ensures.value ∙ put) ∙ c.put_ways.ensures.a_mark_each in
+    ap (λ (xs : List ℕ). length xs) (c.deref-3.ensures.value ∙ aims) ∙ c.put_ways.ensures.room
+    ∙ ap (λ (xs : List ℕ). length xs) c.deref_mut.ensures.value ∙ held.each.aims
+    ∙ ap (λ (k : ℕ). length g.ids * k) (sym (c.len.ensures ∙ columns.targets.ok.0)) ∙ ap (λ (n : ℕ). n * c.len.result) (sym as_many)
+
+pub take_shared-requires-clause-one_first_each : goal.take_shared-requires-clause-one_first_each
+take_shared-requires-clause-one_first_each c =
+    let put = with_items_is c.args.self.now.each.wanted c.put_ways.new.marks (c.put_ways.auto.marks ∙ c.deref_mut-2.ensures.len) in
+    let as_many = ap (λ (bs : List Bool). length bs) (c.deref_mut-3.ensures.value ∙ put) ∙ c.put_ways.ensures.a_mark_each in
+    let firsts = ap (λ (xs : List ℕ). length xs) c.deref_mut-4.ensures.value ∙ c.requires.held.shared.aims in
+    omega (arith, firsts, as_many)
+
+pub take_shared-requires-clause-a_mark_each : goal.take_shared-requires-clause-a_mark_each
+take_shared-requires-clause-a_mark_each c =
+    let put = with_items_is c.args.self.now.each.wanted c.put_ways.new.marks (c.put_ways.auto.marks ∙ c.deref_mut-2.ensures.len) in
+    let as_many = ap (λ (bs : List Bool). length bs) (c.deref_mut-3.ensures.value ∙ put) ∙ c.put_ways.ensures.a_mark_each in
+    ap (λ (bs : List Bool). length bs) c.deref_mut-5.ensures.value ∙ c.requires.held.shared.a_mark_each ∙ sym as_many
+
+pub aim-requires-clause-tiles : goal.aim-requires-clause-tiles
+aim-requires-clause-tiles c =
+    let g = c.args.rooted.now.graph.now in
+    let each = c.requires.held.each in
+    let columns = c.args.self.now in
+    let marks = c.put_ways.new.marks in
+    let aims = with_items_is columns.each.aims c.put_ways.new.aims (c.put_ways.ensures.room ∙ c.deref_mut.ensures.len) in
+    let put = with_items_is columns.each.wanted marks (c.put_ways.auto.marks ∙ c.deref_mut-2.ensures.len) in
+    let left = with_items_is (with_items columns.each.wanted marks) c.take_shared.new.wanted (c.take_shared.auto.wanted ∙ c.deref_mut-3.ensures.len) in
+    record {
+      aims = ap (λ (xs : List ℕ). length xs) aims ∙ c.put_ways.ensures.room ∙ ap (λ (xs : List ℕ). length xs) c.deref_mut.ensures.value ∙ each.aims
+          ∙ ap (λ (k : ℕ). length g.ids * k) (sym each.up.width);
+      a_mark_each = ap (λ (bs : List Bool). length bs) left ∙ c.take_shared.auto.wanted
+          ∙ ap (λ (bs : List Bool). length bs) (c.deref_mut-3.ensures.value ∙ put) ∙ c.put_ways.ensures.a_mark_each;
+      up = record { nodes = each.up.nodes; width = refl };
+      down = record { nodes = each.down.nodes; width = each.down.width ∙ sym each.up.width };
+    }
+
+pub aim-requires-2-clause-tiles : goal.aim-requires-2-clause-tiles
+aim-requires-2-clause-tiles c =
+    let g = c.args.rooted.now.graph.now in
+    let shared = c.requires.held.shared in
+    let columns = c.args.self.now in
+    let firsts = with_items_is columns.shared.aims c.take_shared.new.firsts (c.take_shared.auto.firsts ∙ c.deref_mut-4.ensures.len) in
+    let taken = with_items_is columns.shared.wanted c.take_shared.new.shared (c.take_shared.auto.shared ∙ c.deref_mut-5.ensures.len) in
+    record {
+      aims = ap (λ (xs : List ℕ). length xs) firsts ∙ c.take_shared.auto.firsts ∙ ap (λ (xs : List ℕ). length xs) c.deref_mut-4.ensures.value
+          ∙ shared.aims ∙ ap (λ (k : ℕ). length g.ids * k) (sym shared.up.width);
+      a_mark_each = ap (λ (bs : List Bool). length bs) taken ∙ c.take_shared.auto.shared ∙ ap (λ (bs : List Bool). length bs) c.deref_mut-5.ensures.value
+          ∙ shared.a_mark_each;
+      up = record { nodes = shared.up.nodes; width = refl };
+      down = record { nodes = shared.down.nodes; width = shared.down.width ∙ sym shared.up.width };
+    }
 
 pub returns-clause-held : goal.returns-clause-held
 returns-clause-held c =

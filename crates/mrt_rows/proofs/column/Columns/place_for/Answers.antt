@@ -1,4 +1,4 @@
-use Rattle.std.proofs.Common.{◌≡◌, ◌<◌, ◌∙◌, ℕ, List, length, slice_get, sym, ap, subst}
+use Rattle.std.proofs.Common.{◌≡◌, ◌<◌, ◌∙◌, ℕ, List, Some, length, slice_get, sym, ap, subst}
 use Rattle.std.specs.Prelude.{IfSome}
 use Rattle.std.proofs.lemmas.List.{with_items_is}
 use Rattle.mrt_rows.specs.Said.{words_of}
@@ -11,6 +11,12 @@ take_next-requires-clause-some c = subst (λ (xs : List ℕ). 0 < length xs) (sy
 pub take_next-requires-clause-marks : goal.take_next-requires-clause-marks
 take_next-requires-clause-marks c =
     subst (λ (n : ℕ). IfSome c.args.marks (λ marks. length marks.now ≡ n)) (sym c.node_count.ensures.count) c.requires.marks
+
+pub aim_tiles-requires-clause-within : goal.aim_tiles-requires-clause-within
+aim_tiles-requires-clause-within c = λ j t at.
+    let same = with_items_is c.args.self.now.targets c.take_next.new.targets (c.take_next.ensures.one_each ∙ c.deref_mut.ensures.len) in
+    subst (λ (n : ℕ). t < n) c.node_count.ensures.count
+    (c.take_next.ensures.within j t (subst (λ (ts : List ℕ). slice_get ts j ≡ Some t) same at))
 
 pub aim_tiles-requires-clause-held : goal.aim_tiles-requires-clause-held
 aim_tiles-requires-clause-held c =

@@ -1,4 +1,4 @@
-use Rattle.std.proofs.Common.{◌≡◌, ◌∙◌, ◌<◌, ◌+◌, ◌++◌, ℕ, Bool, List, [], ◌∷◌, Option, Some, None, length, slice_index_or, false, inl, inr, sym, subst, arith, length-append}
+use Rattle.std.proofs.Common.{◌≡◌, ◌∙◌, ◌<◌, ◌+◌, ◌++◌, ℕ, Bool, List, [], ◌∷◌, Option, Some, None, length, slice_index_or, false, rules, inl, inr, refl, sym, ap, subst, arith, length-append}
 use Rattle.std.proofs.lemmas.Bool.{both_ways, cases_eq, cases_lt}
 use Rattle.std.proofs.lemmas.List.{get_or_past}
 use Rattle.mrt_graph.specs.declared.cert.CertFile.{CertFile}
@@ -36,6 +36,26 @@ unmarked_more file marks places columns n bare before t below marked = elim (cas
   | inl same ↦ absurd (both_ways (slice_index_or marks n false) bare (subst (λ (k : ℕ). IsMarked marks k) same marked))
   | inr other ↦ held_on_place file places columns t None (before t (omega (arith, below, other)) marked)
 ]
+
+pub loop-n-init : goal.loop-n-init
+loop-n-init c = record {
+  root = refl;
+  made = c.requires.made;
+  count = c.node_count-count.ensures.count;
+  many = ap (λ (xs : List (Option ℕ)). length xs) c.in_ok-places.ensures.items;
+  few = search rules;
+  room = omega (arith, c.in_ok-places.ensures.capacity);
+  held = λ file is t below marked. absurd (omega (arith, below));
+}
+
+pub push_reserved-requires : goal.push_reserved-requires
+push_reserved-requires c = omega (arith, c.loop-n.invariant.many, c.loop-n-test.true, c.loop-n.invariant.room)
+
+pub push_reserved-requires-else-wanted-n : goal.push_reserved-requires-else-wanted-n
+push_reserved-requires-else-wanted-n c = omega (arith, c.loop-n.invariant.many, c.loop-n-test.true, c.loop-n.invariant.room)
+
+pub column-requires : goal.column-requires
+column-requires c = (c.new.result, c.aim_among.ensures.aimed)
 
 pub loop-n-preserved : goal.loop-n-preserved
 loop-n-preserved c = elim c.if-wanted-n.branch [

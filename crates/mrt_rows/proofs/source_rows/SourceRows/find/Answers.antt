@@ -1,4 +1,4 @@
-use Rattle.std.proofs.Common.{◌∙◌, ◌<◌, List, length, take, sym, ap, subst, arith}
+use Rattle.std.proofs.Common.{◌∙◌, ◌<◌, ◌≤◌, List, length, take, sym, ap, subst, arith}
 use Rattle.std.proofs.lemmas.List.{with_items_is}
 use Rattle.mrt_graph.specs.declared.cert.Row.{Row}
 use Rattle.mrt_graph.specs.Certificate.{row_of}
@@ -23,6 +23,11 @@ pub put_near_rows-self-inside-requires-clause-room : goal.put_near_rows-self-ins
 put_near_rows-self-inside-requires-clause-room c =
     let made = subst (λ (rows : RowsFound). MakeRows c.args.g.now rows) (sym c.self.view_is) c.requires.made in
     ap (λ (xs : List Row). length xs) c.deref_mut.ensures.value ∙ made.room
+
+pub invariant_of-self : goal.invariant_of-self
+invariant_of-self c =
+    let same = with_items_is c.self.inside.room c.put_near_rows-self-inside.new.room (c.put_near_rows-self-inside.auto.room ∙ c.deref_mut.ensures.len) in
+    subst (λ (xs : List Row). c.put_near_rows-self-inside.result ≤ length xs) (sym same) c.put_near_rows-self-inside.ensures.within
 
 pub returns-clause-root : goal.returns-clause-root
 returns-clause-root c = ap (λ (rows : RowsFound). rows.root) c.self.view_is
