@@ -1,5 +1,7 @@
 use Rattle.std.proofs.Common.{◌≡◌, ◌+◌, ◌==◌, ◌++◌, ◌∙◌, ◌∷◌, [], ℕ, suc, List, length, sym, ap, arith}
+use Rattle.std.specs.Prelude.{nat_lt}
 use Rattle.std.specs.List.{filter}
+use Rattle.std.proofs.lemmas.List.Sums.{count_by-le-length}
 use Rattle.area_graph.specs.declared.area_types.Arc.{Arc}
 use Rattle.area_graph.specs.Starts.{below, starts_to}
 use Rattle.area_graph.proofs.Slices.{are_starts}
@@ -18,6 +20,20 @@ loop-s-init c = record {
   room = omega (arith, c.push_reserved.ensures.capacity, c.in_ok-starts.ensures.capacity);
   at = sym (starts_at_zero c.args.area.now.arcs);
 }
+
+pub overflow_add-at : goal.overflow_add-at
+overflow_add-at c =
+    let arcs = c.args.area.now.arcs in
+    let row : c.arcs.result.now ≡ filter (λ (arc : Arc). arc.tail == c.loop-s.s) arcs =
+    c.arcs.ensures.value ∙ ap (λ (n : ℕ). filter (λ (arc : Arc). arc.tail == n) arcs) c.new.ensures in
+    omega (
+      arith,
+      c.loop-s.invariant.at,
+      ap (λ (xs : List Arc). length xs) row,
+      starts_on c.loop-s.s arcs,
+      count_by-le-length (λ (arc : Arc). nat_lt arc.tail (c.loop-s.s + 1)) arcs,
+      c.count-count.ensures.kept.few_arcs,
+    )
 
 pub loop-s-preserved : goal.loop-s-preserved
 loop-s-preserved c =

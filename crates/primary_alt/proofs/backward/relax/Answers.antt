@@ -1,5 +1,7 @@
 use Rattle.std.proofs.Common.{◌<◌, ℕ, length, refl, sym, subst, arith}
 use Rattle.std.specs.BinaryHeap.{heap_items}
+use Rattle.std.specs.Option.{is_some}
+use Rattle.std.proofs.lemmas.List.Sums.{count_by-le-length}
 use Rattle.std.proofs.lemmas.Option.{slice_get_read}
 use Rattle.mrt_graph.proofs.ListPlaces.{contains_at}
 use Rattle.primary_alt.proofs.RowRelaxed.{relaxed_more, relaxed_none}
@@ -10,6 +12,9 @@ loop-arc-init c = record {
   relaxed = relaxed_none c.args.into.now.arcs.items c.args.row.now c.args.u c.args.distance c.args.known.now.items (heap_items c.args.waiting.now) c.requires.small;
   fewer = omega arith;
 }
+
+pub overflow_add-distance : goal.overflow_add-distance
+overflow_add-distance c = omega (arith, c.requires.near, c.requires.few, count_by-le-length is_some c.args.known.now.items)
 
 pub offer_to-requires-clause-node : goal.offer_to-requires-clause-node
 offer_to-requires-clause-node c =

@@ -7,6 +7,11 @@ use Rattle.primary_alt.proofs.backward.settle.Goals as goal
 pub relax-requires-clause-tails : goal.relax-requires-clause-tails
 relax-requires-clause-tails c = λ arc has. c.requires.tails arc (c.row.ensures.only arc has).0
 
+pub relax-requires-clause-near : goal.relax-requires-clause-near
+relax-requires-clause-near c =
+    c.requires.small c.args.nearest.node c.args.nearest.distance
+    (subst (λ (xs : List (Option ℕ)). HasDistance xs c.args.nearest.node c.args.nearest.distance) c.deref.ensures.value (c.stands.ensures.0 c.if-stands.true))
+
 pub returns-in_ok-relax-clause-searching : goal.returns-in_ok-relax-clause-searching
 returns-in_ok-relax-clause-searching c = λ t is.
     offer_passed c.args.into.now.arcs.items c.row.result.now t c.args.nearest.node c.args.nearest.distance c.args.known.now.items c.relax.new.known.items

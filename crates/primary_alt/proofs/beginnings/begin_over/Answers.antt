@@ -14,6 +14,9 @@ first_of : (arcs : List Arc) (begins : List (Option Beginning)) (t place : ℕ) 
     → place ≡ before.first → head ≡ get_or arcs place head → slice_get arcs before.first ≡ Some head
 first_of arcs begins t place before head firsts has here is = at_own arcs arcs place before.first head refl here (omega (arith, here, firsts t before has)) is
 
+is_none : (o : Option Beginning) (begin : Beginning) → o ≡ None → o ≡ Some begin → ⊥
+is_none o begin none is = let clash : None ≡ Some begin = sym none ∙ is in cc
+
 pub returns-then-eq : goal.returns-then-eq
 returns-then-eq c = λ begin.
     let own : c.args.arc.now.tail ≡ c.args.source = sym (equal_by c.args.arc.now.tail c.args.source (sym c.eq.ensures ∙ c.if-eq.true)) in (
@@ -26,7 +29,7 @@ returns-in_err-before c = λ begin.
     let arc = c.args.arc.now in
     let at = standing c.args.begins.now c.get.result arc.tail None _ c.get.ensures.value c.requires.tail (sym c.in_err-before.was ∙ c.index-begins-get.is) in
     let apart = apart_by arc.tail c.args.source (sym c.eq.ensures ∙ c.if-eq.false) in (
-      λ is. absurd (cc c.from_residual.ensures),
+      λ is. absurd (is_none c.from_residual.result begin c.from_residual.ensures is),
       λ goes. absurd (none_goes_on c.args.arcs.now c.args.source c.args.begins.now c.args.number arc begin apart
           (λ before has. let clash : ◌≡◌ {A = Option (Option Beginning)} (Some None) (Some (Some before)) = sym at ∙ has in cc) goes),
     )

@@ -4,6 +4,7 @@ use Rattle.std.proofs.lemmas.List.{take_more}
 use Rattle.std.proofs.lemmas.Option.{slice_get_read}
 use Rattle.area_graph.specs.declared.area_types.Arc.{Arc}
 use Rattle.area_graph.specs.Parts.{AreaParts}
+use Rattle.area_graph.specs.Starts.{AreStarts}
 use Rattle.mrt_graph.proofs.ListPlaces.{contains_at}
 use Rattle.primary_alt.specs.Attaining.{AreBetween, AreFirstToAttain}
 use Rattle.primary_alt.specs.FirstArcs.{AreColumnsFor}
@@ -29,6 +30,11 @@ asked_more area destinations k t columns low is are =
 -- of equal lists
 between_as : (n m : ℕ) (arcs own : List Arc) → m ≡ n → own ≡ arcs → AreBetween n arcs → AreBetween m own
 between_as n m arcs own same same' are = subst (λ (k : ℕ). AreBetween k own) (sym same) (subst (λ (xs : List Arc). AreBetween n xs) (sym same') are)
+
+starts_as : (n m : ℕ) (arcs own : List Arc) (starts read : List ℕ) → m ≡ n → own ≡ arcs → read ≡ starts → AreStarts n arcs starts → AreStarts m own read
+starts_as n m arcs own starts read same same' same'' are =
+    subst (λ (k : ℕ). AreStarts k own read) (sym same)
+    (subst (λ (xs : List Arc). AreStarts n xs read) (sym same') (subst (λ (xs : List ℕ). AreStarts n arcs xs) (sym same'') are))
 
 firsts_as : (arcs own : List Arc) (starts read : List ℕ) (known told firsts : List (Option ℕ)) → own ≡ arcs → read ≡ starts → told ≡ known
     → AreFirstToAttain own read told firsts → AreFirstToAttain arcs starts known firsts
@@ -64,6 +70,15 @@ loop-t-preserved-then-is_some c =
           (column_by_test columns t c.index.result.now at' (sym c.is_some.ensures ∙ c.if-is_some.true)) c.loop-t.invariant.columns);
     }
 
+pub distances_to-requires-clause-starts : goal.distances_to-requires-clause-starts
+distances_to-requires-clause-starts c = c.in_ok-into.ensures.starts
+
+pub distances_to-requires-clause-rows : goal.distances_to-requires-clause-rows
+distances_to-requires-clause-rows c = omega (arith, c.in_ok-into.ensures.rows, c.count-count.ensures.count, c.loop-t.invariant.known)
+
+pub distances_to-requires-clause-few : goal.distances_to-requires-clause-few
+distances_to-requires-clause-few c = omega (arith, c.loop-t.invariant.known, c.count-count.ensures.kept.few_nodes)
+
 pub distances_to-requires-clause-tails : goal.distances_to-requires-clause-tails
 distances_to-requires-clause-tails c =
     from_below c.args.area.now c.in_ok-into.into.arcs.items _ c.count-count.ensures.kept
@@ -74,6 +89,14 @@ pub distances_to-requires-clause-node : goal.distances_to-requires-clause-node
 distances_to-requires-clause-node c =
     let low = asked_within (length c.args.area.now.ids) c.args.destinations.now c.loop-t.t-index c.t-item.result c.requires.within c.loop-t-test.true c.t-item.is in
     omega (arith, low, c.loop-t.invariant.known)
+
+pub column-requires-clause-few : goal.column-requires-clause-few
+column-requires-clause-few c = omega (arith, ap length c.requires.arcs, c.count-count.ensures.kept.few_arcs)
+
+pub column-requires-clause-starts : goal.column-requires-clause-starts
+column-requires-clause-starts c =
+    starts_as _ _ c.args.area.now.arcs c.args.arcs.now c.in_ok-starts.starts.items c.deref.result.now
+    (ap length c.deref-in-loop-t.ensures.value ∙ c.in_ok-distances_to.ensures.one_each ∙ c.loop-t.invariant.known) c.requires.arcs c.deref.ensures.value c.in_ok-starts.ensures
 
 pub column-requires-clause-between : goal.column-requires-clause-between
 column-requires-clause-between c =

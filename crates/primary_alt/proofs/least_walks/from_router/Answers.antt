@@ -31,6 +31,13 @@ least_of : (area : AreaParts) (own : List Arc) (s : ℕ) (known told : List (Opt
 least_of area own s known told begins same same' least =
     subst (λ (xs : List Arc). AreLeast xs s known begins) same (subst (λ (d : List (Option ℕ)). AreLeast own s d begins) same' least)
 
+pub distances-requires-clause-one_each : goal.distances-requires-clause-one_each
+distances-requires-clause-one_each c =
+    omega (arith, c.in_ok-known.ensures.len, c.in_ok-known.known.ok.0, c.count.ensures.count, ap (λ (a : AreaParts). length a.ids) c.in_ok-searches.ensures)
+
+pub distances-requires-clause-node : goal.distances-requires-clause-node
+distances-requires-clause-node c = omega (arith, c.requires.within, ap (λ (a : AreaParts). length a.ids) c.in_ok-searches.ensures)
+
 pub least_beginnings-requires-clause-few : goal.least_beginnings-requires-clause-few
 least_beginnings-requires-clause-few c =
     subst (λ (xs : List Arc). length xs ≤ 32768) (sym (c.deref.ensures.value ∙ c.in_ok-arcs.ensures.arcs)) c.in_ok-arcs.ensures.kept.few_arcs
@@ -78,6 +85,9 @@ entries-requires-clause-are c =
     (beginnings area c.in_ok-arcs.ensures.kept s (router_from area.ids s c.requires.within c.requires.router) known one_each from
     (at_source area.arcs s known from (omega (arith, c.requires.within, one_each))) begins least
     (c.in_ok-begins.ensures.one_each ∙ ap (λ (d : List (Option ℕ)). length d) c.deref-2.ensures.value))
+
+pub returns-clause-primaries : goal.returns-clause-primaries
+returns-clause-primaries c = c.in_ok-primaries.ensures
 
 pub returns-clause-distances : goal.returns-clause-distances
 returns-clause-distances c = from_s c.args.area.now _ c.args.source c.distances.new.known.items c.in_ok-searches.ensures c.in_ok-distances.ensures.distances

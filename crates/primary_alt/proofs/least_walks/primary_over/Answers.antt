@@ -3,6 +3,7 @@ use Rattle.area_graph.specs.declared.area_types.Arc.{Arc}
 use Rattle.area_graph.specs.Parts.{AreaParts}
 use Rattle.primary_alt.specs.Beginnings.{IsFirst}
 use Rattle.primary_alt.specs.Primaries.{IsPrimary}
+use Rattle.primary_alt.proofs.AreaArcs.{arcs_between}
 use Rattle.primary_alt.proofs.Beginning.{at_own, first_within, over_one, over_two, same_arc}
 use Rattle.primary_alt.proofs.least_walks.primary_over.Goals as goal
 
@@ -11,6 +12,16 @@ first_read : (area : AreaParts) (s t number : ℕ) → IsFirst area s t number �
     → place ≡ number → read ≡ get_or own place read → slice_get area.arcs number ≡ Some read
 first_read area s t number is own place read same here stands =
     at_own area.arcs own place number read same here (omega (arith, here, ap length same, first_within area s t number is)) stands
+
+pub bounds-arcs-get : goal.bounds-arcs-get
+bounds-arcs-get c =
+    omega (arith, c.get.ensures.value, ap length c.requires.arcs, first_within c.args.area.now c.args.source c.args.t c.args.begin.first c.requires.begin.first)
+
+pub leads_over-requires : goal.leads_over-requires
+leads_over-requires c =
+    (arcs_between c.args.area.now c.requires.kept).tos c.args.begin.first c.index-arcs-get.result
+    (first_read c.args.area.now c.args.source c.args.t c.args.begin.first c.requires.begin.first c.args.arcs.now c.get.result c.index-arcs-get.result
+    c.requires.arcs c.get.ensures.value c.index-arcs-get.is)
 
 pub returns-then-not-leads_over : goal.returns-then-not-leads_over
 returns-then-not-leads_over c =

@@ -1,5 +1,7 @@
 use Rattle.std.proofs.Common.{◌≡◌, ◌+◌, ◌∙◌, ◌++◌, ◌∷◌, [], ℕ, List, Option, None, Some, length, refl, sym, ap, subst, arith}
 use Rattle.std.proofs.lemmas.Option.{slice_get_read}
+use Rattle.area_graph.specs.declared.area_types.Arc.{Arc}
+use Rattle.mrt_graph.proofs.Members.{contains_none}
 use Rattle.primary_alt.specs.declared.onward.Onward.{Onward}
 use Rattle.primary_alt.specs.Onward.{AreOnward}
 use Rattle.primary_alt.proofs.OnwardFound.{one_left, one_onward, onward_all}
@@ -9,6 +11,32 @@ use Rattle.primary_alt.proofs.onward.found.Goals.{in-Some, in_default}
 -- none is no sum
 no_sum : (o : Option ℕ) (sum : ℕ) → o ≡ None → o ≡ Some sum → ⊥
 no_sum o sum none is = let clash : None ≡ Some sum = sym none ∙ is in cc
+
+onward_none : (arcs : List Arc) (known : List (Option ℕ)) → AreOnward arcs known 0 []
+onward_none arcs known = record {
+  all = λ number sum arc low at is. absurd (omega (arith, low));
+  only = λ next has. absurd (contains_none next has);
+}
+
+pub loop-number-init : goal.loop-number-init
+loop-number-init c = record {
+  are = subst (λ (xs : List Onward). AreOnward c.args.arcs.now c.args.distances.now 0 xs) (sym c.in_ok-onward.ensures.items) (onward_none c.args.arcs.now c.args.distances.now);
+  room = omega (arith, c.in_ok-onward.ensures.len);
+  capacity = omega (arith, c.in_ok-onward.ensures.capacity);
+}
+
+pub sum_over-requires-clause-tail : goal.sum_over-requires-clause-tail
+sum_over-requires-clause-tail c =
+    c.requires.between.tails c.loop-number.number c.index-arcs-number.result
+    (slice_get_read c.args.arcs.now (length c.args.arcs.now) c.loop-number.number c.index-arcs-number.result refl c.loop-number-test.true c.index-arcs-number.is)
+
+pub sum_over-requires-clause-to : goal.sum_over-requires-clause-to
+sum_over-requires-clause-to c =
+    c.requires.between.tos c.loop-number.number c.index-arcs-number.result
+    (slice_get_read c.args.arcs.now (length c.args.arcs.now) c.loop-number.number c.index-arcs-number.result refl c.loop-number-test.true c.index-arcs-number.is)
+
+pub push_reserved-requires : goal.push_reserved-requires
+push_reserved-requires c = omega (arith, c.loop-number.invariant.room, c.loop-number.invariant.capacity, c.loop-number-test.true)
 
 pub loop-number-preserved : goal.loop-number-preserved
 loop-number-preserved c =

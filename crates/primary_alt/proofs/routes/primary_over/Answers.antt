@@ -1,4 +1,4 @@
-use Rattle.std.proofs.Common.{◌≡◌, ◌<◌, ◌==◌, ◌∙◌, not, true, false, ℕ, Bool, List, Option, None, Some, length, get_or, refl, sym, ap, subst}
+use Rattle.std.proofs.Common.{◌≡◌, ◌<◌, ◌==◌, ◌∙◌, not, true, false, ℕ, Bool, List, Option, None, Some, length, get_or, refl, sym, ap, subst, arith}
 use Rattle.std.specs.Prelude.{◌||◌}
 use Rattle.std.proofs.lemmas.List.{get_or_default}
 use Rattle.std.proofs.lemmas.Option.{slice_get_read}
@@ -44,6 +44,15 @@ over_none networks leads column t number at to within same is on first =
 pub ends_hop-requires : goal.ends_hop-requires
 ends_hop-requires c =
     far_within c.args.networks.now c.args.leads.now c.args.column.now c.args.first c.get.result c.index-leads-get.result c.requires.kept c.requires.first c.get.ensures.value c.index-leads-get.is
+
+pub bounds-leads-get-2 : goal.bounds-leads-get-2
+bounds-leads-get-2 c =
+    omega (
+      arith,
+      c.get-2.ensures.value,
+      c.requires.kept.arcs c.index-leads-get.result c.in_ok-second.second
+          (stands c.args.column.now c.index-leads-get.result c.in_ok-second.second (sym c.in_ok-second.ensures)),
+    )
 
 pub returns-then-ends_hop : goal.returns-then-ends_hop
 returns-then-ends_hop c =

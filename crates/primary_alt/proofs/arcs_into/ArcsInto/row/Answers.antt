@@ -1,4 +1,4 @@
-use Rattle.std.proofs.Common.{◌+◌, ◌-◌, ℕ, List, ap, drop, subst, sym, take, arith}
+use Rattle.std.proofs.Common.{◌+◌, ◌-◌, ℕ, List, ap, drop, length, subst, sym, take, arith}
 use Rattle.area_graph.specs.declared.area_types.Arc.{Arc}
 use Rattle.primary_alt.specs.ArcsInto.{AreInto}
 use Rattle.primary_alt.proofs.RowsInto.{row_into, start_read, starts_climb}
@@ -13,6 +13,15 @@ slice_bounds-result-count c =
 
 pub slice_bounds-result-start : goal.slice_bounds-result-start
 slice_bounds-result-start c = slice_bounds-result-count c
+
+pub slice_bounds-result-end : goal.slice_bounds-result-end
+slice_bounds-result-end c =
+    omega (
+      arith,
+      ap length c.deref.ensures.value,
+      (start_read c.args.self.now.arcs.items c.args.self.now.starts.items (c.args.v + 1) (c.get-place.result + 1) c.index-to.result.now c.requires.starts c.requires.node
+          (ap (λ (n : ℕ). n + 1) c.get-place.ensures.value) c.index-to.ensures).within,
+    )
 
 pub returns : goal.returns
 returns c =

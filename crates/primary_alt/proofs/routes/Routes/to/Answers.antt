@@ -1,5 +1,6 @@
 use Rattle.std.proofs.Common.{◌≡◌, ◌∙◌, ℕ, Bool, List, Option, refl, sym, ap, subst}
 use Rattle.primary_alt.specs.FirstArcs.{IsTable}
+use Rattle.primary_alt.specs.RoutesMade.{AreAreaNodes}
 use Rattle.primary_alt.proofs.ColumnsGive.{has_columns, is_table, leads_of, made, networks_of}
 use Rattle.primary_alt.proofs.routes.Routes.to.Goals as goal
 
@@ -8,6 +9,22 @@ table_by : (networks networks' : List Bool) (leads leads' : List ℕ) (columns :
     → IsTable networks leads columns → IsTable networks' leads' columns
 table_by networks networks' leads leads' columns same same' is =
     subst (λ (xs : List Bool). IsTable xs leads' columns) (sym same) (subst (λ (xs : List ℕ). IsTable networks xs columns) (sym same') is)
+
+pub first_columns-requires-clause-arcs : goal.first_columns-requires-clause-arcs
+first_columns-requires-clause-arcs c = c.deref.ensures.value ∙ c.in_ok-arcs.ensures.arcs
+
+pub area_nodes-requires : goal.area_nodes-requires
+area_nodes-requires c = c.requires.fits.nodes
+
+pub island_nodes-requires : goal.island_nodes-requires
+island_nodes-requires c =
+    subst (λ (xs : List ℕ). AreAreaNodes c.args.area.now.ids c.args.g.now.ids xs) (sym c.deref-3.ensures.value) c.in_ok-spots.ensures
+
+pub bonds_of_links-requires-clause-arcs : goal.bonds_of_links-requires-clause-arcs
+bonds_of_links-requires-clause-arcs c = c.deref-4.ensures.value ∙ c.in_ok-arcs.ensures.arcs
+
+pub bonds_of_links-requires-clause-fits : goal.bonds_of_links-requires-clause-fits
+bonds_of_links-requires-clause-fits c = c.requires.fits
 
 pub bonds_of_links-requires-clause-kept : goal.bonds_of_links-requires-clause-kept
 bonds_of_links-requires-clause-kept c = c.all_arcs.ensures.kept
