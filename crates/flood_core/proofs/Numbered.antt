@@ -1,7 +1,7 @@
 -- What numbers tell of LSAs in one list.
 use Rattle.std.proofs.Common.{◌≡◌, ◌∙◌, ◌<◌, ◌+◌, ◌++◌, ℕ, zero, suc, Bool, true, List, [], ◌∷◌, length, map, get_or, drop, refl, sym, ap, subst, add-one, append_assoc, drop-cons, arith}
 use Rattle.std.specs.List.{AllByRecursion}
-use Rattle.std.proofs.lemmas.List.{map-append, get_or_append_left, get_or_read, get_or-map, length-append}
+use Rattle.std.proofs.lemmas.List.{append-nil, nil_from_length, map-append, get_or_append_left, get_or_read, get_or-map, length-append}
 use Rattle.std.specs.Ordering.{ordering_reverse}
 use Rattle.std.specs.declared.cmp.Ordering.{Ordering}
 use Rattle.std.specs.declared.cmp.Ordering.TheVariants.{Less, Equal, Greater}
@@ -144,6 +144,12 @@ one_number first own now now' numbers numbers' left left' x is so_far grown stan
       are = all_append (λ (n : ℕ). n < length (now ++ x ∷ [])) numbers (length now ∷ [])
           (still_numbers now (x ∷ []) numbers turn.are) (omega (arith, length-append now (x ∷ [])), tt);
     }))
+
+pub numbered_all : (first own now : List Lsa) (numbers : List ℕ) (left : List Lsa) → AreNumbered first own now numbers left → length left ≡ 0
+    → (now ≡ first ++ own) × (lsas_by now numbers ≡ own)
+numbered_all first own now numbers left so_far none =
+    let done : AreNumbered first own now numbers [] = subst (AreNumbered first own now numbers) (nil_from_length left none) so_far in
+    (sym (append-nil now) ∙ done.stand, sym (append-nil (lsas_by now numbers)) ∙ done.told)
 
 -- ---- entries
 

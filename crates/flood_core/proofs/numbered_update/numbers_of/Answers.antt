@@ -1,5 +1,5 @@
-use Rattle.std.proofs.Common.{◌∙◌, ◌++◌, ◌∷◌, [], ℕ, length, ap}
-use Rattle.flood_core.proofs.Numbered.{one_number}
+use Rattle.std.proofs.Common.{◌∙◌, ◌++◌, ◌∷◌, [], ℕ, length, ap, arith}
+use Rattle.flood_core.proofs.Numbered.{numbered_all, one_number}
 use Rattle.flood_core.proofs.numbered_update.numbers_of.Goals as goal
 
 pub loop-lsa-preserved : goal.loop-lsa-preserved
@@ -11,3 +11,14 @@ loop-lsa-preserved c =
     ∙ ap (λ (n : ℕ). c.loop-lsa.numbers.items ++ n ∷ [])
     (c.in_ok-next_number.ensures ∙ ap length c.as_slice-in-loop-lsa.ensures.value))
     c.in_ok-push-2.ensures.items
+
+pub returns-clause-lsas : goal.returns-clause-lsas
+returns-clause-lsas c =
+    (numbered_all c.args.lsas.now.items c.args.own.items c.loop-lsa.lsas.items c.loop-lsa.numbers.items c.loop-lsa.lsa-iterator.rest.items c.loop-lsa.invariant (omega (arith, c.in-None.ensures.steps.0, c.loop-lsa.lsa-iterator.rest.ok.0))).0
+
+pub returns-clause-own : goal.returns-clause-own
+returns-clause-own c =
+    (numbered_all c.args.lsas.now.items c.args.own.items c.loop-lsa.lsas.items c.loop-lsa.numbers.items c.loop-lsa.lsa-iterator.rest.items c.loop-lsa.invariant (omega (arith, c.in-None.ensures.steps.0, c.loop-lsa.lsa-iterator.rest.ok.0))).1
+
+pub returns-clause-numbers : goal.returns-clause-numbers
+returns-clause-numbers c = c.loop-lsa.invariant.are

@@ -7,6 +7,11 @@ use Rattle.flood_core.proofs.OnePacket.{count_refused}
 use Rattle.flood_core.proofs.Refusals.{told_here}
 use Rattle.flood_core.proofs.packet.packet.Goals as goal
 
+pub returns-in-Some-clause-fault : goal.returns-in-Some-clause-fault
+returns-in-Some-clause-fault c = λ place kind told.
+    told_here c.args.at place c.in-Some.kind kind c.args.bytes.now c.in-Some.ensures.fault
+    (let same : Fault c.args.at c.in-Some.kind ≡ Fault place kind = cc in same)
+
 pub returns-then-number_32-as_slice-clause-fault : goal.returns-then-number_32-as_slice-clause-fault
 returns-then-number_32-as_slice-clause-fault c = λ place kind told.
     told_here c.args.at place kinds.Count kind c.args.bytes.now

@@ -15,6 +15,16 @@ lsa_at : (lsas : List Lsa) (held : List Held) (place : ℕ) (h : Held) (x : Lsa)
 lsa_at lsas held place h x numbers within there is =
     lsa_read lsas h.number x (all_at (λ (h : Held). h.number < length lsas) held place h numbers within there) is
 
+pub bounds-lsas-index : goal.bounds-lsas-index
+bounds-lsas-index c =
+    all_at (λ (h : Held). h.number < length c.args.lsas.now) c.args.store.now.held.items c.loop-place.place c.index.result.now
+    c.requires.stored.numbers (omega arith) c.index.ensures
+
+pub bounds-others-index : goal.bounds-others-index
+bounds-others-index c =
+    all_at (λ (h : Held). h.number < length c.args.others.now) c.args.other.now.held.items c.loop-place.place c.index-in-loop-place.result.now
+    c.requires.other_stored.numbers (omega arith) c.index-in-loop-place.ensures
+
 pub returns-then-not-are_alike : goal.returns-then-not-are_alike
 returns-then-not-are_alike c =
     let within : c.loop-place.place < length c.args.store.now.held.items = omega arith in
