@@ -1,5 +1,16 @@
+use Rattle.std.proofs.Common.{◌≡◌, ◌∙◌, ℕ, List, map, replicate, sym, ap, subst, arith}
+use Rattle.std.specs.List.{AllByRecursion}
+use Rattle.flood_core.specs.declared.receiver.Receiver.{Receiver}
+use Rattle.flood_core.specs.Numbers.{router_in, IsStored}
+use Rattle.flood_core.specs.Receiving.{new_router}
 use Rattle.flood_core.proofs.NumberedDelivery.{one_more_router, one_more_stored}
 use Rattle.flood_core.proofs.flood.new_routers.Goals as goal
+
+pub loop-number-init : goal.loop-number-init
+loop-number-init c = record {
+  told = λ lsas. ap (map (router_in lsas)) c.in_ok-routers.ensures.items;
+  stored = λ lsas. subst (λ (rs : List Receiver). AllByRecursion (λ (r : Receiver). IsStored lsas r.store) rs) (sym c.in_ok-routers.ensures.items) tt;
+}
 
 pub loop-number-preserved : goal.loop-number-preserved
 loop-number-preserved c = record {
@@ -8,3 +19,11 @@ loop-number-preserved c = record {
   stored = λ lsas. one_more_stored lsas c.loop-number.routers.items c.push.new.self.items c.new.result
       c.in_ok-push.ensures.items (c.new.ensures.stored lsas) (c.loop-number.invariant.stored lsas);
 }
+
+pub returns-clause-routers : goal.returns-clause-routers
+returns-clause-routers c = λ lsas.
+    let all : c.loop-number._number ≡ c.args.count = omega (arith, c.loop-number-test.false, c.loop-number.auto._number-end) in
+    c.loop-number.invariant.told lsas ∙ ap (λ (n : ℕ). replicate n new_router) all
+
+pub returns-clause-stored : goal.returns-clause-stored
+returns-clause-stored c = λ lsas. c.loop-number.invariant.stored lsas
