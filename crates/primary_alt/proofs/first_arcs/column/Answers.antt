@@ -1,7 +1,19 @@
 use Rattle.std.proofs.Common.{◌+◌, ◌∷◌, [], ◌∙◌, ℕ, List, Option, ap, length, sym, subst, arith}
+use Rattle.std.specs.Prelude.{nat_lt}
 use Rattle.std.proofs.lemmas.List.{length-append}
+use Rattle.std.proofs.lemmas.List.Sums.{count_by-le-length}
+use Rattle.area_graph.specs.declared.area_types.Arc.{Arc}
 use Rattle.primary_alt.proofs.FirstColumns.{AreFirstsTo, firsts_more}
 use Rattle.primary_alt.proofs.first_arcs.column.Goals as goal
+
+pub first_arc-requires-clause-within : goal.first_arc-requires-clause-within
+first_arc-requires-clause-within c =
+    let next = c.loop-x.x + 1 in
+    omega (
+      arith,
+      c.requires.starts.lower next (omega (arith, c.loop-x-test.true)),
+      count_by-le-length (λ (arc : Arc). nat_lt arc.tail next) c.args.arcs.now,
+    )
 
 pub loop-x-preserved : goal.loop-x-preserved
 loop-x-preserved c = record {
