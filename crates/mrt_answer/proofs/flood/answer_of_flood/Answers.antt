@@ -9,8 +9,8 @@ use Rattle.mrt_graph.specs.TextLines.{text_lines}
 use Rattle.mrt_island.specs.declared.setting.Setting.{Setting}
 use Rattle.mrt_words.specs.Kept.{flood_bytes}
 use Rattle.mrt_answer.specs.Input.{IsProfile}
-use Rattle.mrt_answer.specs.Refusals.{HasNoFloodScript, HasNoProfile, IsAnswerOfFlood}
-use Rattle.mrt_answer.proofs.Floods.{profile_refused, script_refused}
+use Rattle.mrt_answer.specs.Refusals.{HasNoFloodScript, HasNoProfile, HasNoUpdates, IsAnswerOfFlood}
+use Rattle.mrt_answer.proofs.Floods.{packets_refused, profile_refused, script_refused}
 use Rattle.mrt_words.proofs.HandedOn.{handed_on}
 use Rattle.mrt_answer.proofs.flood.answer_of_flood.Goals as goal
 
@@ -57,3 +57,28 @@ returns-clause-text c =
           IsFloodText (Says s) (started updates script.routers) script.lines c.in_ok-flood_text.field-0.items)
           c.new-comparing.ensures c.in_ok-flood_text.ensures;
     }
+
+pub returns-in_err-updates-clause-refused : goal.returns-in_err-updates-clause-refused
+returns-in_err-updates-clause-refused c =
+    let bytes = flood_bytes c.args.files.now in
+    let exit = c.in_err-updates.field-0.0 in
+    handed_on c.from_residual.result exit c.from_residual.ensures.1 (IsAnswerOfFlood bytes)
+    (packets_refused bytes exit (subst (λ (b : List ℕ). HasNoUpdates b exit) c.deref.ensures.value c.in_err-updates.ensures.none))
+
+pub flood_text-requires-clause-few_updates : goal.flood_text-requires-clause-few_updates
+flood_text-requires-clause-few_updates c = c.in_ok-updates.ensures.few
+
+pub flood_text-requires-clause-may_flood : goal.flood_text-requires-clause-may_flood
+flood_text-requires-clause-may_flood c = c.in_ok-updates.ensures.may_flood
+
+pub flood_text-requires-clause-some : goal.flood_text-requires-clause-some
+flood_text-requires-clause-some c = c.in_ok-script.ensures.some
+
+pub flood_text-requires-clause-at_most : goal.flood_text-requires-clause-at_most
+flood_text-requires-clause-at_most c = c.in_ok-script.ensures.at_most
+
+pub flood_text-requires-clause-few : goal.flood_text-requires-clause-few
+flood_text-requires-clause-few c = c.in_ok-script.ensures.few
+
+pub flood_text-requires-clause-among : goal.flood_text-requires-clause-among
+flood_text-requires-clause-among c = c.in_ok-script.ensures.among

@@ -76,3 +76,6 @@ returns-clause-proxied c =
     let own = c.requires.computed in
     let at = goal.at.returns-clause-proxied c in
     record { file = own.file; certificate = own.certificate; spelled = c.in_ok-text.ensures own.file.cert (rows_are at.After-deref-3 (nodes_say at.After-deref)) }
+
+pub nodes-requires : goal.nodes-requires
+nodes-requires c = c.requires.made

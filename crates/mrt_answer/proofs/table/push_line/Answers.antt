@@ -23,3 +23,14 @@ returns-clause-line c = λ file is.
       };
       added = line.added;
     }
+
+pub push_table_line-requires-clause-primary : goal.push_table_line-requires-clause-primary
+push_table_line-requires-clause-primary c =
+    c.primary_for-primary.ensures.is c.args.parts.now.source c.requires.kept.primaries
+
+pub column-column-requires : goal.column-column-requires
+column-column-requires c = (c.args.to, c.aim.ensures.aimed)
+
+pub primary_for-primary-requires-clause-primaries : goal.primary_for-primary-requires-clause-primaries
+primary_for-primary-requires-clause-primaries c =
+    (c.args.parts.now.source, c.requires.kept.within, c.requires.different, c.requires.kept.primaries)

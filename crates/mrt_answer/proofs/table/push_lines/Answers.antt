@@ -1,9 +1,9 @@
-use Rattle.std.proofs.Common.{◌≡◌, ◌≢◌, ◌∙◌, ℕ, sym, subst}
+use Rattle.std.proofs.Common.{◌≡◌, ◌≢◌, ◌∙◌, ℕ, refl, sym, subst}
 use Rattle.primary_alt.proofs.ColorsUse.{agree, differ}
 use Rattle.text_parts.specs.Adds.{Adds}
 use Rattle.mrt_report.specs.ByColumn.{IsLineByColumn}
 use Rattle.mrt_rows.specs.CertOf.{IsCertOf}
-use Rattle.mrt_report.proofs.AddingLines.{line_added, line_passed}
+use Rattle.mrt_report.proofs.AddingLines.{no_lines, line_added, line_passed}
 use Rattle.mrt_answer.specs.TableMade.{with_cert}
 use Rattle.mrt_answer.proofs.table.push_lines.Goals.{then-ne+in_ok-push_line, else-ne}
 use Rattle.mrt_answer.proofs.table.push_lines.Goals as goal
@@ -31,3 +31,12 @@ loop-place-preserved c = elim c.if-ne.branch [
         (c.loop-place.invariant.2 file is),
   )
 ]
+
+pub loop-place-init : goal.loop-place-init
+loop-place-init c = (refl, c.requires.made, λ file is. no_lines (IsLineByColumn (with_cert c.args.parts.now file.cert)) c.args.parts.now.source c.args.text.now.items)
+
+pub push_line-requires-clause-kept : goal.push_line-requires-clause-kept
+push_line-requires-clause-kept c = c.requires.kept
+
+pub push_line-requires-clause-made : goal.push_line-requires-clause-made
+push_line-requires-clause-made c = c.loop-place.invariant.1

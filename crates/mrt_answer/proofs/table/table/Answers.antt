@@ -6,10 +6,10 @@ use Rattle.primary_alt.specs.declared.shortest.Primary.{Primary}
 use Rattle.primary_alt.specs.Primaries.{ArePrimaries}
 use Rattle.area_graph.specs.Parts.{AreaParts}
 use Rattle.mrt_island.specs.IslandOf.{IsIsland}
-use Rattle.mrt_answer.specs.Input.{Input, HasIsland, policy, area}
+use Rattle.mrt_answer.specs.Input.{Input, HasIsland, IsMissing, policy, area}
 use Rattle.mrt_answer.specs.Tabled.{IsTableOf}
 use Rattle.mrt_words.proofs.HandedOn.{handed_on}
-use Rattle.mrt_answer.proofs.Refusals.{refused_in, root_within}
+use Rattle.mrt_answer.proofs.Refusals.{area_refused, refused_in, root_within}
 use Rattle.mrt_answer.proofs.Tables.{in_own_island, not_network, root_is_router}
 use Rattle.mrt_answer.proofs.table.table.Goals as goal
 use Rattle.mrt_answer.specs.Islands.{HasNoIslandFor}
@@ -92,3 +92,10 @@ returns-clause-tabled c =
           (subst (λ (a : AreaParts). IsTableOf a island.graph island.root c.as_slice.result.now c.args.router text)
           c.in_ok-area.ensures.area table);
     }
+
+pub returns-in_err-area-clause-refused : goal.returns-in_err-area-clause-refused
+returns-in_err-area-clause-refused c =
+    let input : Input = c.args.given.now in
+    handed_on c.from_residual.result c.in_err-area.field-0.0 c.from_residual.ensures.1 (IsDue (HasNoIslandFor input c.args.router))
+    (area_refused (IsMissing (policy input) (area input) c.args.router) input c.args.router c.in_err-area.field-0.0
+    c.in_err-area.ensures.refused)
