@@ -27,13 +27,24 @@ pub struct Target {
 /// What the rows of all nodes have in common, and the room in which columns are made: the nodes below others on the way from one
 /// destination to the root; some destinations side by side; what the blocks aim at for them, with tiles for the blocks of more
 /// than one link on the ways to the root: `shared`, of one place, for those that aim at one node for all, `each` for the others.
-#[derive(Drop)]
 pub struct Columns {
     common: Common,
     below: Vec<Option<NodeNo>>,
     targets: Vec<NodeNo>,
     each: Tiles,
     shared: Tiles,
+}
+
+impl Drop for Columns {
+    fn drop(self) {
+        let Self {
+            common: _,
+            below: _,
+            targets: _,
+            each: _,
+            shared: _,
+        } = self;
+    }
 }
 
 impl Columns {

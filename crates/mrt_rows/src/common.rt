@@ -16,13 +16,24 @@ use std::alloc::Global;
 
 /// The nodes by their turns, marks on the root and on heads of blocks of more than one link, the sole links, and tiles of width
 /// one in which each block aims at its head.
-#[derive(Drop)]
 pub struct Common {
     pub by_order: Vec<NodeNo>,
     pub against_order: Vec<NodeNo>,
     pub heads: Vec<bool>,
     pub soles: Vec<LinkNo>,
     pub homes: Tiles,
+}
+
+impl Drop for Common {
+    fn drop(self) {
+        let Self {
+            by_order: _,
+            against_order: _,
+            heads: _,
+            soles: _,
+            homes: _,
+        } = self;
+    }
 }
 
 impl Common {

@@ -17,13 +17,24 @@ use std::alloc::Global;
 
 /// What the rows of all nodes have in common, and the first links of so many sources side by side: the fans are open from the
 /// nodes from number `first` on, from none where there is no such node.
-#[derive(Drop)]
 pub struct Making {
     pub common: Common,
     pub width: u16,
     pub first: u16,
     pub up: Fan,
     pub down: Fan,
+}
+
+impl Drop for Making {
+    fn drop(self) {
+        let Self {
+            common: _,
+            width: _,
+            first: _,
+            up: _,
+            down: _,
+        } = self;
+    }
 }
 
 impl Making {

@@ -14,12 +14,22 @@ use std::alloc::Global;
 use std::marker::Model;
 
 /// What makes the columns of a graph: its root, the directions from it, what all columns have in common, and what is aimed at.
-#[derive(Drop)]
 pub struct RootedColumns {
     root: NodeNo,
     directed: Directed,
     columns: Columns,
     to: Target,
+}
+
+impl Drop for RootedColumns {
+    fn drop(self) {
+        let Self {
+            root: _,
+            directed: _,
+            columns: _,
+            to: _,
+        } = self;
+    }
 }
 
 impl Model for RootedColumns {

@@ -16,13 +16,24 @@ use std::marker::Model;
 const SOURCES: u16 = 64;
 
 /// The rows of a graph from a root, source after source: the root, the directions, what makes rows, and room for one source's.
-#[derive(Drop)]
 pub struct SourceRows {
     root: NodeNo,
     directed: Directed,
     making: Making,
     room: Vec<Row>,
     count: usize,
+}
+
+impl Drop for SourceRows {
+    fn drop(self) {
+        let Self {
+            root: _,
+            directed: _,
+            making: _,
+            room: _,
+            count: _,
+        } = self;
+    }
 }
 
 impl Model for SourceRows {

@@ -13,12 +13,22 @@ use mrt_graph::{NoMemory, NodeNo};
 use std::alloc::Global;
 
 /// What the blocks of a graph aim at, at some places side by side; marks on blocks; and tiles that are aimed so in the marked ones.
-#[derive(Drop)]
 pub struct Tiles {
     pub aims: Vec<NodeNo>,
     pub wanted: Vec<bool>,
     pub up: Tile,
     pub down: Tile,
+}
+
+impl Drop for Tiles {
+    fn drop(self) {
+        let Self {
+            aims: _,
+            wanted: _,
+            up: _,
+            down: _,
+        } = self;
+    }
 }
 
 impl Tiles {
