@@ -15,13 +15,23 @@ use std::marker::Model;
 /// It has at most 4,096 nodes and 32,768 arcs. Nodes are numbered from 0 by ascending identifier. Arcs are numbered by
 /// tail, then by metric, then by far node, then by link data, then by their place in the LSA. Of the bonds the pairs
 /// come first, by lower, then by higher node, and after them the single arcs in the order of arcs.
-#[derive(Drop)]
 pub struct Area {
     ids: Vec<NodeId>,
     arcs: Vec<Arc>,
     /// Of each node the number of arcs whose tail is a lower node, and after them the number of all arcs.
     starts: Vec<usize>,
     bonds: Vec<Bond>,
+}
+
+impl Drop for Area {
+    fn drop(self) {
+        let Self {
+            ids: _,
+            arcs: _,
+            starts: _,
+            bonds: _,
+        } = self;
+    }
 }
 
 impl Model for Area {

@@ -86,10 +86,15 @@ fn cert_of(rt: &impl Abort, alloc: Global, island: &Island) -> Result<Cert, NoMe
 }
 
 /// The links and the certificate of an island.
-#[derive(Drop)]
 pub struct Parts {
     pub links: Vec<Link>,
     pub cert: Cert,
+}
+
+impl Drop for Parts {
+    fn drop(self) {
+        let Self { links: _, cert: _ } = self;
+    }
 }
 
 pub fn parts_of(rt: &impl Abort, alloc: Global, island: &Island) -> Result<Parts, NoMemory>

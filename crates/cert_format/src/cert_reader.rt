@@ -26,11 +26,20 @@ use std::marker::Model;
 ///
 /// It keeps room for all nodes once the header is there, and for all links and rows once all nodes are: with other pieces no
 /// memory is taken. No clause says with which piece `NoMemory` can come.
-#[derive(Drop)]
 pub struct CertReader {
     kept: Kept,
     held: Held,
     fault: Option<CertFault>,
+}
+
+impl Drop for CertReader {
+    fn drop(self) {
+        let Self {
+            kept: _,
+            held: _,
+            fault: _,
+        } = self;
+    }
 }
 
 impl Model for CertReader {
@@ -112,10 +121,11 @@ impl CertReader {
     fn end(self) -> Result<CertFile, CertFault>
         ensures { Finishes self result }
     {
-        if let Some(fault) = self.fault {
+        let Self { kept, held, fault } = self;
+        if let Some(fault) = fault {
             return Err(fault);
         }
-        file_of(self.kept, &self.held)
+        file_of(kept, &held)
     }
 }
 

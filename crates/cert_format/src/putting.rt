@@ -13,10 +13,15 @@ use std::marker::Model;
 
 /// A certificate file within the limits of its version, and the room that writing it takes. Its bytes are made as they
 /// are written, so none are held.
-#[derive(Drop)]
 pub struct WritableCert {
     file: CertFile,
     writer: CertWriter,
+}
+
+impl Drop for WritableCert {
+    fn drop(self) {
+        let Self { file: _, writer: _ } = self;
+    }
 }
 
 impl Model for WritableCert {

@@ -21,7 +21,6 @@ use std::marker::Model;
 const VERSION: u16 = 2;
 
 /// The certificate of a graph and its root, the rows of which are found as they are written or compared.
-#[derive(Drop)]
 pub struct CertStream {
     graph: Graph,
     root: NodeNo,
@@ -30,6 +29,20 @@ pub struct CertStream {
     links: Vec<CertLink>,
     rows: SourceRows,
     writer: CertWriter,
+}
+
+impl Drop for CertStream {
+    fn drop(self) {
+        let Self {
+            graph: _,
+            root: _,
+            number: _,
+            nodes: _,
+            links: _,
+            rows: _,
+            writer: _,
+        } = self;
+    }
 }
 
 impl Model for CertStream {
@@ -111,11 +124,12 @@ impl CertStream {
     {
         let CertStream {
             graph,
+            root: _,
+            number: _,
             nodes,
             links,
             mut rows,
             writer,
-            ..
         } = self;
         // what each graph keeps is told by reading it
         let _count = graph.node_count();

@@ -44,11 +44,20 @@ pub fn two<'a>(database: File<'a>, certificate: File<'a>) -> Files<'a> {
 }
 
 /// What the top call left.
-#[derive(Drop)]
 pub struct Left {
     pub exit: Exit,
     pub out: MemSink,
     pub err: MemSink,
+}
+
+impl Drop for Left {
+    fn drop(self) {
+        let Self {
+            exit: _,
+            out: _,
+            err: _,
+        } = self;
+    }
 }
 
 /// Devices in memory: which call of the shelf fails; and of the output its room, how many bytes it takes at a time, and

@@ -22,13 +22,24 @@ use std::marker::Model;
 /// 13.3), and nothing else of section 13.
 ///
 /// Each LSA of the file stands once in a list; packets and databases have its number there.
-#[derive(Drop)]
 pub struct Flood {
     alloc: Global,
     lsas: Vec<Lsa>,
     packets: Vec<NumberedUpdate>,
     routers: Vec<Receiver>,
     changed: u32,
+}
+
+impl Drop for Flood {
+    fn drop(self) {
+        let Self {
+            alloc: _,
+            lsas: _,
+            packets: _,
+            routers: _,
+            changed: _,
+        } = self;
+    }
 }
 
 impl Model for Flood {

@@ -15,10 +15,18 @@ use ospf_lsa::Lsa;
 use std::alloc::Global;
 
 /// A router's database, and how many LSAs of types 1 and 2 have arrived for it.
-#[derive(Drop)]
 pub struct Receiver {
     pub store: Store,
     pub arrivals: u32,
+}
+
+impl Drop for Receiver {
+    fn drop(self) {
+        let Self {
+            store: _,
+            arrivals: _,
+        } = self;
+    }
 }
 
 impl Receiver {

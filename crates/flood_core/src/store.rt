@@ -17,11 +17,20 @@ use ospf_lsa::Lsa;
 use std::alloc::Global;
 
 /// A router's database: of each key the first newest instance, by its number among the LSAs of the file.
-#[derive(Drop)]
 pub struct Store {
     pub keys: IndexSet<Key, FileKey>,
     pub held: Vec<Held>,
     pub greatest: Option<u32>,
+}
+
+impl Drop for Store {
+    fn drop(self) {
+        let Self {
+            keys: _,
+            held: _,
+            greatest: _,
+        } = self;
+    }
 }
 
 impl Store {

@@ -18,13 +18,24 @@ use std::marker::Model;
 
 /// For each node, and each of the sources side by side, the least cost and the place of the source's end that begins the
 /// least path; the same of the node that has its turn; and marks on the sources and on their heads.
-#[derive(Drop)]
 pub struct Fan {
     costs: Vec<u32>,
     places: Vec<u16>,
     from_costs: Vec<u32>,
     from_places: Vec<u16>,
     stops: Vec<bool>,
+}
+
+impl Drop for Fan {
+    fn drop(self) {
+        let Self {
+            costs: _,
+            places: _,
+            from_costs: _,
+            from_places: _,
+            stops: _,
+        } = self;
+    }
 }
 
 impl Model for Fan {

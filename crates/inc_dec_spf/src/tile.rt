@@ -13,13 +13,24 @@ use std::alloc::Global;
 use std::marker::Model;
 
 /// For each of so many nodes, costs and links to some nodes side by side; and the same of the node that has its turn.
-#[derive(Drop)]
 pub struct Tile {
     nodes: usize,
     all_costs: Vec<u32>,
     all_links: Vec<LinkNo>,
     costs: Vec<u32>,
     links: Vec<LinkNo>,
+}
+
+impl Drop for Tile {
+    fn drop(self) {
+        let Self {
+            nodes: _,
+            all_costs: _,
+            all_links: _,
+            costs: _,
+            links: _,
+        } = self;
+    }
 }
 
 impl Model for Tile {

@@ -18,12 +18,22 @@ use std::alloc::Global;
 use std::marker::Model;
 
 /// A database of LSAs, which keeps of each key the first newest instance.
-#[derive(Drop)]
 pub struct Lsdb {
     keys: IndexSet<Key, FileKey>,
     lsas: Vec<Lsa>,
     differing: Vec<Option<u32>>,
     greatest: Option<u32>,
+}
+
+impl Drop for Lsdb {
+    fn drop(self) {
+        let Self {
+            keys: _,
+            lsas: _,
+            differing: _,
+            greatest: _,
+        } = self;
+    }
 }
 
 impl Model for Lsdb {

@@ -5,10 +5,18 @@ use mrt_island::Profile;
 use std::marker::Model;
 
 /// A database whose LSAs do not contradict each other, and a profile.
-#[derive(Drop)]
 pub(crate) struct Given {
     pub(crate) database: Lsdb,
     pub(crate) profile: Profile,
+}
+
+impl Drop for Given {
+    fn drop(self) {
+        let Self {
+            database: _,
+            profile: _,
+        } = self;
+    }
 }
 
 impl Model for Given {

@@ -19,17 +19,27 @@ use primary_alt::Routes;
 use std::alloc::Global;
 
 /// The area of a database, and a router's island in it.
-#[derive(Drop)]
 pub(crate) struct AreaAndIsland {
     pub(crate) area: Area,
     pub(crate) island: Island,
 }
 
+impl Drop for AreaAndIsland {
+    fn drop(self) {
+        let Self { area: _, island: _ } = self;
+    }
+}
+
 /// The routes to some destinations, and the rows for them.
-#[derive(Drop)]
 pub(crate) struct Tables {
     pub(crate) routes: Routes,
     pub(crate) rows: RowsTo,
+}
+
+impl Drop for Tables {
+    fn drop(self) {
+        let Self { routes: _, rows: _ } = self;
+    }
 }
 
 /// The area, and a router's island.

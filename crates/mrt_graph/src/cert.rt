@@ -104,11 +104,20 @@ pub struct CertLink {
 /// The nodes, links and rows of an island, each by number; of n nodes it has n times (n - 1) rows.
 ///
 /// The rows stand by ascending source, then by ascending destination, the source left out.
-#[derive(Drop)]
 pub struct Cert {
     nodes: Vec<CertNode>,
     links: Vec<CertLink>,
     rows: Vec<Row>,
+}
+
+impl Drop for Cert {
+    fn drop(self) {
+        let Self {
+            nodes: _,
+            links: _,
+            rows: _,
+        } = self;
+    }
 }
 
 impl Model for Cert {

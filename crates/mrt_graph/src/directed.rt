@@ -6,11 +6,20 @@ use std::marker::Model;
 
 /// The order number and the place of each node, and the mark of each link, by number (RFC 7811, section 5.6). Order
 /// numbers begin at 1.
-#[derive(Drop)]
 pub struct Directed {
     orders: Vec<u16>,
     places: Vec<Place>,
     marks: Vec<Mark>,
+}
+
+impl Drop for Directed {
+    fn drop(self) {
+        let Self {
+            orders: _,
+            places: _,
+            marks: _,
+        } = self;
+    }
 }
 
 impl Model for Directed {

@@ -28,11 +28,20 @@ pub struct Mark {
 }
 
 /// The ear order, the place of each node and the mark of each link, these two by number.
-#[derive(Drop)]
 pub struct Gadag {
     order: Vec<NodeNo>,
     places: Vec<Place>,
     marks: Vec<Mark>,
+}
+
+impl Drop for Gadag {
+    fn drop(self) {
+        let Self {
+            order: _,
+            places: _,
+            marks: _,
+        } = self;
+    }
 }
 
 impl Model for Gadag {
@@ -85,6 +94,11 @@ impl Gadag {
     pub fn into_lists(self) -> (Vec<NodeNo>, Vec<Place>, Vec<Mark>)
         ensures { self ≡ gadag_of result.0.items result.1.items result.2.items }
     {
-        (self.order, self.places, self.marks)
+        let Self {
+            order,
+            places,
+            marks,
+        } = self;
+        (order, places, marks)
     }
 }

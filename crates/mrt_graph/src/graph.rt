@@ -25,11 +25,20 @@ const MAX_LINKS: usize = 16384;
 ///
 /// Nodes are numbered from 0 by ascending identifier. Each link has one end at each of its two nodes, and no link
 /// joins two networks.
-#[derive(Drop)]
 pub struct Graph {
     ids: Vec<NodeId>,
     links: Vec<Link>,
     ends: Vec<EndList>,
+}
+
+impl Drop for Graph {
+    fn drop(self) {
+        let Self {
+            ids: _,
+            links: _,
+            ends: _,
+        } = self;
+    }
 }
 
 impl Model for Graph {

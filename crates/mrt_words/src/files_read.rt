@@ -21,11 +21,20 @@ pub struct FilesRead {
 }
 
 /// The bytes of the packets, of the profile and of the script.
-#[derive(Drop)]
 pub struct FloodRead {
     pub updates: Vec<u8>,
     pub profile: Vec<u8>,
     pub script: Vec<u8>,
+}
+
+impl Drop for FloodRead {
+    fn drop(self) {
+        let Self {
+            updates: _,
+            profile: _,
+            script: _,
+        } = self;
+    }
 }
 
 /// Reads the files that a form over files names, in the order of the words.

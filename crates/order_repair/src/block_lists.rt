@@ -8,10 +8,15 @@ use mrt_graph::{Directed, Graph, LinkNo, NoMemory, NodeNo};
 use std::alloc::Global;
 
 /// The nodes and the links of each block, by number. A block's head is not among its nodes.
-#[derive(Drop)]
 pub struct BlockLists {
     pub nodes: Chains,
     pub links: Chains,
+}
+
+impl Drop for BlockLists {
+    fn drop(self) {
+        let Self { nodes: _, links: _ } = self;
+    }
 }
 
 impl BlockLists {

@@ -63,7 +63,7 @@ pub enum Body {
 }
 
 /// A link state advertisement.
-#[derive(Drop, PartialEq, Eq)]
+#[derive(PartialEq, Eq)]
 pub struct Lsa {
     /// The place of its first byte in the file, from 0.
     pub at: u32,
@@ -80,6 +80,22 @@ pub struct Lsa {
     /// The checksum field as it stands.
     pub checksum: u16,
     pub body: Body,
+}
+
+impl Drop for Lsa {
+    fn drop(self) {
+        let Self {
+            at: _,
+            age: _,
+            options: _,
+            kind: _,
+            id: _,
+            router: _,
+            sequence: _,
+            checksum: _,
+            body: _,
+        } = self;
+    }
 }
 
 impl Lsa {

@@ -18,7 +18,6 @@ use std::marker::Model;
 ///
 /// Of each node, for each of the destinations, it keeps two bytes: the number of the first arc on a shortest path. A
 /// primary is put together from these when it is asked for.
-#[derive(Drop)]
 pub struct Routes {
     /// Of each node, where it is a destination, of all nodes the first arcs on shortest paths there.
     columns: Vec<Option<FirstColumn>>,
@@ -34,6 +33,20 @@ pub struct Routes {
     spots: Vec<Spot>,
     /// Of each island link the bond of the area.
     bonds: Vec<BondNo>,
+}
+
+impl Drop for Routes {
+    fn drop(self) {
+        let Self {
+            columns: _,
+            leads: _,
+            networks: _,
+            nodes: _,
+            links: _,
+            spots: _,
+            bonds: _,
+        } = self;
+    }
 }
 
 impl Model for Routes {

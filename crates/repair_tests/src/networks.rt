@@ -15,12 +15,22 @@ use primary_alt::Routes;
 use std::alloc::Global;
 
 /// What packets need.
-#[derive(Drop)]
 pub struct Network {
     pub area: Area,
     pub island: Island,
     pub cert: Cert,
     pub routes: Routes,
+}
+
+impl Drop for Network {
+    fn drop(self) {
+        let Self {
+            area: _,
+            island: _,
+            cert: _,
+            routes: _,
+        } = self;
+    }
 }
 
 /// The network of these LSAs, with the island of router 1.1.1.1.
