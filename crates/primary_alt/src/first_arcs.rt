@@ -1,19 +1,21 @@
 //! The first arcs of shortest paths from all nodes of an area.
 
-ghost use Rattle.std.specs.Prelude.{◌≡◌, ◌<◌, ◌≤◌, ◌↔◌, ℕ, Contains, IfOk, IsTrue, None, length, map};
+ghost use Rattle.std.specs.Prelude.{◌≡◌, ◌<◌, ◌≤◌, ◌+◌, ◌↔◌, ℕ, Contains, IfOk, IsPermutation, IsTrue, None, length, map};
 ghost use Rattle.std.specs.List.{range_with_len};
 ghost use Rattle.area_graph.specs.{declared.area_types.Arc.Arc, Starts.AreStarts};
+ghost use Rattle.primary_alt.specs.ArcsInto.{AreStartsInto};
 ghost use Rattle.primary_alt.specs.Attaining.{AreBetween, AreFirstToAttain, Attains, IsFirstToAttain};
 ghost use Rattle.primary_alt.specs.FirstArcs.{AreColumnsFor};
 
 use crate::arc_starts::arc_starts;
 use crate::arcs_into::ArcsInto;
-use crate::backward::distances_to;
+use crate::backward::{Offer, distances_to};
 use crate::first_arc::FirstArc;
 use crate::first_column::FirstColumn;
 use area_graph::{Arc, ArcNo, Area, Spot};
 use mrt_graph::NoMemory;
 use std::alloc::Global;
+use std::cmp::Reverse;
 use std::collections::BinaryHeap;
 
 /// A column for each of these destinations: the first arc of each node on a shortest path there.
@@ -34,14 +36,49 @@ pub fn first_columns(
     let into = ArcsInto::new(alloc, Vec::from_slice(alloc, arcs)?, count)?;
     let mut known = vec![in alloc; None; count as usize]?;
     let mut waiting = BinaryHeap::with_capacity(alloc, arcs.len() + 1)?;
-    let mut columns = no_columns(alloc, count)?;
+    let lists = ArcLists {
+        arcs,
+        starts: &starts,
+        into: &into,
+    };
+    columns_by(alloc, area, &lists, destinations, &mut known, &mut waiting)
+}
+
+/// The arcs of an area, by number and by the node that they lead to.
+#[derive(Clone, Copy)]
+struct ArcLists<'a> {
+    arcs: &'a [Arc],
+    /// Of each node the number of arcs that leave a lower node, and after them the number of all arcs.
+    starts: &'a [usize],
+    into: &'a ArcsInto,
+}
+
+/// A column for each of these destinations, by searches that use one list and one heap.
+fn columns_by(
+    alloc: Global,
+    area: &Area,
+    lists: &ArcLists,
+    destinations: &[Spot],
+    known: &mut Vec<Option<u32>>,
+    waiting: &mut BinaryHeap<Reverse<Offer>>,
+) -> Result<Vec<Option<FirstColumn>>, NoMemory>
+    requires arcs { lists.now.arcs.now ≡ area.now.arcs }
+    requires starts { AreStarts (length area.now.ids) area.now.arcs lists.now.starts.now }
+    requires same { IsPermutation area.now.arcs lists.now.into.now.arcs.items }
+    requires into { AreStartsInto lists.now.into.now.arcs.items lists.now.into.now.starts.items }
+    requires rows { length lists.now.into.now.starts.items ≡ length area.now.ids + 1 }
+    requires one_each { length known.old.items ≡ length area.now.ids }
+    requires within { (t : ℕ) → Contains destinations.now t → t < length area.now.ids }
+    ensures { IfOk result (λ columns. AreColumnsFor area.now destinations.now columns.items) }
+{
+    let mut columns = no_columns(alloc, area.count())?;
     for t in destinations {
         let place = t.get() as usize;
         if columns[place].is_some() {
             continue;
         }
-        distances_to(&into, *t, &mut known, &mut waiting)?;
-        columns[place] = Some(column(alloc, arcs, &starts, &known)?);
+        distances_to(lists.into, *t, known, waiting)?;
+        columns[place] = Some(column(alloc, lists.arcs, lists.starts, known)?);
     }
     Ok(columns)
 }

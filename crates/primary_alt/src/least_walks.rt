@@ -47,16 +47,42 @@ pub fn from_router(alloc: Global, area: &Area, source: Spot) -> Result<FromRoute
     ensures distances { IfOk result (λ from. AreDistancesFrom area.now.arcs source from.distances.items) }
     ensures one_each { IfOk result (λ from. length from.distances.items ≡ length area.now.ids) }
 {
-    let mut searches = Searches::new(alloc, area)?;
-    let mut known = vec![in alloc; None; area.count() as usize]?;
-    searches.distances(source, &mut known)?;
-    let arcs = all_arcs(alloc, area)?;
-    let begins = least_beginnings(alloc, &arcs, source, &known)?;
-    let primaries = entries(alloc, area, source, &arcs, &begins)?;
+    let distances = distances_from(alloc, area, source)?;
+    let primaries = primaries_by(alloc, area, source, &distances)?;
     Ok(FromRouter {
         primaries,
-        distances: known,
+        distances,
     })
+}
+
+/// The distance of each node from the source.
+fn distances_from(alloc: Global, area: &Area, source: Spot) -> Result<Vec<Option<u32>>, NoMemory>
+    requires { source < length area.now.ids }
+    ensures from { IfOk result (λ known. AreDistancesFrom area.now.arcs source known.items) }
+    ensures one_each { IfOk result (λ known. length known.items ≡ length area.now.ids) }
+{
+    let mut known = vec![in alloc; None; area.count() as usize]?;
+    let mut searches = Searches::new(alloc, area)?;
+    searches.distances(source, &mut known)?;
+    Ok(known)
+}
+
+/// The primaries of a router by the distances from it.
+fn primaries_by(
+    alloc: Global,
+    area: &Area,
+    source: Spot,
+    distances: &[Option<u32>],
+) -> Result<Vec<Option<Primary>>, NoMemory>
+    requires within { source < length area.now.ids }
+    requires router { ¬ IsNetwork area.now.ids source }
+    requires from { AreDistancesFrom area.now.arcs source distances.now }
+    requires one_each { length distances.now ≡ length area.now.ids }
+    ensures { IfOk result (λ entries. ArePrimaries area.now source entries.items) }
+{
+    let arcs = all_arcs(alloc, area)?;
+    let begins = least_beginnings(alloc, &arcs, source, distances)?;
+    entries(alloc, area, source, &arcs, &begins)
 }
 
 /// The primaries of a router for paths that begin so.

@@ -49,10 +49,12 @@ module _ (arcs : List Arc) (s number : ℕ) (arc : Arc) (begins : List (Option B
         lower = λ b has. record { least = begin; there = there; upto = subst (λ (o : Option Beginning). IfSome o (λ h. IsUpTo begin h)) (same_Some held (Some b) (sym at ∙ has)) lower };
       }
 
--- of the arc that was read
+-- the arc that was read is that of the number
+own_there : (arcs : List Arc) (number at : ℕ) (own : Arc) → number < length arcs → at ≡ number → own ≡ get_or arcs at own → slice_get arcs number ≡ Some own
+own_there arcs number at own low same is = slice_get_read arcs (length arcs) number own refl low (subst (λ (i : ℕ). own ≡ get_or arcs i own) same is)
+
 own_arc : (arcs : List Arc) (number at : ℕ) (own arc : Arc) → slice_get arcs number ≡ Some arc → at ≡ number → own ≡ get_or arcs at own → own ≡ arc
-own_arc arcs number at own arc there same is =
-    same_Some own arc (sym (slice_get_read arcs (length arcs) number own refl (slice_get_within arcs number arc there) (subst (λ (i : ℕ). own ≡ get_or arcs i own) same is)) ∙ there)
+own_arc arcs number at own arc there same is = same_Some own arc (sym (own_there arcs number at own (slice_get_within arcs number arc there) same is) ∙ there)
 
 alone_as : (arcs : List Arc) (s number : ℕ) (own arc : Arc) (read begins : List (Option Beginning)) (over : Option Beginning) → own ≡ arc → read ≡ begins → Alone arcs s number own read over
     → Alone arcs s number arc begins over
@@ -63,6 +65,30 @@ held : (begins : List (Option Beginning)) (at : ℕ) (own arc : Arc) (read : Opt
     → slice_get begins arc.to ≡ Some read
 held begins at own arc read same within here is =
     slice_get_read begins (length begins) arc.to read refl within (subst (λ (i : ℕ). read ≡ get_or begins i read) (here ∙ ap (λ (a : Arc). a.to) same) is)
+
+pub bounds-arcs-get : goal.bounds-arcs-get
+bounds-arcs-get c = omega (arith, c.get.ensures.value, c.requires.number)
+
+pub begin_over-requires-clause-tail : goal.begin_over-requires-clause-tail
+begin_over-requires-clause-tail c =
+    let tail = c.requires.between.tails c.args.number c.index-arcs-get.result
+    (own_there c.args.arcs.now c.args.number c.get.result c.index-arcs-get.result c.requires.number c.get.ensures.value c.index-arcs-get.is) in
+    omega (arith, tail, ap length c.deref.ensures.value)
+
+pub begin_over-requires-clause-firsts : goal.begin_over-requires-clause-firsts
+begin_over-requires-clause-firsts c = λ v begin has. c.requires.firsts v begin (subst (λ (xs : List (Option Beginning)). HasBeginning xs v begin) c.deref.ensures.value has)
+
+pub index-requires : goal.index-requires
+index-requires c =
+    let to = c.requires.between.tos c.args.number c.index-arcs-get.result
+    (own_there c.args.arcs.now c.args.number c.get.result c.index-arcs-get.result c.requires.number c.get.ensures.value c.index-arcs-get.is) in
+    omega (arith, to, c.get-at.ensures.value, c.args.begins.now.ok.0)
+
+pub index_mut-requires : goal.index_mut-requires
+index_mut-requires c =
+    let to = c.requires.between.tos c.args.number c.index-arcs-get.result
+    (own_there c.args.arcs.now c.args.number c.get.result c.index-arcs-get.result c.requires.number c.get.ensures.value c.index-arcs-get.is) in
+    omega (arith, to, c.get-at.ensures.value, c.args.begins.now.ok.0)
 
 pub returns-then-is_lower-clause-passed : goal.returns-then-is_lower-clause-passed
 returns-then-is_lower-clause-passed c = λ arc at.

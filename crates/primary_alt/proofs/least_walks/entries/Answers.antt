@@ -25,6 +25,15 @@ loop-t-init c = record {
   each = λ t entry low. absurd (omega (arith, low));
 }
 
+pub overflow_cast-t : goal.overflow_cast-t
+overflow_cast-t c = omega (arith, c.loop-t-test.true, c.requires.begins, c.requires.kept.few_nodes)
+
+pub entry-requires-clause-to : goal.entry-requires-clause-to
+entry-requires-clause-to c = omega (arith, c.loop-t-test.true, c.requires.begins, c.new.ensures)
+
+pub index_mut-requires : goal.index_mut-requires
+index_mut-requires c = omega (arith, c.loop-t-test.true, c.requires.begins, c.loop-t.invariant.one_each, c.loop-t.entries.ok.0)
+
 pub loop-t-preserved : goal.loop-t-preserved
 loop-t-preserved c = record {
   one_each = length-set c.loop-t.entries.items c.loop-t.t c.entry.result ∙ c.loop-t.invariant.one_each;

@@ -35,6 +35,9 @@ sum_over-requires-clause-to c =
     c.requires.between.tos c.loop-number.number c.index-arcs-number.result
     (slice_get_read c.args.arcs.now (length c.args.arcs.now) c.loop-number.number c.index-arcs-number.result refl c.loop-number-test.true c.index-arcs-number.is)
 
+pub overflow_cast-number : goal.overflow_cast-number
+overflow_cast-number c = omega (arith, c.requires.few, c.loop-number-test.true)
+
 pub push_reserved-requires : goal.push_reserved-requires
 push_reserved-requires c = omega (arith, c.loop-number.invariant.room, c.loop-number.invariant.capacity, c.loop-number-test.true)
 

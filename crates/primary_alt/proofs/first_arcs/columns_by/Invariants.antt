@@ -1,6 +1,6 @@
 use Rattle.std.proofs.Common.{◌≡◌, length, take}
 use Rattle.primary_alt.specs.FirstArcs.{AreColumnsFor}
-use Rattle.primary_alt.proofs.first_arcs.first_columns.Given as goal
+use Rattle.primary_alt.proofs.first_arcs.columns_by.Given as goal
 
 abbrev pub invariant-loop-t : goal.invariant-loop-t
 invariant-loop-t l = record {
