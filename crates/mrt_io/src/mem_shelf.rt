@@ -10,13 +10,24 @@ use std::alloc::Global;
 use std::marker::Model;
 
 /// A shelf in memory: its files by name, and the numbers of the calls that it fails. It tells what it holds.
-#[derive(Drop)]
 pub struct MemShelf {
     files: Vec<(Word, Vec<u8>)>,
     fails: Vec<u32>,
     calls: u64,
     faults: u64,
     opened: Option<Open>,
+}
+
+impl Drop for MemShelf {
+    fn drop(self) {
+        let Self {
+            files: _,
+            fails: _,
+            calls: _,
+            faults: _,
+            opened: _,
+        } = self;
+    }
 }
 
 /// The file that is open: its place among the files, and how many of its bytes were read.

@@ -6,7 +6,6 @@ use std::marker::Model;
 
 /// A sink in memory with room for a stated number of bytes, which takes a stated number at a time at most, and fails the calls
 /// whose numbers it is told. It tells its bytes.
-#[derive(Drop)]
 pub struct MemSink {
     bytes: Vec<u8>,
     room: u32,
@@ -14,6 +13,19 @@ pub struct MemSink {
     fails: Vec<u32>,
     calls: u64,
     faults: u64,
+}
+
+impl Drop for MemSink {
+    fn drop(self) {
+        let Self {
+            bytes: _,
+            room: _,
+            step: _,
+            fails: _,
+            calls: _,
+            faults: _,
+        } = self;
+    }
 }
 
 impl Model for MemSink {

@@ -14,10 +14,15 @@ use mrt_graph::NoMemory;
 use std::alloc::Global;
 
 /// Of each node and of each bond of an area whether it is in an island.
-#[derive(Drop)]
 pub struct Extent {
     pub nodes: Vec<bool>,
     pub links: Vec<bool>,
+}
+
+impl Drop for Extent {
+    fn drop(self) {
+        let Self { nodes: _, links: _ } = self;
+    }
 }
 
 /// What of the area is in the island of the router `start`.
