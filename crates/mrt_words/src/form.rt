@@ -15,20 +15,11 @@ pub enum Form<'a> {
 }
 
 /// What is asked of a database under a profile; without one, under the empty profile.
+#[derive(Drop)]
 pub struct FileForm<'a> {
     pub database: FileName<'a>,
     pub profile: Option<FileName<'a>>,
     pub task: Task<FileName<'a>, FileName<'a>>,
-}
-
-impl Drop for FileForm<'_> {
-    fn drop(self) {
-        let Self {
-            database: _,
-            profile: _,
-            task: _,
-        } = self;
-    }
 }
 
 /// A script of deliveries of the packets of a file, under a profile; without one, under the empty profile.
