@@ -34,3 +34,18 @@ column-column-requires c = (c.args.to, c.aim.ensures.aimed)
 pub primary_for-primary-requires-clause-primaries : goal.primary_for-primary-requires-clause-primaries
 primary_for-primary-requires-clause-primaries c =
     (c.args.parts.now.source, c.requires.kept.within, c.requires.different, c.requires.kept.primaries)
+
+pub primary_for-primary-requires-clause-fits : goal.primary_for-primary-requires-clause-fits
+primary_for-primary-requires-clause-fits c = (c.args.parts.now.link_of.now, c.requires.kept.fits)
+
+pub push_table_line-requires-clause-fits : goal.push_table_line-requires-clause-fits
+push_table_line-requires-clause-fits c = c.requires.kept.fits
+
+pub push_table_line-requires-clause-source : goal.push_table_line-requires-clause-source
+push_table_line-requires-clause-source c = c.requires.kept.within
+
+pub push_table_line-requires-clause-router : goal.push_table_line-requires-clause-router
+push_table_line-requires-clause-router c = c.requires.kept.router
+
+pub returns-in_err-push_table_line-clause-made : goal.returns-in_err-push_table_line-clause-made
+returns-in_err-push_table_line-clause-made c = c.aim.ensures.aimed.made
