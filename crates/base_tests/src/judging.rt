@@ -117,22 +117,12 @@ fn row_place(count: usize, s: usize, t: usize) -> usize {
 }
 
 /// The parts of a certificate file.
+#[derive(Drop)]
 struct Parts {
     root: u32,
     nodes: Vec<CertNode>,
     links: Vec<CertLink>,
     rows: Vec<Row>,
-}
-
-impl Drop for Parts {
-    fn drop(self) {
-        let Self {
-            root: _,
-            nodes: _,
-            links: _,
-            rows: _,
-        } = self;
-    }
 }
 
 fn parts_of(alloc: Global, island: &Island) -> Result<Parts, NoMemory> {
