@@ -7,7 +7,7 @@ use Rattle.mrt_answer.proofs.Refusals.{verdicts_given, verdicts_of_bytes}
 use Rattle.mrt_answer.proofs.verdict.checked.Goals as goal
 
 -- the bytes of a certificate without a fault spell it
-spelled : (c : goal.After-drop-file-3) (bytes : List ℕ) → IsCertRead bytes c.args.certificate → IsSpellingOf bytes c.in_ok-file.file
+spelled : (c : goal.After-drop-file) (bytes : List ℕ) → IsCertRead bytes c.args.certificate → IsSpellingOf bytes c.in_ok-file.file
 spelled c bytes read = subst (λ (it : Result CertFile CertFault). IsCertRead bytes it) c.in_ok-file.was read
 
 pub returns-clause-text : goal.returns-clause-text
