@@ -33,9 +33,10 @@ FILES = {
     ".gitignore": "out/\n__pycache__/\n",
 }
 
-# A toolchain that proves all and builds a program, which is a true one, since a package is made of it.
+# A toolchain that proves all and builds a program, which is a true one, since a package is made of it. Asked for one crate it builds none.
 RT = """#!/bin/sh
 [ "$1" = ci ] || { echo "test-kit logic 0"; exit; }
+[ -z "$2" ] || exit 0
 mkdir -p crates/mrt/out && cp /bin/echo crates/mrt/out/mrt && echo built >>"$BUILT" && echo "rt: low proved"
 echo "5 passed, 0 failed"
 """
