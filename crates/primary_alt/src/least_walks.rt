@@ -48,7 +48,7 @@ pub fn from_router(alloc: Global, area: &Area, source: Spot) -> Result<FromRoute
     ensures one_each { IfOk result (λ from. length from.distances.items ≡ length area.now.ids) }
 {
     let distances = distances_from(alloc, area, source)?;
-    let primaries = primaries_by(alloc, area, source, &distances)?;
+    let primaries = primaries_from(alloc, area, source, &distances)?;
     Ok(FromRouter {
         primaries,
         distances,
@@ -68,7 +68,7 @@ fn distances_from(alloc: Global, area: &Area, source: Spot) -> Result<Vec<Option
 }
 
 /// The primaries of a router by the distances from it.
-fn primaries_by(
+fn primaries_from(
     alloc: Global,
     area: &Area,
     source: Spot,

@@ -10,7 +10,7 @@ use Rattle.primary_alt.specs.Onward.{CostInRow}
 use Rattle.primary_alt.proofs.AreaArcs.{arcs_between}
 use Rattle.primary_alt.proofs.BeginningsFound.{at_source, beginnings, cost_in_row}
 use Rattle.primary_alt.proofs.RouterFacts.{router_from}
-use Rattle.primary_alt.proofs.least_walks.primaries_by.Goals as goal
+use Rattle.primary_alt.proofs.least_walks.primaries_from.Goals as goal
 
 -- of equal lists
 between : (area : AreaParts) (known : List (Option ℕ)) (own : List Arc) → IsArea area → length known ≡ length area.ids → own ≡ area.arcs → AreBetween (length known) own
