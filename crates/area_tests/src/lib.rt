@@ -2,6 +2,8 @@
 #![tactic(auto)]
 
 #[cfg(test)]
+mod area_asked;
+#[cfg(test)]
 mod copies;
 #[cfg(test)]
 mod delivering;

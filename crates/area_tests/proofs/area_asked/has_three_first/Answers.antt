@@ -1,6 +1,6 @@
 use Rattle.std.proofs.Common.{arith}
 use Rattle.area_tests.proofs.Rows.{within_all}
-use Rattle.area_tests.proofs.small_areas.has_three_first.Goals as goal
+use Rattle.area_tests.proofs.area_asked.has_three_first.Goals as goal
 
 pub arc-requires : goal.arc-requires
 arc-requires c =
