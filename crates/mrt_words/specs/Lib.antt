@@ -1,3 +1,4 @@
+pub mod Arguments
 pub mod CertSpelling
 pub mod FileBytes
 pub mod Files

@@ -1,6 +1,7 @@
 //! The words and the files that they name: what is asked for, and what is read and kept of these files.
 #![tactic(auto)]
 
+mod arguments;
 mod certificate_file;
 mod file_name;
 mod files_read;
@@ -11,6 +12,7 @@ mod task;
 mod words;
 mod words_law;
 
+pub use arguments::argument_words;
 pub use file_name::FileName;
 pub use files_read::{FilesRead, FloodRead, read_files, read_flood_files};
 pub use form::{FileForm, FloodForm, Form};
