@@ -1,8 +1,11 @@
-use Rattle.std.proofs.Common.{◌∙◌, sym, subst}
+use Rattle.std.proofs.Common.{◌∙◌, rules, sym, subst}
 use Rattle.mrt_rows.proofs.SoleRows.{mark_says}
 use Rattle.order_repair.specs.declared.link_line.Arrow.{Arrow}
 use Rattle.order_repair.proofs.Arrows.{IsArrow, arrow_is, plain_line}
 use Rattle.order_repair.proofs.link_line.link_color.Goals as goal
+
+pub returns-in-Closing : goal.returns-in-Closing
+returns-in-Closing c = search rules
 
 pub returns-in_default : goal.returns-in_default
 returns-in_default c = λ root w hops not_sole.
