@@ -272,7 +272,18 @@ module _ {S : Type 0} (held : S → Option Files) (faults : S → ℕ) (healthy 
       stays_healthy = λ well there. after.stays_healthy (before.stays_healthy well (first_there there)) (rest_there there);
     }
 
-  -- the files of a form: the first was read
+  -- the files of a form: the first was not read
+  pub first_stops : {T U : Type 0} (names : Names) (file : NamedFile) → file ≡ names.first → (old new : S)
+      (Gives : Option Files → T → Type 0) (Wants : Option Files → U → Type 0) (exit : Exit) (result : Result U Exit)
+      → IsErrAnd result (λ told. told ≡ exit) → ReadsFiles held faults healthy old new (file ∷ []) Gives (Err exit)
+      → ReadsFiles held faults healthy old new (files_in names) Wants result
+  first_stops names file is old new Gives Wants exit result told reads =
+      errs old new (files_in names) (λ files e. IsRefusedBy files (files_in names) e) Wants result exit told
+      (reads_first old new (names.first ∷ [])
+      (option_to_list (option_map profile_file names.profile) ++ option_to_list names.last) Gives Wants exit
+      (subst (λ (f : NamedFile). ReadsFiles held faults healthy old new (f ∷ []) Gives (Err exit)) is reads))
+
+  -- the first was read
   module _ (names : Names) (file : NamedFile) (is : file ≡ names.first) (old one : S) (bytes : Vec ℕ Global)
       (first : ReadsFiles held faults healthy old one (file ∷ []) (λ told it. IsReadAs told file it.items) (Ok bytes)) where
     abbrev profile_files : List NamedFile

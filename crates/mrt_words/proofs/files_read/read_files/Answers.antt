@@ -1,6 +1,6 @@
 use Rattle.std.proofs.Common.{refl}
 use Rattle.mrt_words.specs.Files.{task_names}
-use Rattle.mrt_words.proofs.Readings.{errs, first_is, last_reads, profile_is, profile_stops, reads_none, reads_ok}
+use Rattle.mrt_words.proofs.Readings.{errs, first_is, first_stops, last_reads, profile_is, profile_stops, reads_none, reads_ok}
 use Rattle.mrt_words.proofs.files_read.read_files.Goals as goal
 
 pub returns-in_err-profile : goal.returns-in_err-profile
@@ -34,3 +34,8 @@ returns g c =
     ))
     (last_reads g.F.Shelf.held g.F.Shelf.faults g.F.Shelf.healthy (task_names c.args.form.now) c.database.result c.database.ensures _ _
     c.in_ok-database.database c.in_ok-database.ensures _ c.in_ok-profile.profile c.in_ok-profile.ensures _ _ _ c.in_ok-work.ensures)
+
+pub returns-in_err-database : goal.returns-in_err-database
+returns-in_err-database g c =
+    first_stops g.F.Shelf.held g.F.Shelf.faults g.F.Shelf.healthy (task_names c.args.form.now) c.database.result c.database.ensures _ _
+    _ _ c.in_err-database.field-0.0 _ c.from_residual.ensures.1 c.in_err-database.ensures
