@@ -1,0 +1,5 @@
+use Rattle.std.proofs.Common.{append_assoc}
+use Rattle.mrt_exit.proofs.exit.conflict.Goals as goal
+
+pub returns : goal.returns
+returns c = simp (c.put-2.ensures.added, c.put_number-2.ensures.added, c.put.ensures.added, c.put_number.ensures.added, c.line_of-line.ensures, c.from.ensures, c.from-2.ensures, append_assoc)
