@@ -1,5 +1,5 @@
 use Rattle.std.proofs.Common.{◌-◌, ◌+◌, length, refl, arith}
-use Rattle.std.proofs.lemmas.Option.{slice_get_read}
+use Rattle.std.proofs.lemmas.Option.{slice_get_read, slice_get_within}
 use Rattle.mrt_graph.proofs.ListPlaces.{place_of}
 use Rattle.lowpoint_dfs.proofs.LowpointsGiven.{AreGiven, one_more}
 use Rattle.lowpoint_dfs.proofs.lowpoints.set_lowpoints.Goals as goal
@@ -19,3 +19,10 @@ loop-place-preserved c =
 
 pub returns-clause-lowpoints : goal.returns-clause-lowpoints
 returns-clause-lowpoints c = λ v listed. let place = place_of c.args.order.now v listed in c.loop-place.invariant.done place.0 v (omega (arith, c.loop-place-test.false)) place.1
+
+pub loop-place-init : goal.loop-place-init
+loop-place-init c = record {
+  one_each = c.requires.one_each;
+  alike = record { numbers = λ v. refl; parents = λ v. refl };
+  done = λ k v from at. absurd (omega (arith, from, slice_get_within c.args.order.now k v at));
+}
