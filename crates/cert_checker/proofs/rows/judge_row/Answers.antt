@@ -1,7 +1,10 @@
-use Rattle.std.proofs.Common.{◌∙◌, sym}
+use Rattle.std.proofs.Common.{◌∙◌, rules, sym}
 use Rattle.std.proofs.lemmas.Bool.{eqb-false}
 use Rattle.cert_checker.proofs.RowJudged.{breaks_tag, keeps_tag}
 use Rattle.cert_checker.proofs.rows.judge_row.Goals as goal
+
+pub returns-then-eq-clause-judged : goal.returns-then-eq-clause-judged
+returns-then-eq-clause-judged c = search rules
 
 pub returns-then-judged : goal.returns-then-judged
 returns-then-judged c = record {
