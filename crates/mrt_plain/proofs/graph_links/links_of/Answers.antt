@@ -1,7 +1,7 @@
 use Rattle.std.proofs.Common.{◌≡◌, ◌∙◌, ℕ, ◌+◌, List, [], ◌∷◌, ◌++◌, take, Some, length, sym, ap, subst, arith}
 use Rattle.std.specs.Prelude.{slice_get}
 use Rattle.std.specs.List.{AllByRecursion}
-use Rattle.std.proofs.lemmas.List.{take_more}
+use Rattle.std.proofs.lemmas.List.{take_all, take_more}
 use Rattle.std.proofs.lemmas.Option.{slice_get_within, get_or_from_slice_get}
 use Rattle.mrt_graph.specs.declared.link.Link.{Link}
 use Rattle.mrt_graph.specs.declared.node_id.NodeId.{NodeId}
@@ -26,3 +26,7 @@ loop-e-preserved c =
 
 pub returns-clause-within : goal.returns-clause-within
 returns-clause-within c = links_within c.args.graph.now.ids c.args.graph.now.links c.link_count.ensures.kept.links_kept
+
+pub returns-clause-links : goal.returns-clause-links
+returns-clause-links c =
+    c.loop-e.invariant ∙ take_all c.loop-e.e c.args.graph.now.links (omega (arith, c.loop-e-test.false, c.link_count-e-end.ensures.count))
