@@ -99,3 +99,9 @@ returns-in_err-extent-clause-unsupported c = (
   λ same. absurd (is_supported (not_given c.from_residual.result Unsupported c.from_residual.ensures.1 same)),
   λ there. absurd (true≢false (sym (sym c.supports.ensures ∙ c.if-not-supports.false) ∙ there.1)),
 )
+
+pub returns-then-not-supports-clause-unsupported : goal.returns-then-not-supports-clause-unsupported
+returns-then-not-supports-clause-unsupported c = (
+  λ same. (contained c.args.area.now.ids c.in-Some.start _ c.in-Some.ensures.found, sym c.supports.ensures ∙ c.if-not-supports.true),
+  λ there. refl,
+)
