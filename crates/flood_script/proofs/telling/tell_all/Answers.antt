@@ -1,6 +1,6 @@
 use Rattle.std.proofs.Common.{◌<◌, length, drop, arith}
 use Rattle.std.proofs.lemmas.List.{drop_all}
-use Rattle.flood_script.proofs.TextsTold.{drop_next, told_all, told_more}
+use Rattle.flood_script.proofs.TextsTold.{drop_next, told_all, told_more, told_none}
 use Rattle.flood_script.proofs.telling.tell_all.Goals as goal
 
 pub loop-line-preserved : goal.loop-line-preserved
@@ -18,3 +18,8 @@ returns g c =
     told_all (g.C.Compare.says c.args.comparing.now) c.args.flood c.loop-line.flood c.args.lines.now
     (drop c.loop-line.line-index c.args.lines.now) c.loop-line.text.items c.loop-line.invariant
     (drop_all c.loop-line.line-index c.args.lines.now (omega arith))
+
+pub loop-line-init : goal.loop-line-init
+loop-line-init g c =
+    told_none (g.C.Compare.says c.args.comparing.now) c.args.flood c.args.lines.now c.new-text.result.items
+    c.new-text.ensures.items c.requires.room c.requires.among
