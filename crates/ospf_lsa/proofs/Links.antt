@@ -246,6 +246,11 @@ links_read (link ∷ links) tos fit entries_fit entries =
 abbrev pub after : Links → Links → Links
 after made later = (made.0 ++ later.0, made.1 ++ later.1)
 
+-- all links, before a loop reads one
+pub links_first : (made : Links) (all : Option Links) → made.0 ≡ [] → made.1 ≡ [] → option_map (after made) all ≡ all
+links_first made None links tos = refl
+links_first made (Some later) links tos = rw (links, tos) refl
+
 -- no link of those that are left, as a loop finds it
 pub links_cut : (count i : ℕ) (rest : List ℕ) (made : Links) (all : Option Links) → i < count
     → first_link rest ≡ None → option_map (after made) (links_in (count - i) rest) ≡ all → None ≡ all

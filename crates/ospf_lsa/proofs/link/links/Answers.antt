@@ -1,10 +1,23 @@
-use Rattle.std.proofs.Common.{◌≡◌, ◌∙◌, ◌≤◌, ◌+◌, ◌*◌, ◌++◌, ℕ, List, length, drop, Option, Some, sym, subst, ap, arith}
+use Rattle.std.proofs.Common.{◌≡◌, ◌∙◌, ◌≤◌, ◌+◌, ◌*◌, ◌++◌, ◌-◌, ℕ, List, length, drop, Option, Some, None, refl, sym, subst, ap, arith}
 use Rattle.std.specs.Prelude.{IfSome}
+use Rattle.std.specs.Option.{option_map}
 use Rattle.std.proofs.lemmas.List.{length-drop}
 use Rattle.ospf_lsa.specs.declared.lsa.RouterLink.{RouterLink}
-use Rattle.ospf_lsa.specs.Reading.{numbers_in, first_link, link_length}
-use Rattle.ospf_lsa.proofs.Links.{links_cut, links_next}
+use Rattle.ospf_lsa.specs.Reading.{Links, numbers_in, first_link, link_length, links_in}
+use Rattle.ospf_lsa.proofs.Links.{after, links_first, links_cut, links_next}
 use Rattle.ospf_lsa.proofs.link.links.Goals as goal
+
+pub loop-init : goal.loop-init
+loop-init c =
+    let made : Links = (c.in_ok-links.links.items, c.in_ok-tos.tos.items) in
+    let all : c.args.count - 0 ≡ c.args.count = omega arith in
+    record {
+      whole = ap (λ (n : ℕ). option_map (after made) (links_in n c.args.bytes.now)) all
+          ∙ links_first made _ c.in_ok-links.ensures.items c.in_ok-tos.ensures.items;
+      many = c.in_ok-links.ensures.len;
+      taken = omega arith;
+      room = cc (c.in_ok-links.ensures.exact, c.min-most.ensures, c.from.ensures);
+    }
 
 pub returns-in_default : goal.returns-in_default
 returns-in_default c =
@@ -36,3 +49,10 @@ loop-preserved c =
           (arith, ap length behind, length-drop (link_length link) rest, within, c.loop.invariant.taken);
       room = omega arith;
     }
+
+pub returns-else-is_empty : goal.returns-else-is_empty
+returns-else-is_empty c =
+    let none_left : c.args.count - c.loop.counter ≡ 0 = omega arith in
+    let cut : links_in (c.args.count - c.loop.counter) c.loop.rest.now ≡ None =
+    rw (none_left, sym c.if-is_empty.ensures) refl in
+    ap (option_map (after (c.loop.links.items, c.loop.tos.items))) (sym cut) ∙ c.loop.invariant.whole
