@@ -1,5 +1,5 @@
 -- The LSAs of a file, installed one after another.
-use Rattle.std.proofs.Common.{◌≡◌, ◌∙◌, ◌<◌, ◌+◌, ◌==◌, ℕ, true, List, ◌∷◌, ◌⊎◌, length, drop, get_or, refl, sym, ap, subst, inl, inr}
+use Rattle.std.proofs.Common.{◌≡◌, ◌∙◌, ◌<◌, ◌+◌, ◌==◌, ℕ, true, List, [], ◌∷◌, ◌⊎◌, length, drop, get_or, refl, sym, ap, subst, inl, inr}
 use Rattle.std.proofs.lemmas.Bool.{cases_Bool, eqb-true}
 use Rattle.std.proofs.lemmas.List.{drop_more}
 use Rattle.ospf_lsa.specs.declared.lsa.Lsa.{Lsa}
@@ -50,3 +50,9 @@ installed_next entries after lsa rest all whole enters one is way =
       comes = ap (λ (es : List Entry). all_installed es (entering rest)) one ∙ sym next
           ∙ ap (λ (ls : List Lsa). all_installed entries (entering ls)) (sym is) ∙ way.comes;
     }
+
+-- no LSA is left
+pub none_left : (entries : List Entry) (rest : List Lsa) (whole : List Entry) → rest ≡ []
+    → IsUnderWay entries rest whole → entries ≡ whole
+none_left entries rest whole none way =
+    ap (λ (ls : List Lsa). all_installed entries (entering ls)) (sym none) ∙ way.comes

@@ -1,9 +1,9 @@
 -- LSAs that move to the front of their list.
-use Rattle.std.proofs.Common.{◌≡◌, ◌∙◌, ◌<◌, ◌≤◌, ◌+◌, ◌++◌, ℕ, zero, suc, Bool, true, false, not, List, [], ◌∷◌, Option, Some, None, length, map, take, set, get_or, slice_get, if◌then◌else◌, refl, sym, ap, subst, inl, inr, arith}
+use Rattle.std.proofs.Common.{◌≡◌, ◌∙◌, ◌<◌, ◌≤◌, ◌+◌, ◌++◌, ℕ, zero, suc, Bool, true, false, not, List, [], ◌∷◌, Option, Some, None, length, map, take, drop, set, get_or, slice_get, if◌then◌else◌, refl, sym, ap, subst, inl, inr, arith}
 use Rattle.std.specs.List.{swap, list_any, position_or_len, AllByRecursion, IsDistinct}
 use Rattle.std.specs.Option.{option_map}
 use Rattle.std.proofs.lemmas.Bool.{cases_lt, not-false, not-true}
-use Rattle.std.proofs.lemmas.List.{length-set, length-take-le, length_push, map_push, take-set, take-set-le, take_more_set}
+use Rattle.std.proofs.lemmas.List.{drop-set-lt, length-set, length-take-le, length_push, map_push, take-set, take-set-le, take_more_set}
 use Rattle.std.proofs.lemmas.List.Edits.{swap_is}
 use Rattle.std.proofs.lemmas.Option.{get_or_from_slice_get, slice_get-map}
 use Rattle.mrt_graph.proofs.Members.{all_append}
@@ -17,6 +17,13 @@ use Rattle.lsdb.specs.Keys.{key_of, same_key}
 use Rattle.lsdb.specs.Store.{entries_of, front, is_entry_of, IsStore}
 use Rattle.lsdb.proofs.Stores.{chosen, entries_added, found_by_insert, installed_new, installed_there, key_is, lacking, parts_of, unchosen, Found}
 
+-- nothing stands at the front yet
+pub store_first : (keys : List Key) (lsas : List Lsa) (places : List (Option ℕ)) → keys ≡ [] → places ≡ []
+    → IsStore keys (front lsas places) places
+unfolding IsDistinct
+store_first keys lsas places no_keys none =
+    rw (no_keys, none) (record { keyed = refl; distinct = tt; noted = refl; kept = tt })
+
 -- what is written into a list, seen at its front
 take_written : {X : Type 0} (xs : List X) (n i : ℕ) (x : X) → take n (set xs i x) ≡ set (take n xs) i x
 take_written [] zero i x = refl
@@ -24,6 +31,14 @@ take_written [] (suc n) i x = refl
 take_written (y ∷ ys) zero i x = refl
 take_written (y ∷ ys) (suc n) zero x = refl
 take_written {X = X} (y ∷ ys) (suc n) (suc i) x = ap (λ (rest : List X). y ∷ rest) (take_written ys n i x)
+
+-- two elements that change places leave those after them
+pub after_swap : {X : Type 0} (xs : List X) (i place : ℕ) (x : X) → i ≤ place → place < length xs
+    → drop (place + 1) (swap xs i place) ≡ drop (place + 1) xs
+after_swap xs i place x before inside =
+    ap (drop (place + 1)) (sym (swap_is xs i place x (omega (arith, before, inside)) inside))
+    ∙ drop-set-lt (place + 1) (set xs i (get_or xs place x)) place (get_or xs i x) (omega arith)
+    ∙ drop-set-lt (place + 1) xs i (get_or xs place x) (omega (arith, before))
 
 -- an element that changes places with one at the front stands there
 set_by_swap : {X : Type 0} (xs : List X) (n i place : ℕ) (x : X) → slice_get xs place ≡ Some x → i < n → n ≤ place
@@ -238,3 +253,9 @@ one_more lsas all places place lsa even more at = record {
   behind = omega (arith, even, at);
   inside = omega (arith, at, ap length more, length_push lsas lsa);
 }
+
+-- a list that is cut back to what it was
+pub cut_back : (lsas all : List Lsa) (places : List (Option ℕ)) (count : ℕ) (lsa : Lsa) → length places ≡ length lsas
+    → all ≡ lsas ++ lsa ∷ [] → count ≡ length places → take count all ≡ lsas
+cut_back lsas all places count lsa even more is =
+    ap (λ (n : ℕ). take n all) is ∙ ap (λ (ls : List Lsa). front ls places) more ∙ front_of_all lsas places lsa even

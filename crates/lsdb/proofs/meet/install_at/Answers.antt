@@ -1,12 +1,13 @@
-use Rattle.std.proofs.Common.{◌≡◌, ◌∙◌, ◌++◌, ◌∷◌, [], ℕ, List, None, Option, ap, arith, length, refl, subst, sym}
+use Rattle.std.proofs.Common.{◌≡◌, ◌∙◌, ◌++◌, ◌+◌, ◌≤◌, ◌∷◌, [], ℕ, List, None, Option, ap, arith, drop, length, refl, subst, sym}
 use Rattle.std.specs.List.{swap}
+use Rattle.std.proofs.lemmas.List.{length_push}
 use Rattle.std.proofs.lemmas.Option.{get_or_from_slice_get, slice_get_read}
 use Rattle.lsdb.specs.declared.change.Change.{Change}
 use Rattle.lsdb.specs.Entries.{Entry}
 use Rattle.lsdb.specs.Installing.{installed}
 use Rattle.lsdb.specs.Keys.{key_of}
 use Rattle.lsdb.specs.Store.{entries_of, front, IsStore}
-use Rattle.lsdb.proofs.Fronts.{added_new, change_told, entries_joined, keys_grown, keys_stay, met, met_key, store_added, store_turned}
+use Rattle.lsdb.proofs.Fronts.{added_new, after_swap, change_told, entries_joined, keys_grown, keys_stay, met, met_key, store_added, store_turned}
 use Rattle.lsdb.proofs.meet.install_at.Goals as goal
 
 pub returns-then-is_new-clause-change : goal.returns-then-is_new-clause-change
@@ -48,6 +49,22 @@ returns-then-is_new-clause-store c =
     c.in_ok-number.ensures.keys c.in_ok-number.ensures.added c.if-is_new.true c.of.ensures)
     c.insert_full.ensures.unique
     (c.requires.kept c.index.result.now there)
+
+pub returns-then-is_new-clause-behind : goal.returns-then-is_new-clause-behind
+returns-then-is_new-clause-behind c = omega (
+  arith,
+  ap length c.push_reserved.ensures.items,
+  ap length c.reserve.ensures.items,
+  length_push c.reserve.new.self.items None,
+  c.requires.behind,
+)
+
+pub returns-then-is_new-clause-rest : goal.returns-then-is_new-clause-rest
+returns-then-is_new-clause-rest c =
+    let before : c.len.result ≤ c.args.place = omega
+    (arith, c.len.ensures, c.reserve.new.self.ok.0, ap length c.reserve.ensures.items, c.requires.behind) in
+    ap (drop (c.args.place + 1)) c.swap.ensures.items
+    ∙ after_swap c.args.lsas.now.items c.len.result c.args.place c.index.result.now before c.requires.inside
 
 pub returns-clause-change : goal.returns-clause-change
 returns-clause-change c = λ lsa there.
