@@ -1,4 +1,4 @@
-use Rattle.std.proofs.Common.{◌≡◌, ◌∙◌, ◌+◌, sym, ap, length}
+use Rattle.std.proofs.Common.{◌≡◌, ◌∙◌, ◌+◌, refl, sym, ap, length}
 use Rattle.flood_core.specs.declared.error.UpdateError.TheVariants.{Fault}
 use Rattle.flood_core.specs.declared.error.UpdateKind.TheVariants as kinds
 use Rattle.std.proofs.lemmas.List.{length-map}
@@ -21,3 +21,24 @@ returns-then-number_32-as_slice-clause-fault c = λ place kind told.
     ∙ ap length c.in_ok-lsas.ensures.found.placed
     ∙ length-map c.in_ok-lsas.ensures.found.read (placed_from (c.args.at + 28))))))
     (let same : Fault c.args.at kinds.Count ≡ Fault place kind = cc in same)
+
+pub returns-clause-found : goal.returns-clause-found
+returns-clause-found c =
+    let header = c.in_default.ensures.sound in
+    let lsas = c.in_ok-lsas.ensures.found in
+    record {
+      header_there = header.header_there;
+      whole = header.whole;
+      version = header.version;
+      type = header.type;
+      long_enough = header.long_enough;
+      read = lsas.read;
+      faultless = lsas.faultless;
+      spelled = lsas.spelled;
+      count = sym c.number_32.ensures ∙ c.if-number_32-as_slice.false ∙ ap length c.as_slice.ensures.value
+          ∙ ap length lsas.placed ∙ length-map lsas.read (placed_from (c.args.at + 28));
+      place = refl;
+      router = c.number_32-2.ensures;
+      area = c.number_32-3.ensures;
+      lsas = c.from_vec.ensures ∙ lsas.placed;
+    }
