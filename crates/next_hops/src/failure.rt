@@ -11,7 +11,7 @@ use ospf_lsa::LsaError;
 use thiserror::Error;
 
 /// Why a router has no next hops for another one.
-#[derive(Clone, Copy, Debug, PartialEq, Eq, Error)]
+#[derive(Clone, Copy, Debug, Error)]
 pub enum Failure {
     #[error("no database: {0}")]
     Lsa(LsaError),
