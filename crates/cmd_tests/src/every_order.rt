@@ -7,18 +7,21 @@ use mrt_graph::NoMemory;
 use parts_of_tests::{File, LsaTold, NO_BYTES, TRIANGLE_CERTIFICATE};
 use std::alloc::Global;
 
-/// The records of the triangle, and two more of router 1.
-const RECORDS: [LsaTold; 5] = [FIRST, SECOND, THIRD, WITHDRAWN, BACK];
+/// One of the records of the triangle, or of two more of router 1.
+fn record(place: usize) -> LsaTold<'static> {
+    match place {
+        0 => FIRST,
+        1 => SECOND,
+        2 => THIRD,
+        3 => WITHDRAWN,
+        _ => BACK,
+    }
+}
 
 /// The records at these places.
 fn in_order(order: [usize; 5]) -> [LsaTold<'static>; 5] {
-    let mut records = RECORDS;
-    for (k, place) in order.into_iter().enumerate() {
-        if let (Some(slot), Some(record)) = (records.get_mut(k), RECORDS.get(place)) {
-            *slot = *record;
-        }
-    }
-    records
+    let [a, b, c, d, e] = order;
+    [record(a), record(b), record(c), record(d), record(e)]
 }
 
 fn is_accepted(alloc: Global, order: [usize; 5]) -> bool {

@@ -456,13 +456,17 @@ fn updates_of(alloc: Global, updates: Updates) -> Result<Vec<u8>, NoMemory> {
 
 fn comes_out(alloc: Global, flood: &Flood) -> Result<bool, NoMemory> {
     let updates = updates_of(alloc, flood.updates)?;
+    Ok(comes_of(alloc, &updates, flood))
+}
+
+fn comes_of(alloc: Global, updates: &[u8], flood: &Flood) -> bool {
     let files = Files {
-        database: File::Bytes(&updates),
+        database: File::Bytes(updates),
         profile: File::Bytes(flood.profile.as_bytes()),
         certificate: File::Bytes(flood.script.as_bytes()),
     };
     let (out, err) = (flood.out.as_bytes(), flood.err.as_bytes());
-    Ok(comes_to(alloc, FLOOD, files, flood.exit, out, err))
+    comes_to(alloc, FLOOD, files, flood.exit, out, err)
 }
 
 #[test]
