@@ -12,6 +12,8 @@ use std::io::ErrorKind;
 
 /// The words: the arguments after the program's name. Want of memory for them is `NoMemory`; an argument that is no text
 /// is none that a form has, so it comes to `Usage`.
+///
+/// It takes time in proportion to the bytes of the arguments.
 pub fn argument_words(alloc: Global, args: io::Result<Args>) -> Result<Vec<Word>, Exit>
     ensures unread { IfErr args (λ error. result ≡ Err (exit_of (error_kind error))) }
     ensures words { IfOk args (λ read. IfOk result (λ words. words.items ≡ words_of (into_iter_items read))) }
