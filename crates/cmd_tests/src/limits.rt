@@ -15,8 +15,12 @@ const FLOOD: &[&str] = &["flood", "db", "-", "cert"];
 /// byte is a fault already.
 fn is_too_large(alloc: Global, what: What, size: u32, line: &[u8]) -> Result<bool, NoMemory> {
     let long = vec![in alloc; 0; 134_217_729]?;
-    let long = File::Bytes(front(&long, size as usize));
-    let exit = Exit::TooLarge { what, size };
+    Ok(is_refused(alloc, what, size, line, front(&long, size as usize)))
+}
+
+/// Whether these bytes are.
+fn is_refused(alloc: Global, what: What, size: u32, line: &[u8], long: &[u8]) -> bool {
+    let long = File::Bytes(long);
     let (words, files) = match what {
         What::DatabaseFile => (CHECK, two(long, NO_BYTES)),
         What::ProfileFile => (
@@ -31,7 +35,14 @@ fn is_too_large(alloc: Global, what: What, size: u32, line: &[u8]) -> Result<boo
         What::UpdatesFile => (FLOOD, two(long, NO_BYTES)),
         _ => (CHECK, two(ROUTER, long)),
     };
-    Ok(comes_to(alloc, words, files, exit, b"", line))
+    comes_to(
+        alloc,
+        words,
+        files,
+        Exit::TooLarge { what, size },
+        b"",
+        line,
+    )
 }
 
 #[test]
