@@ -1,8 +1,16 @@
-use Rattle.std.proofs.Common.{◌≡◌, ◌∙◌, ℕ, Bool, true, false, Some, arith, length, slice_get, sym, ap, subst}
-use Rattle.std.proofs.lemmas.List.{length-set}
+use Rattle.std.proofs.Common.{◌≡◌, ◌∙◌, ℕ, List, Bool, true, false, Some, arith, length, slice_get, sym, ap, subst}
+use Rattle.std.proofs.lemmas.List.{length-replicate, length-set, take_all}
 use Rattle.std.proofs.lemmas.Option.{slice_get_read}
-use Rattle.fabric_runs.proofs.Gathered.{destination_within, known_more, new_more, none_more}
+use Rattle.fabric_script.specs.declared.event.ScriptEvent.{ScriptEvent}
+use Rattle.fabric_runs.specs.Destinations.{AreDestinations}
+use Rattle.fabric_runs.proofs.Gathered.{destination_within, known_more, new_more, none_gathered, none_more}
 use Rattle.fabric_runs.proofs.gathering.destinations.Goals as goal
+
+pub loop-event-init : goal.loop-event-init
+loop-event-init c = record {
+  one_each = ap length c.in_ok-known.ensures ∙ length-replicate c.count.result false ∙ c.count.ensures.count;
+  gathered = rw (c.new-spots.ensures.items, c.in_ok-known.ensures) (none_gathered c.args.area.now c.count.result);
+}
 
 pub loop-event-preserved-in_default : goal.loop-event-preserved-in_default
 loop-event-preserved-in_default c = record {
@@ -41,3 +49,9 @@ loop-event-preserved c =
 
 pub returns-clause-within : goal.returns-clause-within
 returns-clause-within c = λ t among. destination_within c.args.area.now _ t ((c.loop-event.invariant.gathered.are.all t).0 among)
+
+pub returns-clause-are : goal.returns-clause-are
+returns-clause-are c =
+    subst (λ (events : List ScriptEvent). AreDestinations c.args.area.now events c.loop-event.spots.items)
+    (take_all c.loop-event.event-index c.as_slice-events.result.now c.loop-event-test.false ∙ c.as_slice-events.ensures)
+    c.loop-event.invariant.gathered.are
