@@ -1,4 +1,4 @@
-use Rattle.std.proofs.Common.{◌≡◌, ◌∙◌, ◌≤◌, ◌↔◌, ℕ, List, Result, Ok, Err, length, map, refl, ap, arith}
+use Rattle.std.proofs.Common.{◌≡◌, ◌∙◌, ◌≤◌, ◌↔◌, ℕ, List, Result, Ok, Err, length, map, refl, ap, arith, rules}
 use Rattle.mrt_graph.specs.declared.graph_error.GraphError.{GraphError}
 use Rattle.mrt_graph.specs.declared.link.LinkIn.{LinkIn}
 use Rattle.mrt_graph.specs.EndsOfLinks.{pair_of}
@@ -25,6 +25,9 @@ invariant_of-result c =
     rw (c.in_ok-links.ensures, c.deref-2.ensures.value)
     (made_keeps c.args.ids.items c.args.links.items (lists_of c.in_ok-ends.ends.items) c.requires few_nodes few_links (rw c.deref.ensures.value at c.in_ok-ends.ensures.range)
     (rw (count, c.deref.ensures.value) at c.in_ok-ends.ensures.lists))
+
+pub returns-then-len-gt-MAX_NODES-clause-too_large : goal.returns-then-len-gt-MAX_NODES-clause-too_large
+returns-then-len-gt-MAX_NODES-clause-too_large c = search rules
 
 pub returns-clause-made : goal.returns-clause-made
 returns-clause-made c =
