@@ -18,6 +18,7 @@ pub mod Lists
 pub mod OneUnfolding
 pub mod Pairs
 pub mod Parts
+pub mod PartsRead
 pub mod PartsText
 pub mod Placings
 pub mod Puttings

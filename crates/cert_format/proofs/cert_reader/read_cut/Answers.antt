@@ -41,3 +41,21 @@ returns-in_default-clause-keeps c = c.take.ensures.keeps
 
 pub returns-clause-keeps : goal.returns-clause-keeps
 returns-clause-keeps c = c.take.ensures.keeps
+
+pub returns-then-is_empty-clause-room : goal.returns-then-is_empty-clause-room
+returns-then-is_empty-clause-room c = c.requires.room
+
+pub returns-in_err-take-clause-room : goal.returns-in_err-take-clause-room
+returns-in_err-take-clause-room c = c.take.ensures.room
+
+pub returns-in_default-clause-room : goal.returns-in_default-clause-room
+returns-in_default-clause-room c = c.take.ensures.room
+
+pub returns-clause-room : goal.returns-clause-room
+returns-clause-room c = c.take.ensures.room
+
+pub take-requires-clause-parts : goal.take-requires-clause-parts
+take-requires-clause-parts c = c.requires.parts
+
+pub take-requires-clause-room : goal.take-requires-clause-room
+take-requires-clause-room c = c.requires.room

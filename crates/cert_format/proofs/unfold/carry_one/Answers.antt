@@ -61,3 +61,10 @@ returns-clause-before c = λ it before.
     rw (c.carried.ensures, c.row_place-place.ensures.place)
     (carried_before nodes c.args.down.now it rows c.args.s c.args.i c.node_at-t.result c.carrier-by.result c.index-2.result.now c.requires.marks c.requires.within at two far
     (by_top nodes c.args.down.now it c.node_at-top.result c.args.s c.node_at-t.result c.carrier-by.result c.node_at-top.ensures.value c.carrier-by.ensures.value) (c.carrier-by.ensures.within (length nodes) c.requires.kept) from.placed before)
+
+pub row_place-place-requires : goal.row_place-place-requires
+row_place-place-requires c =
+    record { count = c.requires.few; source = c.requires.within; target = c.node_at-t.ensures.within; different = λ same. c.requires.other (c.node_at-t.ensures.value ∙ ap (λ (x : ℕ). Some x) (sym same)) }
+
+pub returns-then-is_near-clause-others : goal.returns-then-is_near-clause-others
+returns-then-is_near-clause-others c = λ it a b other settled. settled

@@ -1,8 +1,9 @@
 use Rattle.std.proofs.Common.{◌≡◌, ◌∙◌, ◌<◌, ◌-◌, ◌+◌, ◌*◌, ◌++◌, ℕ, List, [], length, replicate, take, drop, sym, ap, subst, arith}
+use Rattle.std.proofs.Math.Nat.{mul-le-mul_right}
 use Rattle.std.proofs.lemmas.List.{with_items_is}
 use Rattle.mrt_graph.specs.declared.cert.Row.{Row}
 use Rattle.mrt_graph.specs.Certificate.{certificate_of}
-use Rattle.cert_format.specs.Unfolding.{AreBlank, IsSpreading, blank_row, marks_of}
+use Rattle.cert_format.specs.Unfolding.{AreBlank, IsSpreading, blank_row, marks_of, set_marks}
 use Rattle.cert_format.proofs.Pairs.{few_set, pairs_length}
 use Rattle.cert_format.proofs.Spreading.{blank_start, spread_all, spread_start}
 use Rattle.cert_format.proofs.unfold.spread.Goals as goal
@@ -54,3 +55,31 @@ loop-s-preserved c =
     let from : IsSpreading marks near c.deref_mut.result.now ((c.loop-s.s - 1 + 1) * (n - 1)) c.loop-s.left =
     subst (λ (it : List Row). IsSpreading marks near it ((c.loop-s.s - 1 + 1) * (n - 1)) c.loop-s.left) (sym c.deref_mut.ensures.value) at in
     rw all (record { many = same ∙ before.many; blank = after.blank; left = after.left; spread = after.spread near c.requires.near from })
+
+pub overflow_mul-all : goal.overflow_mul-all
+overflow_mul-all c =
+    let most = mul-le-mul_right c.saturating_sub.result c.requires.few in
+    omega (arith, most, c.saturating_sub.ensures, c.requires.few)
+
+pub returns-clause-spread : goal.returns-clause-spread
+returns-clause-spread c =
+    let marks = marks_of c.args.nodes.now in
+    let n = length c.args.nodes.now in
+    let start : c.loop-s.s ≡ 0 = omega (arith, c.loop-s-test.false) in
+    let none : 0 * (n - 1) ≡ 0 = omega arith in
+    let all : IsSpreading marks c.args.rows.now.items c.loop-s.rows.items 0 c.loop-s.left =
+    subst (λ (k : ℕ). IsSpreading marks c.args.rows.now.items c.loop-s.rows.items k c.loop-s.left) (ap (λ (k : ℕ). k * (n - 1)) start ∙ none) c.loop-s.invariant.spread in
+    record { same = all.back ∙ ap (λ (k : ℕ). drop k c.args.rows.now.items) all.counted; marks = all.tests }
+
+pub spread_from-left-requires : goal.spread_from-left-requires
+spread_from-left-requires c =
+    let marks = marks_of c.args.nodes.now in
+    let n = length c.args.nodes.now in
+    let one = back_one c.loop-s.s c.loop-s-test.true in
+    record {
+      few = c.requires.few;
+      within = omega (arith, c.loop-s-test.true);
+      many = ap length c.deref_mut.ensures.value ∙ c.loop-s.invariant.many;
+      left = c.loop-s.invariant.left ∙ ap (λ (k : ℕ). set_marks (take (k * (n - 1)) marks)) one;
+      blank = rw c.deref_mut.ensures.value (subst (λ (k : ℕ). AreBlank c.len-near.result (k * (n - 1)) c.loop-s.rows.items) one c.loop-s.invariant.blank);
+    }

@@ -29,3 +29,15 @@ pub returns-clause-takes : goal.returns-clause-takes
 returns-clause-takes c =
     let so = under (parts_of c.args.self.now) c.in-Some.header c.in-Some.is c.requires.parts in
     ended (parts_of c.args.self.now) c.in-Some.header c.args.rest c.after_all.result c.in-Some.is c.requires.parts (omega (arith, c.if-len-header.false, so.few_nodes)) (omega (arith, c.if-len-header-2.false, so.few_links)) (omega (arith, c.if-len-self.false, so.few_rows)) c.requires.place c.after_all.ensures
+
+pub returns-in_default : goal.returns-in_default
+returns-in_default c = c.take_header.ensures
+
+pub returns-then-len-header : goal.returns-then-len-header
+returns-then-len-header c = c.take_node.ensures
+
+pub returns-then-len-header-2 : goal.returns-then-len-header-2
+returns-then-len-header-2 c = c.take_link.ensures
+
+pub returns-then-len-self : goal.returns-then-len-self
+returns-then-len-self c = c.take_rows.ensures
