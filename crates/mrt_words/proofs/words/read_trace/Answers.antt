@@ -1,4 +1,4 @@
-use Rattle.std.proofs.Common.{◌≡◌, ◌∙◌, ◌<◌, ◌≤◌, ℕ, List, [], ◌∷◌, Some, None, length, get_or, refl, sym, ap, arith}
+use Rattle.std.proofs.Common.{◌≡◌, ◌∙◌, ◌<◌, ◌≤◌, ℕ, List, [], ◌∷◌, Some, length, get_or, refl, sym, ap, arith}
 use Rattle.std.specs.Option.{option_and_then}
 use Rattle.fabric_script.specs.Names.{failure_in}
 use Rattle.fabric_script.specs.declared.event.FailureName.{FailureName}
@@ -20,21 +20,6 @@ four [] a b c d least most ia ib ic id = absurd (omega (arith, least))
 four (w ∷ words) a b c d least most ia ib ic id =
     rw ia (ap (λ (more : List (List ℕ)). w ∷ more) (three words b c d (omega (arith, least)) (omega (arith, most)) ib ic id))
 
--- other words are no trace
-few : (words : List (List ℕ)) → length words < 3 → None ≡ trace_in words
-few [] below = refl
-few (x ∷ []) below = refl
-few (x ∷ y ∷ []) below = refl
-few (x ∷ y ∷ z ∷ words) below = absurd (omega (arith, below))
-
-many : (words : List (List ℕ)) → 5 ≤ length words → None ≡ trace_in words
-many [] above = absurd (omega (arith, above))
-many (v ∷ []) above = absurd (omega (arith, above))
-many (v ∷ w ∷ []) above = absurd (omega (arith, above))
-many (v ∷ w ∷ x ∷ []) above = absurd (omega (arith, above))
-many (v ∷ w ∷ x ∷ y ∷ []) above = absurd (omega (arith, above))
-many (v ∷ w ∷ x ∷ y ∷ z ∷ words) above = refl
-
 pub returns-in-len3 : goal.returns-in-len3
 returns-in-len3 c =
     c.trace_of.ensures
@@ -53,9 +38,3 @@ returns-in_err-failed-in-len4 c =
     ∙ ap (option_and_then (λ (name : FailureName). trace_of c.from-item-then-words-lt5.result c.to-item-then-words-lt5.result c.entry-item-then-words-lt5.result (Some name)))
     (c.in_err-failed-in-len4.ensures.value ∙ ap failure_in c.bytes.ensures)
     ∙ ap trace_in (sym (four c.args.words.now _ _ _ _ c.in-len4.len_at_least c.in-len4.len_below c.from-item-then-words-lt5.is c.to-item-then-words-lt5.is c.entry-item-then-words-lt5.is c.failed-item.is))
-
-pub returns-in_default : goal.returns-in_default
-returns-in_default c = few c.args.words.now c.in_default.len_below
-
-pub returns-in_default-2 : goal.returns-in_default-2
-returns-in_default-2 c = many c.args.words.now c.in_default.len_at_least
