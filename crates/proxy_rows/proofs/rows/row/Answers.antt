@@ -59,3 +59,9 @@ returns g c rest read =
     outside_row words.graph.now (with_rows words rest) c.args.at.now read.stands c.args.s
     (omega (arith, c.requires.within, (counts words.graph.now (with_rows words rest) c.args.at.now read.stands).nodes))
     outside c.row_for-row.result (read.rows_are c.args.s ∙ c.row_for-row.ensures)
+
+pub side_out-requires-clause-on : goal.side_out-requires-clause-on
+side_out-requires-clause-on g c = (c.requires.low c.args.s).0 (c.is_marked.ensures.0 c.if-is_marked.true)
+
+pub side_out-requires-then-is_marked-2-clause-on : goal.side_out-requires-then-is_marked-2-clause-on
+side_out-requires-then-is_marked-2-clause-on g c = (c.requires.high c.args.s).0 (c.is_marked-2.ensures.0 c.if-is_marked-2.true)

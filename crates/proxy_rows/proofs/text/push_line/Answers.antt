@@ -1,7 +1,28 @@
-use Rattle.std.proofs.Common.{◌≡◌, ℕ, get_or, length, refl, subst, arith}
+use Rattle.std.proofs.Common.{◌≡◌, ◌<◌, ℕ, List, Some, get_or, length, slice_get, refl, subst, arith}
 use Rattle.std.proofs.lemmas.Option.{slice_get_read}
 use Rattle.text_parts.proofs.Adding.{joined}
+use Rattle.proxy_rows.specs.declared.proxy_row.ProxyRow.{ProxyRow}
 use Rattle.proxy_rows.proofs.text.push_line.Goals as goal
+
+row_at : (rows : List ProxyRow) (s i : ℕ) (row : ProxyRow) → s < length rows → i ≡ s → row ≡ get_or rows i row → slice_get rows s ≡ Some row
+row_at rows s i row within same is =
+    slice_get_read rows (length rows) s row refl within (subst (λ (i : ℕ). row ≡ get_or rows i row) same is)
+
+pub push_out-requires : goal.push_out-requires
+push_out-requires c = record {
+  kept = c.requires.kept;
+  within = c.requires.within;
+  touches = c.requires.blue c.index-rows-get.result
+      (row_at c.args.rows.now c.args.s _ c.index-rows-get.result (omega (arith, c.requires.within, c.requires.one_each)) c.get.ensures.value c.index-rows-get.is);
+}
+
+pub push_out-requires-2 : goal.push_out-requires-2
+push_out-requires-2 c = record {
+  kept = c.requires.kept;
+  within = c.requires.within;
+  touches = c.requires.red c.index-rows-get.result
+      (row_at c.args.rows.now c.args.s _ c.index-rows-get.result (omega (arith, c.requires.within, c.requires.one_each)) c.get.ensures.value c.index-rows-get.is);
+}
 
 pub returns : goal.returns
 returns c =
@@ -13,9 +34,7 @@ returns c =
         id = c.id.result;
         id_is = c.id.ensures;
         row = c.index-rows-get.result;
-        row_is =
-            slice_get_read c.args.rows.now (length c.args.rows.now) c.args.s c.index-rows-get.result refl (omega (arith, c.requires.within, c.requires.one_each))
-            (subst (λ (i : ℕ). c.index-rows-get.result ≡ get_or c.args.rows.now i c.index-rows-get.result) c.get.ensures.value c.index-rows-get.is);
+        row_is = row_at c.args.rows.now c.args.s _ c.index-rows-get.result (omega (arith, c.requires.within, c.requires.one_each)) c.get.ensures.value c.index-rows-get.is;
         blue = blue.part;
         blue_is = blue.is;
         red = red.part;
