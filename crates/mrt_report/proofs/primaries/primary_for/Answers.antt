@@ -1,8 +1,23 @@
-use Rattle.std.proofs.Common.{◌≡◌, ◌∙◌, ℕ, Option, Some, ap, sym, subst, slice_get, get_or}
-use Rattle.std.specs.Prelude.{IfSome, IsSome}
+use Rattle.std.proofs.Common.{◌≡◌, ◌∙◌, ◌<◌, ℕ, Option, Some, None, ap, refl, sym, subst, slice_get, get_or, length, arith}
+use Rattle.std.specs.Prelude.{IfSome, IsNone, IsSome}
+use Rattle.mrt_graph.proofs.ListPlaces.{contains_at}
 use Rattle.primary_alt.specs.declared.shortest.Primary.{Primary}
 use Rattle.mrt_report.proofs.ForLine.{entry_is, its_primary, some_entry}
 use Rattle.mrt_report.proofs.primaries.primary_for.Goals as goal
+
+some_from : {X : Type 0} (o : Option X) → (IsNone o → ⊥) → IsSome o
+some_from None none = absurd (none refl)
+some_from (Some x) none = refl
+
+pub unwrap-spot-requires : goal.unwrap-spot-requires
+unwrap-spot-requires c =
+    some_from c.find.result (λ none. c.find.ensures.none.0 none
+    (c.requires.fits.1.nodes c.id.result (contains_at c.args.island.now.ids c.args.to c.id.result c.id.ensures)))
+
+pub bounds-prim-get : goal.bounds-prim-get
+bounds-prim-get c =
+    let below = subst (λ (o : Option ℕ). IfSome o (λ s. s < length c.args.area.now.ids)) c.unwrap-spot.ensures c.find.ensures.within in
+    omega (arith, below, c.get.ensures.value, c.requires.primaries.3.entries.one_each)
 
 pub unwrap-requires : goal.unwrap-requires
 unwrap-requires c =

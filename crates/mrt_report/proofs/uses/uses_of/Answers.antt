@@ -1,7 +1,7 @@
 use Rattle.std.proofs.Common.{◌∙◌, arith, sym}
 use Rattle.primary_alt.proofs.ColorsUse.{agree, differ}
 use Rattle.mrt_report.specs.Viewed.{viewed}
-use Rattle.mrt_report.proofs.Telling.{IsStepOn, both_begin, both_end, both_go_on, both_stop}
+use Rattle.mrt_report.proofs.Telling.{IsStepOn, both_begin, both_end, both_go_on, both_settled, both_stop}
 use Rattle.mrt_report.proofs.uses.uses_of.Goals as goal
 
 pub loop-left-init : goal.loop-left-init
@@ -49,3 +49,13 @@ pub returns-after-loop-left-clause-second : goal.returns-after-loop-left-clause-
 returns-after-loop-left-clause-second g c =
     both_stop (viewed g.R.RowsOf.rows c.args.parts.now) c.args.parts.now.to c.args.color c.loop-left.left c.loop-left.at c.args.second.now c.loop-left.uses.second
     (omega (arith, c.loop-left-test.false)) c.loop-left.invariant.2
+
+pub returns-then-are_told-2-clause-first : goal.returns-then-are_told-2-clause-first
+returns-then-are_told-2-clause-first g c =
+    both_settled (viewed g.R.RowsOf.rows c.args.parts.now) c.args.parts.now.to c.args.color c.loop-left.left c.loop-left.at c.args.first.now c.loop-left.uses.first
+    (c.are_told.ensures.0 c.if-are_told.true) c.loop-left.invariant.1
+
+pub returns-then-are_told-2-clause-second : goal.returns-then-are_told-2-clause-second
+returns-then-are_told-2-clause-second g c =
+    both_settled (viewed g.R.RowsOf.rows c.args.parts.now) c.args.parts.now.to c.args.color c.loop-left.left c.loop-left.at c.args.second.now c.loop-left.uses.second
+    (c.are_told-then-are_told.ensures.0 c.if-are_told-2.true) c.loop-left.invariant.2
