@@ -2,8 +2,9 @@
 
 ghost use Rattle.std.specs.Prelude.{◌≡◌, ◌≢◌, ◌<◌, ℕ, IfOk, Some, false, length, slice_get, true};
 ghost use Rattle.mrt_graph.specs.{declared.gadag.Place.Place, Related.IsRelation};
-ghost use Rattle.inc_dec_spf.specs.FirstLink.{no_link};
-ghost use Rattle.mrt_rows.specs.{Common.AreCommon, Said.IsNode, Said.IsRooted, Said.words_of, Source.IsSourceBy};
+ghost use Rattle.inc_dec_spf.specs.declared.reach.Dir.TheVariants.{Down, Up};
+ghost use Rattle.inc_dec_spf.specs.{FirstLink.no_link, Turns.AreTurns};
+ghost use Rattle.mrt_rows.specs.{Common.AreCommon, Common.AreHomes, TilesAimed.AreTiles, Said.IsNode, Said.IsRooted, Said.words_of, Source.IsSourceBy};
 ghost use Rattle.mrt_rows.specs.NearOf.{AreSoles, IsNearRow, IsPlaceOf, IsSoleOf};
 ghost use Rattle.mrt_rows.specs.Put.{AreFirstLinks, AreHeadsMarked, AreInCommonBlockOfMoreLinks};
 
@@ -50,10 +51,7 @@ impl Common {
         let mut soles = vec![in alloc; LinkNo::new(NO_LINK); count]?;
         let mut heads = vec![in alloc; false; count]?;
         take_soles(rooted, &mut soles, &mut heads);
-        let mut homes = Tiles::new(alloc, rooted, 1)?;
-        put_heads(rooted.graph, rooted.directed, 1, &mut homes.aims);
-        homes.wanted.fill(true);
-        homes.aim(rooted, &by_order, &against_order, &heads);
+        let homes = homes_of(alloc, rooted, &by_order, &against_order, &heads)?;
         Ok(Common {
             by_order,
             against_order,
@@ -120,6 +118,30 @@ impl Common {
         }
         self.soles[at].get() == NO_LINK
     }
+}
+
+/// Tiles of width one in which each block aims at its head. It is given the nodes by their turns, and marks on heads of blocks of
+/// more than one link.
+fn homes_of(
+    alloc: Global,
+    rooted: &Rooted,
+    by_order: &[NodeNo],
+    against_order: &[NodeNo],
+    heads: &[bool],
+) -> Result<Tiles, NoMemory>
+    requires rooted { IsRooted rooted.now }
+    requires by_order { AreTurns rooted.now.graph.now (words_of rooted.now) Up by_order.now }
+    requires against_order { AreTurns rooted.now.graph.now (words_of rooted.now) Down against_order.now }
+    requires a_mark_each { length heads.now ≡ length rooted.now.graph.now.ids }
+    requires heads { AreHeadsMarked rooted.now.graph.now (words_of rooted.now) heads.now }
+    ensures one_place { IfOk result (AreTiles rooted.now.graph.now 1) }
+    ensures homes { IfOk result (AreHomes rooted.now.graph.now (words_of rooted.now)) }
+{
+    let mut homes = Tiles::new(alloc, rooted, 1)?;
+    put_heads(rooted.graph, rooted.directed, 1, &mut homes.aims);
+    homes.wanted.fill(true);
+    homes.aim(rooted, by_order, against_order, heads);
+    Ok(homes)
 }
 
 /// Takes of each node the one link of its block, where that has no other, and else marks its head. The root is its own.
