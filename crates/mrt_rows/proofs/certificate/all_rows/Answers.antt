@@ -1,6 +1,7 @@
-use Rattle.std.proofs.Common.{rules, ◌≡◌, ◌≢◌, ◌∙◌, ◌<◌, ◌-◌, ◌*◌, ℕ, List, Option, Some, None, length, slice_get, inl, inr, sym, ap, subst, arith}
+use Rattle.std.proofs.Common.{rules, ◌≡◌, ◌≢◌, ◌∙◌, ◌<◌, ◌≤◌, ◌-◌, ◌*◌, ℕ, List, Option, Some, None, length, slice_get, inl, inr, sym, ap, subst, arith}
 use Rattle.std.proofs.lemmas.Bool.{cases_eq}
 use Rattle.std.proofs.lemmas.List.{with_items_is}
+use Rattle.std.proofs.lemmas.Nat.{mul-le}
 use Rattle.mrt_graph.specs.declared.cert.Row.{Row}
 use Rattle.mrt_rows.specs.ColumnOf.{IsColumnOf, IsRowIn}
 use Rattle.mrt_rows.specs.RowsOf.{row_among}
@@ -73,3 +74,19 @@ returns c =
     all_of_columns (og_of c.requires) c.loop-n.rows.items c.loop-n.invariant.room
     (λ s t s_within t_within two.
     c.loop-n.invariant.done s t s_within t_within (omega (arith, t_within, c.node_count-count.ensures.count, c.loop-n-test.false)) two)
+
+pub overflow_mul-size : goal.overflow_mul-size
+overflow_mul-size c =
+    let few : c.node_count-count.result ≤ 4096 = omega (arith, c.node_count-count.ensures.count, c.requires.kept.few_nodes) in
+    omega (arith, mul-le c.node_count-count.result (c.node_count-count.result - 1) 4096 4096 few (omega (arith, few)))
+
+pub aim-aimed-requires : goal.aim-aimed-requires
+aim-aimed-requires c = record {
+  rooted = c.requires;
+  to = omega (arith, c.new-to.ensures, c.loop-n-test.true, c.node_count-count.ensures.count);
+  marks = tt;
+  held = c.loop-n.invariant.held;
+}
+
+pub new-column-requires : goal.new-column-requires
+new-column-requires c = c.aim-aimed.ensures.aimed

@@ -1,5 +1,5 @@
 use Rattle.std.proofs.Common.{◌≡◌, ◌∙◌, ℕ, Some, length, slice_get, refl, sym, ap, subst, inl, inr, arith}
-use Rattle.std.proofs.lemmas.Bool.{cases_eq, eqb-false, eqb-true}
+use Rattle.std.proofs.lemmas.Bool.{both_ways, cases_eq, eqb-false, eqb-true}
 use Rattle.std.proofs.lemmas.Option.{same_Some, slice_get_read, slice_get_within}
 use Rattle.mrt_graph.specs.declared.link.End.{End}
 use Rattle.mrt_graph.proofs.EndsAt.{end_leads}
@@ -47,9 +47,8 @@ loop-end-preserved c = λ j end below at sole in_block. elim (cases_eq j c.loop-
             (block_says g d w item.link c.mark-mark.result is.says inside c.mark-mark.ensures ∙ ap (λ (x : End). w.lies_in x.link) end_is ∙ in_block
             ∙ sym c.place-block.ensures.block)
         | else-is_sole-via-else-is_sole t ↦
-            let yes = c.is_sole.ensures.1
-            (mark_says g d w item.link c.mark-mark.result is.says inside c.mark-mark.ensures ∙ ap (λ (x : End). w.role x.link) end_is ∙ sole) in
-            let no = t.if-is_sole.false in absurd (cc)
+            both_ways _ t.if-is_sole.false (c.is_sole.ensures.1
+            (mark_says g d w item.link c.mark-mark.result is.says inside c.mark-mark.ensures ∙ ap (λ (x : End). w.role x.link) end_is ∙ sole))
       ]
   | inr other ↦ c.loop-end.invariant j end (omega (arith, below, other)) at sole in_block
 ]

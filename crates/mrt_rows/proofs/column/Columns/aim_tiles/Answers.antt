@@ -9,6 +9,9 @@ use Rattle.mrt_rows.specs.Said.{words_of}
 use Rattle.mrt_rows.proofs.HeldColumns.{aims_moved, shared_moved}
 use Rattle.mrt_rows.proofs.column.Columns.aim_tiles.Goals as goal
 
+as_one : (a n m : ℕ) → a ≡ n * 1 → m ≡ n → a ≡ m
+as_one a n m one many = omega arith
+
 pub put_ways-requires-clause-soles : goal.put_ways-requires-clause-soles
 put_ways-requires-clause-soles c =
     subst (λ (xs : List ℕ). AreSoles c.args.rooted.now.graph.now (words_of c.args.rooted.now) xs) (sym c.deref.ensures.value) c.requires.held.common.soles
@@ -80,7 +83,7 @@ take_shared-requires-clause-one_first_each c =
     let put = with_items_is c.args.self.now.each.wanted c.put_ways.new.marks (c.put_ways.auto.marks ∙ c.deref_mut-2.ensures.len) in
     let as_many = ap (λ (bs : List Bool). length bs) (c.deref_mut-3.ensures.value ∙ put) ∙ c.put_ways.ensures.a_mark_each in
     let firsts = ap (λ (xs : List ℕ). length xs) c.deref_mut-4.ensures.value ∙ c.requires.held.shared.aims in
-    omega (arith, firsts, as_many)
+    as_one _ _ _ firsts as_many
 
 pub take_shared-requires-clause-a_mark_each : goal.take_shared-requires-clause-a_mark_each
 take_shared-requires-clause-a_mark_each c =

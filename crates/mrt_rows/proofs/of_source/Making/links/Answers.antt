@@ -1,17 +1,17 @@
-use Rattle.std.proofs.Common.{ℕ, sym, subst, arith}
+use Rattle.std.proofs.Common.{◌≡◌, ◌<◌, ◌≤◌, ◌+◌, ℕ, sym, subst, arith}
+use Rattle.std.proofs.lemmas.Bool.{both_ways}
 use Rattle.inc_dec_spf.specs.declared.reach.Dir.TheVariants.{Down, Up}
 use Rattle.inc_dec_spf.specs.Fan.{IsOpen}
 use Rattle.mrt_rows.specs.Said.{words_of}
 use Rattle.mrt_rows.proofs.of_source.Making.links.Goals as goal
 
+among : (s first at places width : ℕ) → first ≡ at → places ≡ width → s < at + width → s < first + places
+among s first at places width same wide below = omega arith
+
 pub returns-then-not-is_open_from : goal.returns-then-not-is_open_from
 returns-then-not-is_open_from c = record {
-  up = λ shares.
-      let yes = c.is_open_from.ensures.1 (c.requires.open.each c.args.t c.requires.target shares) in
-      let no = c.if-not-is_open_from.true in absurd (cc);
-  down = λ shares.
-      let yes = c.is_open_from.ensures.1 (c.requires.open.each c.args.t c.requires.target shares) in
-      let no = c.if-not-is_open_from.true in absurd (cc);
+  up = λ shares. absurd (both_ways _ c.if-not-is_open_from.true (c.is_open_from.ensures.1 (c.requires.open.each c.args.t c.requires.target shares)));
+  down = λ shares. absurd (both_ways _ c.if-not-is_open_from.true (c.is_open_from.ensures.1 (c.requires.open.each c.args.t c.requires.target shares)));
 }
 
 pub link-requires-clause-from : goal.link-requires-clause-from
@@ -22,11 +22,12 @@ link-requires-clause-among c =
     omega (arith, (c.is_open_from.ensures.0 c.if-not-is_open_from.false).1, c.new-first.ensures, c.requires.made.up.width)
 
 pub link-requires-2-clause-from : goal.link-requires-2-clause-from
-link-requires-2-clause-from c = omega (arith, (c.is_open_from.ensures.0 c.if-not-is_open_from.false).0, c.new-first.ensures)
+link-requires-2-clause-from c =
+    subst (λ (first : ℕ). first ≤ c.args.s) (sym c.new-first.ensures) (c.is_open_from.ensures.0 c.if-not-is_open_from.false).0
 
 pub link-requires-2-clause-among : goal.link-requires-2-clause-among
 link-requires-2-clause-among c =
-    omega (arith, (c.is_open_from.ensures.0 c.if-not-is_open_from.false).1, c.new-first.ensures, c.requires.made.down.width)
+    among c.args.s _ _ _ _ c.new-first.ensures c.requires.made.down.width (c.is_open_from.ensures.0 c.if-not-is_open_from.false).1
 
 pub returns : goal.returns
 returns c =

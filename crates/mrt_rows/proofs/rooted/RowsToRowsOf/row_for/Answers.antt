@@ -1,4 +1,4 @@
-use Rattle.std.proofs.Common.{◌≡◌, ◌∙◌, ℕ, Bool, List, Option, Some, None, IsSome, if◌then◌else◌, true, false, slice_get, refl, sym, ap, subst, arith}
+use Rattle.std.proofs.Common.{◌≡◌, ◌∙◌, ◌<◌, ℕ, Bool, List, Option, Some, None, IsSome, if◌then◌else◌, true, false, length, slice_get, refl, sym, ap, subst, arith}
 use Rattle.std.proofs.lemmas.Option.{get_or_from_slice_get, none-some, option_and_then_some, same_Some, slice_get_within}
 use Rattle.std.specs.Option.{option_and_then}
 use Rattle.mrt_graph.specs.declared.cert.Row.{Row}
@@ -62,3 +62,21 @@ returns c =
     (subst (λ (i : ℕ). slice_get c.self.inside.columns.items i ≡ Some it.column) place it.there) in
     let row = same_Some (Some it.row) c.row.result (sym it.is ∙ subst (λ (rows : List (Option Row)). slice_get rows c.args.s ≡ Some c.row.result) column c.row.ensures.value) in
     subst (λ (held : ColumnsHeld). rows_in held c.args.s c.args.t ≡ Some c.in-Some-row.row) c.self.view_is (it.so ∙ row ∙ c.in-Some-row.is)
+
+pub index-requires-2 : goal.index-requires-2
+index-requires-2 c =
+    let it = stands _ c.args.s c.args.t (subst (λ (held : ColumnsHeld). IsSome (rows_in held c.args.s c.args.t)) (sym c.self.view_is) c.requires) in
+    let index = c.index.ensures ∙ get_or_from_slice_get c.self.inside.places.items c.get.result (Some it.place) c.index.result.now
+    (subst (λ (i : ℕ). slice_get c.self.inside.places.items i ≡ Some (Some it.place)) (sym c.get.ensures.value) it.at) in
+    let place = same_Some it.place c.in-Some.place (sym index ∙ c.in-Some.is) in
+    omega (arith, c.self.inside.columns.ok.0, place, slice_get_within c.self.inside.columns.items it.place it.column it.there)
+
+pub row-requires : goal.row-requires
+row-requires c =
+    let it = stands _ c.args.s c.args.t (subst (λ (held : ColumnsHeld). IsSome (rows_in held c.args.s c.args.t)) (sym c.self.view_is) c.requires) in
+    let index = c.index.ensures ∙ get_or_from_slice_get c.self.inside.places.items c.get.result (Some it.place) c.index.result.now
+    (subst (λ (i : ℕ). slice_get c.self.inside.places.items i ≡ Some (Some it.place)) (sym c.get.ensures.value) it.at) in
+    let place = same_Some it.place c.in-Some.place (sym index ∙ c.in-Some.is) in
+    let column = c.index-2.ensures ∙ get_or_from_slice_get c.self.inside.columns.items c.in-Some.place it.column c.index-2.result.now
+    (subst (λ (i : ℕ). slice_get c.self.inside.columns.items i ≡ Some it.column) place it.there) in
+    subst (λ (rows : List (Option Row)). c.args.s < length rows) (sym column) (slice_get_within it.column c.args.s (Some it.row) it.is)
