@@ -1,6 +1,7 @@
-use Rattle.std.proofs.Common.{◌≡◌, ◌≢◌, ◌∙◌, ℕ, refl, sym, subst}
+use Rattle.std.proofs.Common.{◌≡◌, ◌≢◌, ◌∙◌, ℕ, length, refl, sym, subst, arith}
 use Rattle.primary_alt.proofs.ColorsUse.{agree, differ}
 use Rattle.text_parts.specs.Adds.{Adds}
+use Rattle.mrt_report.specs.AddsLines.{AddsLines}
 use Rattle.mrt_report.specs.ByColumn.{IsLineByColumn}
 use Rattle.mrt_rows.specs.CertOf.{IsCertOf}
 use Rattle.mrt_report.proofs.AddingLines.{no_lines, line_added, line_passed}
@@ -40,3 +41,18 @@ push_line-requires-clause-kept c = c.requires.kept
 
 pub push_line-requires-clause-made : goal.push_line-requires-clause-made
 push_line-requires-clause-made c = c.loop-place.invariant.1
+
+pub push_line-requires-clause-target : goal.push_line-requires-clause-target
+push_line-requires-clause-target c = omega (arith, c.new-to.ensures, c.loop-place-test.true, c.node_count-place-end.ensures.count)
+
+pub push_line-requires-clause-different : goal.push_line-requires-clause-different
+push_line-requires-clause-different c = λ same. differ _ _ (sym c.ne.ensures ∙ c.if-ne.true) (sym same)
+
+pub returns : goal.returns
+returns c = λ file is.
+    let all : c.loop-place.place ≡ length c.args.parts.now.island.now.ids =
+    omega (arith, c.loop-place-test.false, c.loop-place.auto.place-end, c.node_count-place-end.ensures.count) in
+    subst
+    (λ (n : ℕ).
+    AddsLines (IsLineByColumn (with_cert c.args.parts.now file.cert)) c.args.parts.now.source n c.args.text.now.items c.loop-place.text.items) all
+    (c.loop-place.invariant.2 file is)
