@@ -63,3 +63,9 @@ pub returns-clause-aims : goal.returns-clause-aims
 returns-clause-aims c = record {
   each = λ j t there. c.loop-at.invariant.done j t (omega (arith, slice_get_within c.args.targets.now j t there, c.loop-at-test.false)) there;
 }
+
+pub offset_bounds-targets-at : goal.offset_bounds-targets-at
+offset_bounds-targets-at c = omega (arith, c.loop-at-test.true)
+
+pub bounds-targets-at : goal.bounds-targets-at
+bounds-targets-at c = c.loop-at-test.true

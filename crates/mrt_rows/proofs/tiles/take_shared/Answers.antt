@@ -83,3 +83,14 @@ returns c =
           (omega (arith, all, slice_get_within c.loop-k.shared i true at, c.loop-k.invariant.a_mark_each)) at;
       marked = λ i at. c.loop-k.invariant.marked i (omega (arith, all, slice_get_within c.args.wanted.now i true at)) at;
     }
+
+pub offset_bounds-aims-k : goal.offset_bounds-aims-k
+offset_bounds-aims-k c =
+    let below : c.loop-k.k < length c.args.wanted.now = omega (arith, c.loop-k-test.true, c.loop-k.invariant.one_each) in
+    omega (arith, row_within c.loop-k.k (length c.args.wanted.now) c.args.width (length c.args.aims.now) c.requires.room below)
+
+pub are_one-is_shared-requires : goal.are_one-is_shared-requires
+are_one-is_shared-requires c =
+    let below : c.loop-k.k < length c.args.wanted.now = omega (arith, c.loop-k-test.true, c.loop-k.invariant.one_each) in
+    let room = row_within c.loop-k.k (length c.args.wanted.now) c.args.width (length c.args.aims.now) c.requires.room below in
+    omega (arith, range_length c.args.aims.now (c.loop-k.k * c.args.width) c.args.width room, c.requires.some)
