@@ -59,7 +59,7 @@ common g c accepted a b one other at_a at_b differ near less =
         | inl down ↦ rw (at_a, at_b, apart.0, down.0, eq-eqb other.block other.block refl) (or_right _ _ refl)
         | inr not_down ↦ elim (eqb_tells one.head b) [
           | inl up ↦ absurd (head_before g c accepted a b one other at_a at_b differ up.1 less)
-          | inr not_up ↦ let clash = rw (at_a, at_b, apart.0, not_down.0, not_up.0) at near in absurd (cc)
+          | inr not_up ↦ absurd (false≢true (sym (rw (at_a, at_b, apart.0, not_down.0, not_up.0) at near)))
         ]
       ]
     ]
