@@ -1,7 +1,8 @@
-use Rattle.std.proofs.Common.{◌-◌, ◌+◌, length, refl, arith}
+use Rattle.std.proofs.Common.{◌-◌, ◌+◌, ◌∙◌, length, refl, sym, arith}
 use Rattle.std.proofs.lemmas.Option.{slice_get_read, slice_get_within}
 use Rattle.mrt_graph.proofs.ListPlaces.{place_of}
 use Rattle.lowpoint_dfs.proofs.LowpointsGiven.{AreGiven, one_more}
+use Rattle.lowpoint_dfs.proofs.SearchGoesOn.{ends_within}
 use Rattle.lowpoint_dfs.proofs.lowpoints.set_lowpoints.Goals as goal
 
 pub loop-place-preserved : goal.loop-place-preserved
@@ -26,3 +27,21 @@ loop-place-init c = record {
   alike = record { numbers = λ v. refl; parents = λ v. refl };
   done = λ k v from at. absurd (omega (arith, from, slice_get_within c.args.order.now k v at));
 }
+
+pub ends-requires : goal.ends-requires
+ends-requires c =
+    c.requires.numbered.within (c.loop-place.place - 1) c.index-order-place.result
+    (slice_get_read c.args.order.now (length c.args.order.now) (c.loop-place.place - 1) c.index-order-place.result refl (omega (arith, c.loop-place-test.true, c.loop-place.auto.place)) c.index-order-place.is)
+
+pub set_lowpoint-requires-clause-node : goal.set_lowpoint-requires-clause-node
+set_lowpoint-requires-clause-node c = omega (arith, slice_get_within c.args.g.now.ends c.index-order-place.result c.ends.result.now c.ends.ensures.value, c.requires.kept.a_list_each, c.loop-place.invariant.one_each)
+
+pub set_lowpoint-requires-clause-within : goal.set_lowpoint-requires-clause-within
+set_lowpoint-requires-clause-within c =
+    ends_within c.args.g.now c.index-order-place.result c.loop-place.nodes.items c.ends.result.now c.loop-place.invariant.one_each c.ends.ensures.kept
+
+pub returns-clause-one_each : goal.returns-clause-one_each
+returns-clause-one_each c = c.loop-place.invariant.one_each ∙ sym c.requires.one_each
+
+pub returns-clause-alike : goal.returns-clause-alike
+returns-clause-alike c = c.loop-place.invariant.alike
