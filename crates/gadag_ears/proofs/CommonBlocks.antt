@@ -66,6 +66,17 @@ turned_round places u v k (OfBoth one two) = OfBoth two one
 turned_round places u v k (FirstIsHead block head) = SecondIsHead block head
 turned_round places u v k (SecondIsHead block head) = FirstIsHead block head
 
+-- the common block of a link's nodes, in either order
+pub common_of : (g : Topology) (places : List Place) (e : ℕ) (link : Link) (k : ℕ) → slice_get g.links e ≡ Some link → IsCommonBlock places link.a link.b k
+    → (u v : ℕ) → leads g.links e u ≡ Some v → IsCommonBlock places u v k
+common_of g places e link k is common u v to =
+    let far : far_node u link ≡ Some v = sym (ap (λ o. option_and_then (far_node u) o) is) ∙ to in
+    elim (far_ends link u v far) [
+      | inl up ↦ subst (λ (w : ℕ). IsCommonBlock places w v k) up.0 (subst (λ (w : ℕ). IsCommonBlock places link.a w k) up.1 common)
+      | inr down ↦ turned_round places u v k
+          (subst (λ (w : ℕ). IsCommonBlock places w u k) down.1 (subst (λ (w : ℕ). IsCommonBlock places link.a w k) down.0 common))
+    ]
+
 -- the two nodes of a link have a common block
 pub common_block : (g : Topology) (root : ℕ) (tree : List TreeNode) (places : List Place) (e u v : ℕ) → AreFacts g root tree
     → ((v p : ℕ) → v < length g.ids → parent_of g tree v ≡ Some p → IsPlacedByLow g tree places v p) → length places ≡ length g.ids

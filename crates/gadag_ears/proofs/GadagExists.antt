@@ -15,7 +15,6 @@ use Rattle.mrt_graph.specs.GadagLists.{GadagLists, gadag_of}
 use Rattle.mrt_graph.specs.Leads.{far_node, leads}
 use Rattle.mrt_graph.specs.Tails.{tail_at, tail_of}
 use Rattle.mrt_graph.specs.Topology.{Topology}
-use Rattle.mrt_graph.proofs.Hops.{far_ends}
 use Rattle.mrt_graph.proofs.ListPlaces.{pushed_at, set_elsewhere, set_there}
 use Rattle.mrt_graph.proofs.ListTests.{there}
 use Rattle.mrt_graph.proofs.Members.{contains_cases, contains_first, contains_later, contains_none}
@@ -27,7 +26,7 @@ use Rattle.gadag_ears.specs.HeadAndBlock.{ArePlaces, BeginsBlock}
 use Rattle.gadag_ears.specs.LinkMarks.{AreMarks, IsLastOfBlock, IsOfOneLink, IsOnEar, Onward, Out}
 use Rattle.gadag_ears.specs.Marking.{way_along}
 use Rattle.gadag_ears.proofs.BlockLinks.{IsKnown, known, last_or_not, way_of}
-use Rattle.gadag_ears.proofs.CommonBlocks.{common_block, placed_by_low, turned_round}
+use Rattle.gadag_ears.proofs.CommonBlocks.{common_block, common_of, placed_by_low}
 use Rattle.gadag_ears.proofs.DirectedLinks.{of_one_or_not, on_some_or_none, one_link}
 use Rattle.gadag_ears.proofs.EarLinks.{first_again, goes_over, link_touches, links_differ}
 use Rattle.gadag_ears.proofs.EarBrought.{places_grown}
@@ -256,16 +255,8 @@ some_block : (g : Topology) (root : ℕ) (tree : List TreeNode) (order : List �
 some_block g root tree order ears places facts are placed one_each e within =
     let link = there g.links e within in
     let it = common_block g root tree places e link.0.a link.0.b facts (placed_by_low g root tree order ears places facts are placed) one_each
-    (leads_over g e link.0 link.1) in (
-      it.0,
-      (λ u v to.
-          let far : far_node u link.0 ≡ Some v = sym (ap (λ o. option_and_then (far_node u) o) link.1) ∙ to in
-          elim (far_ends link.0 u v far) [
-            | inl up ↦ subst (λ (w : ℕ). IsCommonBlock places w v it.0) up.0 (subst (λ (w : ℕ). IsCommonBlock places link.0.a w it.0) up.1 it.1)
-            | inr down ↦ turned_round places u v it.0
-                (subst (λ (w : ℕ). IsCommonBlock places w u it.0) down.1 (subst (λ (w : ℕ). IsCommonBlock places link.0.a w it.0) down.0 it.1))
-          ]),
-    )
+    (leads_over g e link.0 link.1) in
+    (it.0, common_of g places e link.0 it.0 link.1 it.1)
 
 some_mark : (g : Topology) (root : ℕ) (tree : List TreeNode) (order : List ℕ) (ears : List Ear) (places : List Place) → AreSomeEars g root tree ears
     → AreEars g root tree order ears → ArePlaces root ears places → length places ≡ length g.ids → (e : ℕ) → e < length g.links

@@ -1,7 +1,8 @@
-use Rattle.std.proofs.Common.{◌≡◌, ◌≤◌, ◌-◌, ◌++◌, ◌∙◌, ℕ, Bool, true, List, [], ◌∷◌, drop, get_or, length, reverse, set, sym, ap, subst, arith}
+use Rattle.std.proofs.Common.{◌≡◌, ◌≤◌, ◌-◌, ◌++◌, ◌∙◌, ℕ, Bool, true, List, [], ◌∷◌, append-nil, drop, get_or, length, length-append, length-drop, reverse, set, refl, sym, ap, subst, arith}
+use Rattle.std.proofs.lemmas.List.{drop_all, length-reverse}
 use Rattle.mrt_graph.specs.declared.gadag.Place.{Place}
-use Rattle.gadag_ears.specs.Growing.{AreEntered}
-use Rattle.gadag_ears.proofs.Entering.{drop_from, member_before, one_more_entered, one_more_waits}
+use Rattle.gadag_ears.specs.Growing.{AreEntered, HasEntered}
+use Rattle.gadag_ears.proofs.Entering.{drop_from, member_before, none_entered, one_more_entered, one_more_waits}
 use Rattle.gadag_ears.proofs.growing.enter_all.Goals as goal
 
 node_is : (items others : List ℕ) (k u v : ℕ) → u ≡ v → v ≡ get_or items k v → items ≡ others → u ≡ get_or others k u
@@ -53,3 +54,40 @@ entry-preserved c =
           c.entry.growing.places.items (drop (c.entry.k - 1) c.args.growing.now.added.items) (c.get.result ∷ drop c.entry.k c.args.growing.now.added.items)
           c.get.result c.get-in-entry.result more same entered;
     }
+
+pub entry-init : goal.entry-init
+entry-init c =
+    let growing = c.args.growing.now in
+    subst (λ (some : List ℕ). HasEntered growing c.args.head c.args.block some growing) (sym (drop_all c.len-k.result growing.added.items (omega (arith, c.len-k.ensures, growing.added.ok.0))))
+    (record {
+      order = refl;
+      added = refl;
+      marks = refl;
+      waiting = sym (append-nil growing.waiting.items);
+      room = refl;
+      entered = none_entered growing.listed.items growing.places.items c.args.head c.args.block;
+    })
+
+pub push_reserved-requires : goal.push_reserved-requires
+push_reserved-requires c =
+    let growing = c.args.growing.now in
+    let left = drop c.entry.k growing.added.items in
+    omega (
+      arith,
+      c.requires.room,
+      c.entry.invariant.room,
+      ap length c.entry.invariant.waiting,
+      length-append growing.waiting.items (reverse left),
+      length-reverse left,
+      length-drop c.entry.k growing.added.items,
+      c.entry-test.true,
+      c.entry.auto.k,
+      c.len-k.ensures,
+      c.entry.growing.waiting.ok.0,
+    )
+
+pub returns : goal.returns
+returns c =
+    let growing = c.args.growing.now in
+    let none : c.entry.k ≡ 0 = omega (arith, c.entry-test.false) in
+    subst (λ (k : ℕ). HasEntered growing c.args.head c.args.block (drop k growing.added.items) c.entry.growing) none c.entry.invariant

@@ -1,4 +1,7 @@
-use Rattle.gadag_ears.proofs.MarkedAlong.{along_more, in_at, over_some, over_there}
+use Rattle.std.proofs.Common.{◌∙◌, ℕ, List, subst, take_all}
+use Rattle.gadag_ears.specs.Marking.{AreSetAlong}
+use Rattle.gadag_ears.proofs.EarMarked.{set_out}
+use Rattle.gadag_ears.proofs.MarkedAlong.{along_more, in_at, link_there, over_some, over_there}
 use Rattle.gadag_ears.proofs.marking.mark_way.Goals as goal
 
 pub onward-over-requires-clause-within : goal.onward-over-requires-clause-within
@@ -20,3 +23,20 @@ loop-k-preserved c =
     c.index-new-k-in-loop-k.result c.onward-over.result c.args.marks.now.items c.loop-k.marks.items c.set_mark-in-loop-k.new.marks.items c.requires.can
     c.requires.one_each c.requires.not_sole c.loop-k-test.true c.index-new-k.is c.index-new-k-in-loop-k.is c.onward-over.ensures c.loop-k.invariant
     c.set_mark-in-loop-k.ensures
+
+pub set_mark-requires-clause-link : goal.set_mark-requires-clause-link
+set_mark-requires-clause-link c = (link_there c.args.g.now c.args.link c.args.x c.requires.can.to c.requires.can.touches).within
+
+pub set_mark-requires-in-loop-k-clause-one_each : goal.set_mark-requires-in-loop-k-clause-one_each
+set_mark-requires-in-loop-k-clause-one_each c = c.loop-k.invariant.one_each ∙ c.requires.one_each
+
+pub loop-k-init : goal.loop-k-init
+loop-k-init c =
+    let it = link_there c.args.g.now c.args.link c.args.x c.requires.can.to c.requires.can.touches in
+    set_out c.args.g.now c.args.tree.now c.args.kind c.args.x c.args.link c.args.marks.now.items c.set_mark.new.marks.items it.link c.requires.one_each it.within it.is
+    (c.set_mark.ensures it.link it.is)
+
+pub returns : goal.returns
+returns c =
+    subst (λ (some : List ℕ). AreSetAlong c.args.g.now c.args.tree.now c.args.kind c.args.x c.args.link some c.args.marks.now.items c.loop-k.marks.items)
+    (take_all c.loop-k.k c.args.new.now c.loop-k-test.false) c.loop-k.invariant
