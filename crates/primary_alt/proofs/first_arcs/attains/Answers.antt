@@ -1,4 +1,4 @@
-use Rattle.std.proofs.Common.{◌≡◌, ◌+◌, ◌-◌, ◌≤◌, ℕ, List, Option, eqb, eq-eqb, sym, subst, arith, true≢false}
+use Rattle.std.proofs.Common.{◌≡◌, ◌+◌, ◌-◌, ◌≤◌, ℕ, List, Option, eqb, eq-eqb, leb-true, sym, subst, arith, true≢false}
 use Rattle.std.specs.Prelude.{IsTrue}
 use Rattle.area_graph.specs.declared.area_types.Arc.{Arc}
 use Rattle.primary_alt.specs.Attaining.{Attains}
@@ -36,3 +36,12 @@ returns-then-near-metric c =
     let arc = c.args.arc.now in
     attained known arc c.in-Some.near c.in-Some-known.rest (number_read known c.get.result arc.tail c.in-Some.near c.get.ensures.value c.requires.tail c.in-Some.is)
     (number_read known c.get-2.result arc.to c.in-Some-known.rest c.get-2.ensures.value c.requires.to c.in-Some-known.is) c.if-near-metric.true
+
+pub returns-else-near-metric : goal.returns-else-near-metric
+returns-else-near-metric c =
+    let known = c.args.known.now in
+    let arc = c.args.arc.now in
+    let near = number_read known c.get.result arc.tail c.in-Some.near c.get.ensures.value c.requires.tail c.in-Some.is in (
+      λ is. absurd (omega (arith, c.if-near-metric.false, leb-true arc.metric c.in-Some.near is)),
+      λ attains. absurd (omega (arith, c.if-near-metric.false, one_number known arc.tail (arc.metric + attains.rest) c.in-Some.near attains.near near)),
+    )

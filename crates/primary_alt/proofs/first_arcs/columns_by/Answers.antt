@@ -1,4 +1,4 @@
-use Rattle.std.proofs.Common.{◌≡◌, ◌<◌, ◌+◌, ◌++◌, ◌∷◌, [], ◌∙◌, ℕ, List, Option, Some, get_or, length, set, slice_get, take, refl, sym, ap, subst, arith}
+use Rattle.std.proofs.Common.{◌≡◌, ◌<◌, ◌+◌, ◌++◌, ◌∷◌, [], ◌∙◌, ℕ, List, Option, Some, get_or, length, set, slice_get, take, refl, sym, ap, subst, arith, take_all}
 use Rattle.std.specs.Prelude.{Contains}
 use Rattle.std.proofs.lemmas.List.{take_more}
 use Rattle.std.proofs.lemmas.Option.{slice_get_read}
@@ -116,3 +116,7 @@ loop-t-preserved c =
       columns = asked_more area c.args.destinations.now c.loop-t.t-index t _ c.loop-t-test.true c.t-item.is
           (subst (λ (k : ℕ). AreColumnsFor area (take c.loop-t.t-index c.args.destinations.now ++ t ∷ []) (set c.loop-t.columns.items k (Some column))) (sym c.get-place.ensures.value) more);
     }
+
+pub returns : goal.returns
+returns c =
+    subst (λ (asked : List ℕ). AreColumnsFor c.args.area.now asked c.loop-t.columns.items) (take_all c.loop-t.t-index c.args.destinations.now c.loop-t-test.false) c.loop-t.invariant.columns

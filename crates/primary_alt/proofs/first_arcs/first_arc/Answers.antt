@@ -39,3 +39,14 @@ pub returns : goal.returns
 returns c =
     subst (λ (o : Option ℕ). IsFirstToAttain c.args.arcs.now c.args.from c.args.to c.args.known.now o) (sym c.none.ensures)
     (NoneDoes (λ k arc low high. c.loop-number.invariant k arc low (omega (arith, high, c.loop-number-test.false))))
+
+pub attains-requires : goal.attains-requires
+attains-requires c =
+    let at = slice_get_read c.args.arcs.now (length c.args.arcs.now) c.loop-number.number c.index-arcs-number.result refl (omega (arith, c.loop-number-test.true, c.requires.within)) c.index-arcs-number.is in
+    record {
+      tail = c.requires.between.tails c.loop-number.number c.index-arcs-number.result at;
+      to = c.requires.between.tos c.loop-number.number c.index-arcs-number.result at;
+    }
+
+pub loop-number-init : goal.loop-number-init
+loop-number-init c = λ k arc low high. absurd (omega (arith, low, high))

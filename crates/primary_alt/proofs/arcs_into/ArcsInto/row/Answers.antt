@@ -31,3 +31,9 @@ returns c =
     (start_read into.arcs.items into.starts.items c.args.v c.get-place.result c.index-from.result.now c.requires.starts (omega arith) c.get-place.ensures.value c.index-from.ensures)
     (start_read into.arcs.items into.starts.items (c.args.v + 1) (c.get-place.result + 1) c.index-to.result.now c.requires.starts c.requires.node
     (ap (λ (n : ℕ). n + 1) c.get-place.ensures.value) c.index-to.ensures))
+
+pub index-from-requires : goal.index-from-requires
+index-from-requires c = omega (arith, c.get-place.ensures.value, c.requires.node, c.args.self.now.starts.ok.0)
+
+pub index-to-requires : goal.index-to-requires
+index-to-requires c = omega (arith, c.get-place.ensures.value, c.requires.node, c.args.self.now.starts.ok.0)
