@@ -1,4 +1,4 @@
-use Rattle.std.proofs.Common.{◌≡◌, ◌⊎◌, ◌∙◌, ◌<◌, ◌≤◌, ◌+◌, ◌*◌, ℕ, length, inl, inr, sym, ap, subst, arith}
+use Rattle.std.proofs.Common.{◌≡◌, ◌⊎◌, ◌∙◌, ◌<◌, ◌≤◌, ◌+◌, ◌*◌, ℕ, length, inl, inr, refl, sym, ap, subst, arith}
 use Rattle.std.proofs.lemmas.Bool.{cases_eq}
 use Rattle.inc_dec_spf.specs.BlockAims.{aim_at}
 use Rattle.inc_dec_spf.proofs.SideBySide.{places_apart, row_within}
@@ -14,6 +14,17 @@ put_all-requires c =
     let place = place_says g c.args.d.now c.requires.directed.directions s c.place-place.result are.says within c.place-place.ensures in
     row_within c.get.result (length g.ids) c.args.width (length c.loop-n.aims) (c.loop-n.invariant.room ∙ c.requires.room)
     (subst (λ (b : ℕ). b < length g.ids) (sym (c.get.ensures.value ∙ place.1)) (are.ordered.heads.block_within s within))
+
+pub loop-n-init : goal.loop-n-init
+loop-n-init c = record { room = refl; heads = λ root w are j y j_below below. absurd (omega (arith, below)) }
+
+pub returns-clause-heads : goal.returns-clause-heads
+returns-clause-heads c = λ root w are. record {
+  each = λ j y j_below within. c.loop-n.invariant.heads root w are j y j_below (omega (arith, within, c.loop-n-test.false, c.node_count-n-end.ensures.count)) within;
+}
+
+pub place-place-requires : goal.place-place-requires
+place-place-requires c = omega (arith, c.new.ensures, c.loop-n-test.true, c.node_count-n-end.ensures.count, c.requires.directed.are.says.one_place_each)
 
 pub loop-n-preserved : goal.loop-n-preserved
 loop-n-preserved c =

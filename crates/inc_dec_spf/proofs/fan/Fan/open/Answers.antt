@@ -74,3 +74,34 @@ returns-clause-open c = λ root w are.
     ∙ ap (λ (m : ℕ). fan_entries stops m costs_after.items places_after.items) (sym from_is)
     ∙ ap (λ xs. fan_entries (length xs) (length from_after.items) costs_after.items places_after.items) c.deref.ensures.value in
     subst (λ (e : FanEntries). IsOpen c.args.g.now w c.args.dir c.args.first e) same (c.sweep.ensures root w are)
+
+pub returns-clause-nodes : goal.returns-clause-nodes
+returns-clause-nodes c =
+    ap length (with_items_is c.self.inside.stops c.begin.new.stops (c.begin.auto.stops ∙ c.deref_mut-3.ensures.len)) ∙ c.begin.auto.stops ∙ ap length c.deref_mut-3.ensures.value
+    ∙ ap (λ (e : FanEntries). e.nodes) c.self.view_is
+
+pub returns-clause-width : goal.returns-clause-width
+returns-clause-width c =
+    ap length (with_items_is c.self.inside.from_costs c.sweep.new.from_costs (c.sweep.auto.from_costs ∙ c.deref_mut-6.ensures.len)) ∙ c.sweep.auto.from_costs
+    ∙ ap length c.deref_mut-6.ensures.value ∙ ap (λ (e : FanEntries). e.width) c.self.view_is
+
+pub invariant_of-self : goal.invariant_of-self
+invariant_of-self c =
+    let fan = c.self.inside in
+    let begun = c.begin.new in
+    let swept = c.sweep.new in
+    let stops = ap length (with_items_is fan.stops begun.stops (c.begin.auto.stops ∙ c.deref_mut-3.ensures.len)) ∙ c.begin.auto.stops ∙ ap length c.deref_mut-3.ensures.value in
+    let from = ap length (with_items_is fan.from_costs swept.from_costs (c.sweep.auto.from_costs ∙ c.deref_mut-6.ensures.len)) ∙ c.sweep.auto.from_costs
+    ∙ ap length c.deref_mut-6.ensures.value in
+    let from_places = ap length (with_items_is fan.from_places swept.from_places (c.sweep.auto.from_places ∙ c.deref_mut-7.ensures.len)) ∙ c.sweep.auto.from_places
+    ∙ ap length c.deref_mut-7.ensures.value in
+    let costs = ap length (with_items_is (with_items fan.costs begun.costs) swept.costs (c.sweep.auto.costs ∙ c.deref_mut-4.ensures.len)) ∙ c.sweep.auto.costs
+    ∙ ap length (c.deref_mut-4.ensures.value ∙ with_items_is fan.costs begun.costs (c.begin.auto.costs ∙ c.deref_mut.ensures.len)) ∙ c.begin.auto.costs ∙ ap length c.deref_mut.ensures.value in
+    let places = ap length (with_items_is (with_items fan.places begun.places) swept.places (c.sweep.auto.places ∙ c.deref_mut-5.ensures.len)) ∙ c.sweep.auto.places
+    ∙ ap length (c.deref_mut-5.ensures.value ∙ with_items_is fan.places begun.places (c.begin.auto.places ∙ c.deref_mut-2.ensures.len)) ∙ c.begin.auto.places ∙ ap length c.deref_mut-2.ensures.value in
+    let wide = ap (λ (n : ℕ). n * length fan.from_costs.items) (sym stops) ∙ ap (λ (m : ℕ). length (with_items fan.stops begun.stops).items * m) (sym from) in
+    record {
+      one_cost_each = costs ∙ c.self.invariant.one_cost_each ∙ wide;
+      one_place_each = places ∙ c.self.invariant.one_place_each ∙ wide;
+      one_source_each = from_places ∙ c.self.invariant.one_source_each ∙ sym from;
+    }
