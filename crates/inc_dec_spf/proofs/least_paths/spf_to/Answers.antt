@@ -188,3 +188,6 @@ returns c = λ w says.
           (all_early s c.loop-n.n c.node_count-count.result (length g.ids) (length hops) (slice_get_within hops s hop at) c.loop-n.invariant.one_each
           c.node_count-count.ensures.count c.loop-n-test.false) at;
     })
+
+pub index_mut-requires : goal.index_mut-requires
+index_mut-requires c = omega (arith, c.loop-n-test.true, c.node_count-count.ensures.count, c.loop-n.invariant.one_each, c.loop-n.hops.ok.0)

@@ -152,3 +152,12 @@ returns-clause-aimed c = λ root w are one. record {
         | inr unset ↦ inl (one.each s within (here ∙ ap (λ (b : Bool). Some b) unset))
       ]));
 }
+
+pub returns-clause-nodes : goal.returns-clause-nodes
+returns-clause-nodes c = c.loop-n.invariant.nodes
+
+pub returns-clause-width : goal.returns-clause-width
+returns-clause-width c = c.loop-n.invariant.width
+
+pub invariant_of-self : goal.invariant_of-self
+invariant_of-self c = c.loop-n.invariant.kept
