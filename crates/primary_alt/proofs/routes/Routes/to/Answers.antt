@@ -47,3 +47,9 @@ returns-clause-made c =
 pub returns-clause-columns : goal.returns-clause-columns
 returns-clause-columns c =
     has_columns c.args.area.now c.args.destinations.now c.in_ok-networks.networks.items c.in_ok-leads.leads.items c.in_ok-columns.columns.items _ c.in_ok-columns.ensures c.in_ok-networks.ensures refl
+
+pub returns-clause-links : goal.returns-clause-links
+returns-clause-links c = c.in_ok-links.ensures.items
+
+pub first_columns-requires-clause-within : goal.first_columns-requires-clause-within
+first_columns-requires-clause-within c = c.requires.within
