@@ -18,3 +18,9 @@ loop-next-smaller c =
       c.take_turn.ensures.longer,
       room_here c.args.g.now c.args.root c.args.tree.now c.loop-next.here c.loop-next.growing c.loop-next.invariant.turn,
     )
+
+pub loop-next-preserved : goal.loop-next-preserved
+loop-next-preserved c = record { turn = c.in-Some.ensures.onward c.args.root c.loop-next.invariant.turn; has_room = c.take_turn.ensures.room }
+
+pub returns : goal.returns
+returns c = c.in_default.ensures.ended c.args.root c.loop-next.invariant.turn
