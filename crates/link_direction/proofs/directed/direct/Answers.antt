@@ -1,6 +1,7 @@
-use Rattle.std.proofs.Common.{◌≡◌, ◌∙◌, ℕ, List, length, sym, ap, subst}
+use Rattle.std.proofs.Common.{◌≡◌, ◌∙◌, ℕ, List, Some, length, slice_get, sym, ap, subst, arith}
 use Rattle.mrt_graph.specs.declared.gadag.Mark.{Mark}
 use Rattle.mrt_graph.specs.GadagLists.{GadagLists}
+use Rattle.link_direction.specs.Counting.{StandOnce}
 use Rattle.link_direction.specs.Directed.{AreNumbers}
 use Rattle.link_direction.specs.GadagOrder.{IsWholeOrder}
 use Rattle.link_direction.specs.Ways.{AreWaysGiven}
@@ -36,3 +37,16 @@ returns-clause-exact c =
 pub returns-clause-ordered : goal.returns-clause-ordered
 returns-clause-ordered c =
     says_ordered c.args.g.now c.args.root c.args.gadag c.new.result c.in_ok-order.ensures.kept c.requires.root c.requires.gadag (returns-clause-exact c)
+
+pub numbers_of-requires : goal.numbers_of-requires
+numbers_of-requires c = record {
+  once = subst (λ (xs : List ℕ). StandOnce xs) (sym c.deref-2.ensures.value) c.in_ok-order.ensures.once;
+  few = omega (arith, c.in_ok-order.ensures.few, ap length c.deref-2.ensures.value);
+  within = λ k v at. c.in_ok-order.ensures.within k v (subst (λ (xs : List ℕ). slice_get xs k ≡ Some v) c.deref-2.ensures.value at);
+}
+
+pub give_ways-requires : goal.give_ways-requires
+give_ways-requires c = record {
+  numbers = ap length c.deref-3.ensures.value ∙ c.in_ok-numbers.ensures.one_each;
+  marks = ap (λ (gadag : GadagLists). length gadag.marks) (sym c.into_lists-places.ensures) ∙ c.requires.gadag.is_gadag.marks.one_each;
+}
