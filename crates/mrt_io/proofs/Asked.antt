@@ -1,6 +1,7 @@
--- What a shelf in memory answers where a file is asked for.
+-- What devices answer: a shelf in memory that is asked for a file, and errors.
 use Rattle.std.proofs.Common.{◌≡◌, ◌==◌, ◌<◌, ◌≤◌, ◌^◌, ◌∙◌, ℕ, Bool, true, false, List, Option, Some, None, Result, Ok, Err, length, drop, refl, sym, ap, arith}
-use Rattle.std.specs.Prelude.{◌||◌, IsSome, is_none, is_some, if◌then◌else◌}
+use Rattle.std.specs.Prelude.{◌||◌, IfOk, IsSome, OnErr, OnOk, is_none, is_some, if◌then◌else◌}
+use Rattle.std.specs.Result.{is_err}
 use Rattle.std.specs.Option.{IsSomeAnd, option_map}
 use Rattle.std.proofs.lemmas.Bool.{eq-eqb, false≢true, true≢false}
 use Rattle.mrt_io.specs.Memory.{NoneFrom, counted}
@@ -69,3 +70,16 @@ count_rose old new fits is = omega (arith, fits, is)
 -- no call after the next one is to fail
 pub none_later : (calls next : ℕ) (fails : List ℕ) → calls < 2 ^ 64 → next ≡ counted calls → NoneFrom calls fails → NoneFrom next fails
 none_later calls next fails fits is none = λ k d below. omega (arith, none k d below, fits, is)
+
+-- of an error nothing is said that is said of a value
+pub no_value : {T E : Type 0} (r : Result T E) (P : T → Type 0) → is_err r ≡ true → IfOk r P
+no_value (Ok t) P err = absurd (false≢true err)
+no_value (Err e) P err = tt
+
+pub not_done : {T E : Type 0} (r : Result T E) (P : Type 0) → is_err r ≡ true → OnOk r P
+not_done (Ok t) P err = absurd (false≢true err)
+not_done (Err e) P err = tt
+
+pub failed : {T E : Type 0} (r : Result T E) (P : Type 0) → P → OnErr r P
+failed (Ok t) P so = tt
+failed (Err e) P so = so

@@ -1,22 +1,9 @@
-use Rattle.std.proofs.Common.{◌≡◌, ◌∙◌, true, refl, sym, Result, Ok, Err, arith}
-use Rattle.std.specs.Prelude.{IfOk, OnErr, OnOk}
+use Rattle.std.proofs.Common.{◌≡◌, ◌∙◌, true, refl, sym, arith}
 use Rattle.std.specs.Result.{is_err}
 use Rattle.std.proofs.lemmas.Bool.{false≢true}
+use Rattle.mrt_io.proofs.Asked.{failed, no_value, not_done}
 use Rattle.mrt_io.proofs.file_shelf.FileShelfShelf.more.Goals.{in-Some, in-None}
 use Rattle.mrt_io.proofs.file_shelf.FileShelfShelf.more.Goals as goal
-
--- of an error nothing is said that is said of a value
-no_value : {T E : Type 0} (r : Result T E) (P : T → Type 0) → is_err r ≡ true → IfOk r P
-no_value (Ok t) P err = absurd (false≢true err)
-no_value (Err e) P err = tt
-
-not_done : {T E : Type 0} (r : Result T E) (P : Type 0) → is_err r ≡ true → OnOk r P
-not_done (Ok t) P err = absurd (false≢true err)
-not_done (Err e) P err = tt
-
-failed : {T E : Type 0} (r : Result T E) (P : Type 0) → P → OnErr r P
-failed (Ok t) P so = tt
-failed (Err e) P so = so
 
 pub returns-then-is_err : goal.returns-then-is_err
 returns-then-is_err g c =
