@@ -7,7 +7,7 @@ use mrt_graph::NoMemory;
 use parts_of_tests::{File, LsaTold, NO_BYTES, TRIANGLE_CERTIFICATE};
 use std::alloc::Global;
 
-/// One of the records of the triangle, or of two more of router 1.
+/// One of the records: the triangle's, and two more of router 1.
 fn record(place: usize) -> LsaTold<'static> {
     match place {
         0 => FIRST,
