@@ -41,7 +41,7 @@ loop-event-preserved c =
     slice_get_read c.loop-event.known.items (length c.args.area.now.ids) c.get-place.result _ (sym c.loop-event.invariant.one_each) (omega (arith, within, at)) c.index.ensures
     ∙ ap (λ (b : Bool). Some b) c.if-index.false in
     record {
-      one_each = length-set c.loop-event.known.items c.get-place.result true ∙ c.loop-event.invariant.one_each;
+      one_each = length-set _ _ _ ∙ c.loop-event.invariant.one_each;
       gathered = new_more c.args.area.now c.as_slice-events.result.now _ c.loop-event.event-index c.loop-event-test.true c.loop-event.spots.items
           c.loop-event.known.items c.loop-event.invariant.gathered c.destination.result c.destination.ensures.enters c.in-Some.spot c.get-place.result
           c.push.new.self.items c.in-Some.is unknown at c.in_ok-push.ensures.items;
