@@ -1,7 +1,6 @@
 //! The texts of answers.
 
 ghost use Rattle.std.specs.Prelude.{◌≡◌, ◌≤◌, ◌+◌, ◌++◌, [], IfOk, OnErr, Some, Ok, length};
-ghost use Rattle.arrayvec.specs.ArrayVec.{array_vec_len};
 ghost use Rattle.std.specs.Option.{option_map};
 ghost use Rattle.fabric.specs.OutcomeText.{IsTellable, answer_line, answer_text, color_text, loss_text, outcome_text, refused_text};
 ghost use Rattle.mrt_graph.specs.Spelling.{node_text};
@@ -9,9 +8,8 @@ ghost use Rattle.mrt_graph.specs.Spelling.{node_text};
 use crate::event::{Outcome, Refused};
 use crate::packet::Loss;
 use area_graph::Area;
-use arrayvec::ArrayVec;
 use itoa::Buffer;
-use mrt_graph::{Color, NoMemory, NodeId, push_node_text};
+use mrt_graph::{Color, NoMemory, NodeId, ShortText, push_node_text};
 use std::alloc::Global;
 use text_parts::put;
 
@@ -40,19 +38,19 @@ pub fn push_answer_line(
         (answer_line area.now.ids answer) ≡ Some text.new.items) }
     ensures err { OnErr result (text.new.items ≡ text.old.items) }
 {
-    let mut line = ArrayVec::new();
+    let mut line = ShortText::new();
     put_answer(&mut line, area, answer);
     line.push(b'\n');
-    text.extend_from_slice(line.as_slice())?;
+    text.extend_from_slice(line.bytes())?;
     Ok(())
 }
 
 /// Puts an answer into an empty line.
-fn put_answer(line: &mut ArrayVec<u8, 32>, area: &Area, answer: Result<Outcome, Refused>)
+fn put_answer(line: &mut ShortText<32>, area: &Area, answer: Result<Outcome, Refused>)
     requires told { IsTellable area.now.ids answer }
-    requires empty { line.old.items ≡ [] }
-    ensures value { answer_text area.now.ids answer ≡ Some line.new.items }
-    ensures short { array_vec_len line.new ≤ 29 }
+    requires empty { line.old ≡ [] }
+    ensures value { answer_text area.now.ids answer ≡ Some line.new }
+    ensures short { length line.new ≤ 29 }
 {
     match answer {
         Ok(outcome) => put_outcome(line, area, outcome),
@@ -61,11 +59,11 @@ fn put_answer(line: &mut ArrayVec<u8, 32>, area: &Area, answer: Result<Outcome, 
 }
 
 /// Puts an outcome into an empty line.
-fn put_outcome(line: &mut ArrayVec<u8, 32>, area: &Area, outcome: Outcome)
+fn put_outcome(line: &mut ShortText<32>, area: &Area, outcome: Outcome)
     requires told { IsTellable area.now.ids (Ok outcome) }
-    requires empty { line.old.items ≡ [] }
-    ensures value { outcome_text area.now.ids outcome ≡ Some line.new.items }
-    ensures short { array_vec_len line.new ≤ 29 }
+    requires empty { line.old ≡ [] }
+    ensures value { outcome_text area.now.ids outcome ≡ Some line.new }
+    ensures short { length line.new ≤ 29 }
 {
     match outcome {
         Outcome::Entered(number) => {
@@ -84,22 +82,22 @@ fn put_outcome(line: &mut ArrayVec<u8, 32>, area: &Area, outcome: Outcome)
 }
 
 /// Puts two parts into an empty line.
-fn put_words(line: &mut ArrayVec<u8, 32>, first: &[u8], second: &[u8])
-    requires empty { line.old.items ≡ [] }
+fn put_words(line: &mut ShortText<32>, first: &[u8], second: &[u8])
+    requires empty { line.old ≡ [] }
     requires room { length first.now + length second.now ≤ 29 }
-    ensures value { line.new.items ≡ first.now ++ second.now }
-    ensures short { array_vec_len line.new ≤ 29 }
+    ensures value { line.new ≡ first.now ++ second.now }
+    ensures short { length line.new ≤ 29 }
 {
     put(line, first);
     put(line, second);
 }
 
 /// Puts a word and a node's name into an empty line.
-fn put_node(line: &mut ArrayVec<u8, 32>, word: &[u8], id: NodeId)
-    requires empty { line.old.items ≡ [] }
+fn put_node(line: &mut ShortText<32>, word: &[u8], id: NodeId)
+    requires empty { line.old ≡ [] }
     requires room { length word.now ≤ 10 }
-    ensures value { line.new.items ≡ word.now ++ node_text id }
-    ensures short { array_vec_len line.new ≤ 29 }
+    ensures value { line.new ≡ word.now ++ node_text id }
+    ensures short { length line.new ≤ 29 }
 {
     put(line, word);
     push_node_text(line, id);

@@ -1,9 +1,8 @@
 ghost use Rattle.std.specs.Prelude.{◌≡◌, ◌<◌, ◌≤◌, ◌+◌, ◌/◌, ◌%◌, ◌++◌, ◌∷◌, [], codes, length, decimal};
-ghost use Rattle.arrayvec.specs.ArrayVec.{array_vec_len};
 ghost use Rattle.mrt_graph.specs.Spelling.{address_text, node_text};
 
 use crate::node_id::{Kind, NodeId};
-use arrayvec::ArrayVec;
+use crate::short_text::ShortText;
 use std::marker::Model;
 
 /// A node's name as texts show it: `1.1.1.1` for a router, `net:10.0.0.4` for a network.
@@ -11,7 +10,7 @@ use std::marker::Model;
 /// It holds at most 19 bytes and takes no memory.
 #[derive(Drop)]
 pub struct NodeText {
-    text: ArrayVec<u8, 19>,
+    text: ShortText<19>,
 }
 
 impl Model for NodeText {
@@ -19,7 +18,7 @@ impl Model for NodeText {
 
     ghost Value = { List ℕ };
 
-    ghost view = { λ node. node.text.items };
+    ghost view = { λ node. node.text };
 }
 
 impl NodeText {
@@ -29,7 +28,7 @@ impl NodeText {
     pub fn new(id: NodeId) -> NodeText
         ensures { result ≡ node_text id }
     {
-        let mut text = ArrayVec::new();
+        let mut text = ShortText::new();
         push_node_text(&mut text, id);
         NodeText { text }
     }
@@ -39,42 +38,30 @@ impl NodeText {
         ensures value { result.now ≡ self.now }
         ensures short { length result.now ≤ 19 }
     {
-        self.text.as_slice()
+        self.text.bytes()
     }
 }
 
 /// Puts a node's name after the text, in which there is room for it. It takes no memory.
-pub fn push_node_text<const N: usize>(text: &mut ArrayVec<u8, N>, id: NodeId)
-    requires { array_vec_len text.old + 19 ≤ N }
-    ensures value { text.new.items ≡ text.old.items ++ node_text id }
-    ensures short { array_vec_len text.new ≤ array_vec_len text.old + 19 }
+pub fn push_node_text<const N: usize>(text: &mut ShortText<N>, id: NodeId)
+    requires { length text.old + 19 ≤ N }
+    ensures value { text.new ≡ text.old ++ node_text id }
+    ensures short { length text.new ≤ length text.old + 19 }
 {
     match id.kind {
         Kind::Router => push_address(text, id.number),
         Kind::Network => {
-            push_net(text);
+            text.put(b"net:");
             push_address(text, id.number);
         }
     }
 }
 
-/// Puts what stands before a network's address.
-fn push_net<const N: usize>(text: &mut ArrayVec<u8, N>)
-    requires { array_vec_len text.old + 4 ≤ N }
-    ensures value { text.new.items ≡ text.old.items ++ codes "net:" }
-    ensures len { array_vec_len text.new ≡ array_vec_len text.old + 4 }
-{
-    text.push(b'n');
-    text.push(b'e');
-    text.push(b't');
-    text.push(b':');
-}
-
 /// Puts an address after the text.
-fn push_address<const N: usize>(text: &mut ArrayVec<u8, N>, number: u32)
-    requires { array_vec_len text.old + 15 ≤ N }
-    ensures value { text.new.items ≡ text.old.items ++ address_text number }
-    ensures short { array_vec_len text.new ≤ array_vec_len text.old + 15 }
+fn push_address<const N: usize>(text: &mut ShortText<N>, number: u32)
+    requires { length text.old + 15 ≤ N }
+    ensures value { text.new ≡ text.old ++ address_text number }
+    ensures short { length text.new ≤ length text.old + 15 }
 {
     let [a, b, c, d] = number.to_be_bytes();
     push_decimal(text, a);
@@ -87,10 +74,10 @@ fn push_address<const N: usize>(text: &mut ArrayVec<u8, N>, number: u32)
 }
 
 /// Puts a byte's number after the text.
-fn push_decimal<const N: usize>(text: &mut ArrayVec<u8, N>, number: u8)
-    requires { array_vec_len text.old + 3 ≤ N }
-    ensures value { text.new.items ≡ text.old.items ++ decimal number }
-    ensures short { array_vec_len text.new ≤ array_vec_len text.old + 3 }
+fn push_decimal<const N: usize>(text: &mut ShortText<N>, number: u8)
+    requires { length text.old + 3 ≤ N }
+    ensures value { text.new ≡ text.old ++ decimal number }
+    ensures short { length text.new ≤ length text.old + 3 }
 {
     if number >= 100 {
         text.push(digit(number / 100));
@@ -103,11 +90,11 @@ fn push_decimal<const N: usize>(text: &mut ArrayVec<u8, N>, number: u8)
 }
 
 /// Puts two digits after the text.
-fn push_pair<const N: usize>(text: &mut ArrayVec<u8, N>, number: u8)
-    requires room { array_vec_len text.old + 2 ≤ N }
+fn push_pair<const N: usize>(text: &mut ShortText<N>, number: u8)
+    requires room { length text.old + 2 ≤ N }
     requires two { number < 100 }
-    ensures value { text.new.items ≡ text.old.items ++ (48 + number / 10) ∷ (48 + number % 10) ∷ [] }
-    ensures len { array_vec_len text.new ≡ array_vec_len text.old + 2 }
+    ensures value { text.new ≡ text.old ++ (48 + number / 10) ∷ (48 + number % 10) ∷ [] }
+    ensures len { length text.new ≡ length text.old + 2 }
 {
     text.push(digit(number / 10));
     text.push(digit(number % 10));

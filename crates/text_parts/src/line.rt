@@ -1,49 +1,47 @@
 //! Parts of a line in a fixed array, which takes no memory: each put at the end of a line that has room for it.
 
 ghost use Rattle.std.specs.Prelude.{◌≡◌, ◌≤◌, ◌+◌, ◌++◌, decimal, length};
-ghost use Rattle.arrayvec.specs.ArrayVec.{array_vec_len};
 ghost use Rattle.mrt_graph.specs.Spelling.{address_text};
 
-use arrayvec::ArrayVec;
 use itoa::Buffer;
-use mrt_graph::{Kind, NodeId, push_node_text};
+use mrt_graph::{Kind, NodeId, ShortText, push_node_text};
 
 /// A line of at most 512 bytes.
-pub type Line = ArrayVec<u8, 512>;
+pub type Line = ShortText<512>;
 
 /// A line that begins so.
-pub fn line_of<const N: usize>(part: &[u8]) -> ArrayVec<u8, N>
+pub fn line_of<const N: usize>(part: &[u8]) -> ShortText<N>
     requires { length part.now ≤ N }
-    ensures { result.items ≡ part.now }
+    ensures { result ≡ part.now }
 {
-    let mut line = ArrayVec::new();
+    let mut line = ShortText::new();
     put(&mut line, part);
     line
 }
 
 /// Puts bytes at the end of a line.
-pub fn put<const N: usize>(line: &mut ArrayVec<u8, N>, part: &[u8])
-    requires { array_vec_len line.old + length part.now ≤ N }
-    ensures added { line.new.items ≡ line.old.items ++ part.now }
-    ensures count { array_vec_len line.new ≡ array_vec_len line.old + length part.now }
+pub fn put<const N: usize>(line: &mut ShortText<N>, part: &[u8])
+    requires { length line.old + length part.now ≤ N }
+    ensures added { line.new ≡ line.old ++ part.now }
+    ensures count { length line.new ≡ length line.old + length part.now }
 {
-    line.try_extend_from_slice(part).unwrap();
+    line.put(part);
 }
 
 /// Puts a number at the end of a line that has room for 40 bytes, in decimal.
-pub fn put_number<const N: usize>(line: &mut ArrayVec<u8, N>, number: u64)
-    requires { array_vec_len line.old + 40 ≤ N }
-    ensures added { line.new.items ≡ line.old.items ++ decimal number }
-    ensures count { array_vec_len line.new ≤ array_vec_len line.old + 40 }
+pub fn put_number<const N: usize>(line: &mut ShortText<N>, number: u64)
+    requires { length line.old + 40 ≤ N }
+    ensures added { line.new ≡ line.old ++ decimal number }
+    ensures count { length line.new ≤ length line.old + 40 }
 {
     put(line, Buffer::new().format(number).as_bytes());
 }
 
 /// Puts an address at the end of a line that has room for 19 bytes.
-pub fn put_address<const N: usize>(line: &mut ArrayVec<u8, N>, number: u32)
-    requires { array_vec_len line.old + 19 ≤ N }
-    ensures added { line.new.items ≡ line.old.items ++ address_text number }
-    ensures count { array_vec_len line.new ≤ array_vec_len line.old + 19 }
+pub fn put_address<const N: usize>(line: &mut ShortText<N>, number: u32)
+    requires { length line.old + 19 ≤ N }
+    ensures added { line.new ≡ line.old ++ address_text number }
+    ensures count { length line.new ≤ length line.old + 19 }
 {
     push_node_text(
         line,

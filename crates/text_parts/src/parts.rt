@@ -4,9 +4,8 @@ ghost use Rattle.std.specs.Prelude.{◌≡◌, ◌≤◌, ◌+◌, ◌++◌, IfO
 ghost use Rattle.mrt_graph.specs.Spelling.{node_text};
 ghost use Rattle.text_parts.specs.Hops.{hop_text};
 
-use arrayvec::ArrayVec;
 use itoa::Buffer;
-use mrt_graph::{Kind, NoMemory, NodeId, NodeText, push_node_text};
+use mrt_graph::{Kind, NoMemory, NodeId, NodeText, ShortText, push_node_text};
 
 /// Puts bytes at the end of a text.
 ///
@@ -55,7 +54,7 @@ pub fn push_hop(text: &mut Vec<u8>, far: NodeId, link_data: u32) -> Result<(), N
     ensures added { IfOk result (λ _. text.new.items ≡ text.old.items ++ hop_text far link_data) }
     ensures err { OnErr result (text.new.items ≡ text.old.items) }
 {
-    let mut hop: ArrayVec<u8, 39> = ArrayVec::new();
+    let mut hop: ShortText<39> = ShortText::new();
     push_node_text(&mut hop, far);
     hop.push(b'/');
     push_node_text(
@@ -65,7 +64,7 @@ pub fn push_hop(text: &mut Vec<u8>, far: NodeId, link_data: u32) -> Result<(), N
             number: link_data,
         },
     );
-    push(text, hop.as_slice())
+    push(text, hop.bytes())
 }
 
 /// Puts bytes at the end of a text, in which there is room for them.
