@@ -153,15 +153,18 @@ class Names(unittest.TestCase):
         self.assertGreater(len(laws), 10)
         self.assertEqual([law for law in laws if not self.stands(law)], [])
 
-    def test_wrong_lines_to_try_are_edits_of_the_gate(self) -> None:
+    def test_wrong_lines_to_try_are_edits(self) -> None:
         section = read("docs/AUDIT.md").split("\n## Five things to try\n")[1]
         items = re.split(r"^\d\. ", section.split("\nTo check one function")[0], flags=re.MULTILINE)[1:]
         self.assertEqual(len(items), 5)
         for item in items:
             file, *spans = re.findall(r"`([^`]{13,})`", item)
             crate, _, place = file.removeprefix("crates/").partition("/")
-            folder = os.path.join(ROOT, "crates", crate, "must-fail")
-            edits = [read(os.path.join(folder, name)) for name in os.listdir(folder)]
+            edits = [
+                read(it)
+                for part in (f"crates/{crate}/must-fail/*", f"edits/{crate}/*")
+                for it in glob.glob(part, root_dir=ROOT)
+            ]
             said = [
                 edit
                 for edit in edits
