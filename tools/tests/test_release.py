@@ -3,6 +3,7 @@ from __future__ import annotations
 
 import hashlib
 import os
+import re
 import shutil
 import subprocess
 import tempfile
@@ -28,17 +29,36 @@ FILES = {
     "crates.txt": "# the crates\nlow: arrayvec\nmrt: low\nlow_tests: low\n",
     "crates/low/src/lib.rt": "low\n",
     "crates/low/proofs/Lib.antt": "proof\n",
+    "crates/low/must-fail/one.edit": "file: src/lib.rt\nold: low\nnew: high\n",
+    "edits/low/two.edit": "file: src/lib.rt\nold: low\nnew: lower\n",
+    "edits/mrt/three.edit": "file: src/main.rt\nold: main\nnew: other\n",
     "crates/mrt/src/main.rt": "main\n",
     "crates/low_tests/src/lib.rt": "tests\n",
     ".gitignore": "out/\n__pycache__/\n",
 }
 
-# A toolchain that proves all and builds a program, which is a true one, since a package is made of it. Asked for one crate it builds none.
+# A toolchain that proves all and builds a program, which is a true one, since a package is made of it. It refuses all edits but those with the word weak.
 RT = """#!/bin/sh
-[ "$1" = ci ] || { echo "test-kit logic 0"; exit; }
-[ -z "$2" ] || exit 0
-mkdir -p crates/mrt/out && cp /bin/echo crates/mrt/out/mrt && echo built >>"$BUILT" && echo "rt: low proved"
-echo "5 passed, 0 failed"
+tried() {
+    if grep -q weak "$2"; then echo "rt: must-fail $1/${2##*/}: NOT REFUSED: so"; return; fi
+    echo "rt: must-fail $1/${2##*/}: refused, as it must be: src/lib.rt:1:1: error: so"
+}
+case $1 in
+ci)
+    mkdir -p crates/mrt/out && cp /bin/echo crates/mrt/out/mrt && echo built >>"$BUILT" && echo "rt: low proved"
+    echo "5 passed, 0 failed"
+    ;;
+lib)
+    ! grep -q wrong src/*.rt || exit 1
+    [ -f out/rlib/stamp ] || echo "${PWD##*/}" >>"$BUILT.libraries"
+    mkdir -p out/rlib && touch out/rlib/stamp
+    ;;
+must-fail)
+    [ "$2" = low ] || [ -f crates/low/out/rlib/stamp ] || exit 1
+    for edit in "crates/$2/must-fail"/*.edit; do tried "$2" "$edit"; done
+    ;;
+*) echo "test-kit logic 0" ;;
+esac
 """
 # The tests of the tools.
 TEST = """#!/bin/sh
@@ -184,11 +204,107 @@ class Building(Checkout):
         self.assertEqual((done.returncode, done.stdout), (70, ""))
         self.assertIn("the build failed", done.stderr)
 
+    def test_what_the_kit_keeps_is_said(self) -> None:
+        for kit, said in (("13b", "begins again"), ("13f", "goes on where it was"), ("14", "")):
+            write(self.path("bin", "rt"), RT.replace("test-kit", f"rattle-kit-{kit}"), 0o755)
+            write(self.at("crates/mrt/src/main.rt"), kit)
+            lines = [it for it in self.run_in(self.folder, "./mrt").stderr.splitlines() if " this kit keeps " in it]
+            self.assertEqual(len(lines), 1 if said else 0)
+            self.assertIn(said, "".join(lines))
+
     def test_version(self) -> None:
         self.assertRegex(self.said("./mrt", "--version"), r"^Semborui \d+\.\d\S*\nnot built\n$")
         self.said("./mrt")
         version = r"^Semborui \d+\.\d\S*\ncommit not known\nkit test-kit logic 0\nproved here\n$"
         self.assertRegex(self.said("./mrt", "--version"), version)
+
+
+class Deep(Checkout):
+    """Which edits tools/deep tries, what it says of them, and what it keeps."""
+
+    def tried(self, *names: str) -> tuple[int, list[str], str]:
+        """The status of a run, its lines without seconds and minutes, and what it says beside them."""
+        done = self.run_in(self.folder, "tools/deep", *names)
+        lines = [re.sub(r", \d+ s$", "", it) for it in done.stdout.splitlines() if "on the clock" not in it]
+        return done.returncode, lines, done.stderr
+
+    def last(self, text: str) -> str:
+        return f"deep: {text}; commit not known; kit test-kit logic 0"
+
+    def kept(self) -> list[str]:
+        if not os.path.exists(self.at("out/deep")):
+            return []
+        with open(self.at("out/deep"), encoding="utf-8") as file:
+            return file.read().splitlines()
+
+    def proved(self) -> list[str]:
+        """The libraries that were built."""
+        if not os.path.exists(self.path("built.libraries")):
+            return []
+        with open(self.path("built.libraries"), encoding="utf-8") as file:
+            return file.read().split()
+
+    def test_all(self) -> None:
+        status, lines, said = self.tried()
+        counted = "2 crates, 3 edits refused, 0 not refused"
+        self.assertEqual((status, lines[-1]), (0, self.last(counted)), said)
+        self.assertEqual(sorted(lines[:-1]), ["low: 2 edits refused", "mrt: 1 edits refused"])
+        self.assertEqual(self.proved(), ["low"])
+        sources = self.said("tools/deep", "--sources").strip()
+        self.assertEqual(
+            self.kept(),
+            ["commit not known", "kit test-kit logic 0", f"sources {sources}", f"gate tools/deep: {counted}"],
+        )
+        self.assertEqual(sorted(os.listdir(self.at("crates/mrt"))), ["data", "src"])
+
+    def test_some(self) -> None:
+        self.assertEqual(
+            self.tried("low")[:2],
+            (0, ["low: 2 edits refused", self.last("1 crates, 2 edits refused, 0 not refused")]),
+        )
+        self.assertEqual((self.proved(), self.kept()), ([], []))
+        status, lines, said = self.tried("low_tests")
+        self.assertEqual((status, lines), (2, []))
+        self.assertIn("no edits of a crate low_tests", said)
+
+    def test_a_library_that_stands_is_taken(self) -> None:
+        write(self.at("crates/low/out/rlib/stamp"), "")
+        self.assertEqual(self.tried("mrt")[0], 0)
+        self.assertEqual(self.proved(), [])
+        self.assertEqual(os.listdir(self.at("crates/low/out")), ["rlib"])
+
+    def test_an_edit_that_is_not_refused(self) -> None:
+        self.tried()
+        write(self.at("edits/low/two.edit"), "weak\n")
+        status, lines, _ = self.tried()
+        self.assertEqual(
+            (status, lines[-2:]),
+            (1, ["not refused: low/two.edit", self.last("2 crates, 2 edits refused, 1 not refused")]),
+        )
+        self.assertIn("low: 1 edits refused, 1 NOT REFUSED", lines)
+        self.assertIn("    low/two.edit: NOT REFUSED: so", lines)
+        self.assertEqual(self.kept(), [])
+
+    def test_a_library_that_is_not_proved(self) -> None:
+        write(self.at("crates/low/src/lib.rt"), "wrong\n")
+        status, lines, said = self.tried()
+        self.assertEqual((status, lines[-1]), (1, self.last("2 crates, 2 edits refused, 1 not refused")))
+        self.assertIn("not refused: mrt/three.edit", lines)
+        self.assertIn("deep: low is NOT PROVED\n", said)
+
+    def test_its_sources_are_all_that_it_tries(self) -> None:
+        known = {self.said("tools/deep", "--sources")}
+        for name in (
+            "crates/low/proofs/Lib.antt",
+            "crates/low_tests/src/lib.rt",
+            "edits/mrt/three.edit",
+            "edits/mrt/new.edit",
+        ):
+            write(self.at(name), "changed\n")
+            self.assertNotIn(self.said("tools/deep", "--sources"), known)
+            known.add(self.said("tools/deep", "--sources"))
+        write(self.at("README.md"), "changed\n")
+        self.assertIn(self.said("tools/deep", "--sources"), known)
 
 
 class Installing(Checkout):
@@ -228,7 +344,12 @@ class Installing(Checkout):
         done = self.run_in(self.top, self.path("usr/bin", words[0]), *given)
         self.assertEqual((done.returncode, done.stderr), (8, "agent: /nonexistent: there is no such program\n"))
         rights = "CAP_NET_ADMIN CAP_NET_RAW"
-        for line in ("NoNewPrivileges=yes", f"CapabilityBoundingSet={rights}", f"AmbientCapabilities={rights}", "User=%i"):
+        for line in (
+            "NoNewPrivileges=yes",
+            f"CapabilityBoundingSet={rights}",
+            f"AmbientCapabilities={rights}",
+            "User=%i",
+        ):
             self.assertIn(line, lines)
         if shutil.which("systemd-analyze"):
             unit = self.path("mrt-agent@frr.service")
@@ -275,10 +396,33 @@ class Releasing(Checkout):
         write(self.at("crates/low/src/lib.rt"), "changed\n")
         self.assertIn("not committed", self.refused())
         self.commit()
+        self.said("tools/deep")
         self.assertIn("not built from the sources", self.refused())
         write(self.at("crates/low/src/lib.rt"), FILES["crates/low/src/lib.rt"])
         self.commit()
         self.assertIn("was built from commit", self.refused())
+
+    def test_refused_without_the_other_edits(self) -> None:
+        self.said(".ci/run")
+        self.assertIn("no whole run of tools/deep", self.refused())
+        self.said("tools/deep", "low")
+        self.assertIn("no whole run of tools/deep", self.refused())
+        self.said("tools/deep")
+        write(self.at("README.md"), "changed\n")
+        self.commit()
+        self.said(".ci/run")
+        self.assertIn("tools/deep passed on commit", self.refused())
+        write(self.at("edits/mrt/new.edit"), FILES["edits/mrt/three.edit"])
+        self.said("tools/deep")
+        self.assertIn("not on the sources", self.refused())
+        os.remove(self.at("edits/mrt/new.edit"))
+        write(self.path("bin", "rt"), RT.replace("test-kit", "other-kit"), 0o755)
+        self.said("tools/deep")
+        self.assertIn("tools/deep passed with other-kit logic 0, and the gate with test-kit", self.refused())
+        write(self.at("edits/mrt/three.edit"), "weak\n")
+        self.commit()
+        self.assertEqual(self.run_in(self.folder, "tools/deep").returncode, 1)
+        self.assertIn("tools/deep has not passed", self.refused("--gate"))
 
     def test_refused_where_the_gate_failed(self) -> None:
         self.said(".ci/run")
@@ -306,6 +450,7 @@ class Releasing(Checkout):
 
     def test_twice_the_same_bytes(self) -> None:
         self.said(".ci/run")
+        self.said("tools/deep")
         sums = self.release("one")
         self.assertEqual(self.release("two"), sums)
         archive, package = (self.path("one", name) for name in sums)
@@ -325,6 +470,7 @@ class Releasing(Checkout):
             f"sha256 of the program {summed(os.path.join(folder, 'crates/mrt/out/mrt'))}",
             "    rt ci: 5 passed, 0 failed",
             "    tools/test: Ran 7 tests, OK",
+            "    tools/deep: 2 crates, 3 edits refused, 0 not refused",
         ):
             self.assertIn(f"\n{line}\n", proved)
         self.assertEqual(self.said("./mrt", "a", folder=folder), "a\n")
