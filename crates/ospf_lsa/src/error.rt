@@ -7,7 +7,7 @@ use std::alloc::{AllocError, AllocFailed};
 use thiserror::Error;
 
 /// What is wrong with a record. Of several faults of a record the first one in this order is told.
-#[derive(Clone, Copy, Debug, PartialEq, Eq)]
+#[derive(Clone, Copy, Debug)]
 pub enum LsaKind {
     /// Fewer than 20 bytes are left, or fewer than its length field says.
     Truncated,
@@ -27,7 +27,7 @@ pub enum LsaKind {
 }
 
 /// Why a database was not read.
-#[derive(Clone, Copy, Debug, PartialEq, Eq, Error)]
+#[derive(Clone, Copy, Debug, Error)]
 pub enum LsaError {
     /// The first record with a fault begins at byte `at`, from 0.
     #[error("{kind:?} at {at}")]
