@@ -1,7 +1,7 @@
 //! What an installed LSA changes.
 
 /// What installing an LSA changed.
-#[derive(Clone, Copy, Debug, PartialEq, Eq)]
+#[derive(Clone, Copy)]
 pub enum Change {
     /// Its key was not there.
     Added,
@@ -16,7 +16,7 @@ pub enum Change {
 }
 
 /// Two newest instances of one key that differ in more than their places and ages.
-#[derive(Clone, Copy, Debug, PartialEq, Eq)]
+#[derive(Clone, Copy, Debug)]
 pub struct Conflict {
     /// The place of the key's first newest instance.
     pub first: u32,

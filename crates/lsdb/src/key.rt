@@ -6,7 +6,7 @@ ghost use Rattle.lsdb.specs.Keys.{key_of};
 use ospf_lsa::Lsa;
 
 /// The key of an LSA: its LS type, link state ID and advertising router.
-#[derive(Clone, Copy, Default, PartialEq, Eq, Hash)]
+#[derive(Clone, Copy, PartialEq, Eq, Hash)]
 pub struct Key {
     pub kind: u8,
     pub id: u32,
