@@ -28,7 +28,7 @@ use mrt_graph::NoMemory;
 use std::alloc::{AllocError, AllocFailed, Global};
 
 /// Why a read gave no bytes: the shelf failed, the file has more bytes than the limit, or there was no memory.
-#[derive(Clone, Copy, Debug, PartialEq, Eq)]
+#[derive(Clone, Copy)]
 pub enum ShelfError {
     Failed,
     TooLong,
@@ -36,22 +36,22 @@ pub enum ShelfError {
 }
 
 /// Why a name is not open: the shelf failed, or there was no memory.
-#[derive(Clone, Copy, Debug, PartialEq, Eq)]
+#[derive(Clone, Copy)]
 pub enum OpenError {
     Failed,
     NoMemory,
 }
 
 /// The error of a shelf that could not read on in what was open.
-#[derive(Clone, Copy, Debug, PartialEq, Eq)]
+#[derive(Clone, Copy)]
 pub struct ShelfFailed;
 
 /// The error of a sink that took nothing.
-#[derive(Clone, Copy, Debug, PartialEq, Eq)]
+#[derive(Clone, Copy)]
 pub struct PutFailed;
 
 /// The error of [`put_all`](crate::put_all): how many bytes the sink had taken when it failed.
-#[derive(Clone, Copy, Debug, PartialEq, Eq)]
+#[derive(Clone, Copy)]
 pub enum PutError {
     Failed { taken: u64 },
 }
