@@ -4,14 +4,14 @@ use crate::entry::Entry;
 use mrt_graph::NodeId;
 
 /// What has failed, by name: a node, or the link of a router with this link data.
-#[derive(Clone, Copy, PartialEq, Eq)]
+#[derive(Clone, Copy)]
 pub enum FailureName {
     Node(NodeId),
     Link { router: u32, link_data: u32 },
 }
 
 /// An event, by names.
-#[derive(Clone, Copy, PartialEq, Eq)]
+#[derive(Clone, Copy)]
 pub enum ScriptEvent {
     /// A packet enters at a router, for a node.
     Inject {

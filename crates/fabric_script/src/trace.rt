@@ -5,7 +5,7 @@ use crate::event::FailureName;
 use mrt_graph::NodeId;
 
 /// From which router to which node a packet is to go, how it enters, and what has failed before, if anything has.
-#[derive(Clone, Copy, PartialEq, Eq)]
+#[derive(Clone, Copy)]
 pub struct Trace {
     pub from: u32,
     pub to: NodeId,
