@@ -1,11 +1,13 @@
 #!/usr/bin/env python3
-"""Runs rt ci and prints, after what rt ci prints, the processor time of each crate: its proof, its tests, its must-fail edits.
+"""Runs rt ci and prints, after what rt ci prints, the processor minutes of each crate: its proof, its tests, the program that is built of it, the
+ground of its must-fail edits, and these; then the machine.
 
     bench/measure/gate.py [--to FILE] [--anew] [NAME..]     at the top of the repository; the words after FILE are those of rt ci
 
 The status is that of rt ci. Processor time is user and system time of each process that rt starts, as the kernel gives it when the process ends.
 FILE gets a line for each of them, with tabs between: crate, what was done, seconds of the processor, seconds on the clock, MB at most, and when it began.
-What rt ci takes from an earlier run on this machine has no time: --anew leaves nothing out. (Kit 13b keeps nothing, and its rt ci knows no words.)"""
+What rt ci takes from an earlier run on this machine has no time: --anew leaves nothing out. (Kit 13b keeps nothing, and its rt ci knows no words.)
+The ground is the check of a crate from nothing that stands before its edits where it has two or more, and the one after them."""
 import collections
 import glob
 import os
@@ -18,7 +20,11 @@ import sys
 import threading
 import time
 
-COLUMNS = ("proof", "tests", "ground", "edits", "other")
+COLUMNS = ("proof", "tests", "program", "ground", "edits")
+# Two crates to know a machine by: the minutes of their proofs, and in all with five and six edits, on README's processors on 30 November 2026.
+KNOWN = {"lsdb": (1.9, 5.5), "fabric": (2.6, 6.9)}
+# What a crate may cost, in minutes (CONTRIBUTING.md).
+MOST = 5
 done, lock, begun = [], threading.Lock(), time.monotonic()
 tried = collections.Counter()
 
@@ -27,13 +33,13 @@ def what_of(words, folder):
     """Returns the crate and the kind of a command of rattle, and the name of the edit where it tries one."""
     words = [it.decode() if isinstance(it, bytes) else str(it) for it in words]
     if "--crate-name" not in words:
+        # rattle-link, in the crate's folder, or a question to rattle, which takes no time
         made = words[words.index("-o") + 1] if "-o" in words else ""
         tests = re.fullmatch(r"out/(\w+)_tests(\.\S+)?", made)
-        # rattle-link, in the crate's folder
-        return os.path.basename(str(folder or "")), "tests" if tests else "other", ""
+        return os.path.basename(str(folder or "")) if made else "", "tests" if tests else "program", ""
     crate = words[words.index("--crate-name") + 1]
     if not os.path.basename(str(folder or "")).startswith("rt-edit-"):
-        return crate, "tests" if "--test" in words else "proof", ""
+        return crate, "tests" if "--test" in words else "program" if "--crate-checked" in words else "proof", ""
     kept = os.path.basename(words[words.index("--incremental") + 1]) if "--incremental" in words else ""
     names = sorted(glob.glob(f"crates/{crate}/must-fail/*.edit", root_dir=TOP))
     if kept.startswith("rt-edits-"):
@@ -44,6 +50,8 @@ def what_of(words, folder):
             return crate, "ground", os.path.basename(names[0])[:-5] if number == 0 else ""
     elif kept == "seed":
         return crate, "ground", ""
+    elif len(names) == 1:
+        number = 0
     else:
         number = int(kept) if kept.isdigit() else len(names)
     return crate, "edits", os.path.basename(names[number])[:-5] if number < len(names) else "from nothing"
@@ -84,17 +92,33 @@ def table():
     """Prints the minutes of each crate, the most expensive first, and the sum."""
     of = collections.defaultdict(lambda: collections.Counter())
     for crate, kind, _, used, *_ in done:
-        of[crate][kind] += used / 60
+        if crate:
+            of[crate][kind] += used / 60
     print(f"\n{'processor minutes':<20}" + "".join(f"{it:>8}" for it in COLUMNS) + f"{'in all':>8}")
     rows = sorted(of.items(), key=lambda it: -sum(it[1].values()))
     for name, row in [*rows, ("in all", sum((it for _, it in rows), collections.Counter()))]:
         print(f"{name:<20}" + "".join(f"{row[it]:8.1f}" for it in COLUMNS) + f"{sum(row.values()):8.1f}")
+    over = [name for name, row in rows if sum(row.values()) > MOST]
+    print(f"over {MOST}: {', '.join(over) or 'none'}")
     own, below = resource.getrusage(resource.RUSAGE_SELF), resource.getrusage(resource.RUSAGE_CHILDREN)
     whole = sum(it.ru_utime + it.ru_stime for it in (own, below)) / 60
     most = max((it[5] for it in done), default=0)
     print(
         f"{whole:.1f} processor minutes, {(time.monotonic() - begun) / 60:.1f} on the clock; at most {most:,.0f} MB in one process"
     )
+    machine(of)
+
+
+def machine(of):
+    """Prints what ran this, and the two crates that tell how fast it is."""
+    with open("/proc/cpuinfo", encoding="utf-8") as it:
+        model = next((line.partition(": ")[2].strip() for line in it if line.startswith("model name")), "not known")
+    kit = subprocess.run(["rt", "version"], capture_output=True, text=True).stdout.strip()
+    print(f"{len(os.sched_getaffinity(0))} processors: {model}; {kit}")
+    for name, (proof, in_all) in KNOWN.items():
+        here = of[name]["proof"] if name in of else 0
+        took = f"{here:.1f} here, {here / proof:.2f} times that" if here else "none here"
+        print(f"the proof of {name}: {proof} on 30 November 2026 ({in_all} in all), {took}")
 
 
 def main():
