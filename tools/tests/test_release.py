@@ -7,6 +7,7 @@ import re
 import shutil
 import subprocess
 import tempfile
+import time
 import unittest
 
 from tests.making import TOOLS
@@ -107,9 +108,11 @@ class Checkout(unittest.TestCase):
     def at(self, name: str) -> str:
         return os.path.join(self.folder, name)
 
+    def env(self) -> dict[str, str]:
+        return {**os.environ, "PATH": f"{self.path('bin')}:{os.environ['PATH']}", "BUILT": self.path("built")}
+
     def run_in(self, folder: str, *words: str) -> subprocess.CompletedProcess[str]:
-        env = {**os.environ, "PATH": f"{self.path('bin')}:{os.environ['PATH']}", "BUILT": self.path("built")}
-        return subprocess.run(words, cwd=folder, env=env, capture_output=True, text=True, check=False)
+        return subprocess.run(words, cwd=folder, env=self.env(), capture_output=True, text=True, check=False)
 
     def said(self, *words: str, folder: str | None = None) -> str:
         """What a command prints, which has to end with status 0."""
@@ -291,6 +294,18 @@ class Deep(Checkout):
         self.assertEqual((status, lines[-1]), (1, self.last("2 crates, 2 edits refused, 1 not refused")))
         self.assertIn("not refused: mrt/three.edit", lines)
         self.assertIn("deep: low is NOT PROVED\n", said)
+
+    def test_it_leaves_nothing_where_it_is_ended(self) -> None:
+        slow = RT.replace("must-fail)\n", 'must-fail)\n    echo $$ >"$BUILT.running"; sleep 60\n')
+        write(self.path("bin", "rt"), slow, 0o755)
+        os.mkdir(self.path("tmp"))
+        env = {**self.env(), "TMPDIR": self.path("tmp")}
+        started = subprocess.Popen(["tools/deep", "low"], cwd=self.folder, env=env, stderr=subprocess.DEVNULL)
+        while not os.path.exists(self.path("built.running")):
+            time.sleep(0.05)
+        self.assertEqual(len(os.listdir(self.path("tmp"))), 1)
+        started.terminate()
+        self.assertEqual((started.wait(30), os.listdir(self.path("tmp"))), (130, []))
 
     def test_its_sources_are_all_that_it_tries(self) -> None:
         known = {self.said("tools/deep", "--sources")}
