@@ -12,7 +12,7 @@ use ospf_lsa::LsaKind;
 use text_parts::{Line, line_of, put, put_address, put_number};
 
 /// What can be too large.
-#[derive(Clone, Copy, Debug, PartialEq, Eq)]
+#[derive(Clone, Copy)]
 pub enum What {
     DatabaseFile,
     UpdatesFile,
@@ -24,7 +24,7 @@ pub enum What {
 }
 
 /// What is wrong with a database.
-#[derive(Clone, Copy, Debug, PartialEq, Eq)]
+#[derive(Clone, Copy)]
 pub enum DbKind {
     /// A record has this fault.
     Lsa(LsaKind),
@@ -33,7 +33,7 @@ pub enum DbKind {
 }
 
 /// What came of the words.
-#[derive(Clone, Copy, Debug, PartialEq, Eq)]
+#[derive(Clone, Copy)]
 pub enum Exit {
     /// The text was written whole.
     Done,

@@ -23,7 +23,7 @@ fn write_line<E: Sink>(err: &mut E, exit: Exit)
     ensures line { (exit ≡ Exit.Done → ⊥) → GainedLine (E.healthy_for err.old) (E.faults err.old) (E.faults err.new)
         (E.written err.old) (E.written err.new) (line_of exit) }
 {
-    if exit != Exit::Done {
+    if !matches!(exit, Exit::Done) {
         let _ = put_all(err, exit.line().as_slice());
     }
 }
