@@ -17,7 +17,7 @@ fn main(rt: HostRuntime) -> ExitCode {
             run(rt.alloc(), words.as_slice(), &mut shelf, &mut out, &mut err)
         }
         Err(exit) => {
-            let _ = put_all(&mut err, exit.line().as_slice());
+            let _ = put_all(&mut err, exit.line().bytes());
             exit
         }
     };

@@ -97,7 +97,7 @@ impl Exit {
     /// The line on standard error, made without memory; `Done` has none.
     #[tactic(auto, unfolding(crate::specs::Exits::usage_line))]
     pub fn line(&self) -> Line
-        ensures { result.items ≡ line_of_exit self.now }
+        ensures { result ≡ line_of_exit self.now }
     {
         match self {
             Exit::Done => line_of(b""),
@@ -150,7 +150,7 @@ fn numbered(text: &[u8], words: &[u8], before: &[u8], number: u64) -> Line
     requires text { length text.now ≤ 40 }
     requires words { length words.now ≤ 20 }
     requires before { length before.now ≤ 20 }
-    ensures { result.items ≡ text.now ++ words.now ++ before.now ++ decimal number ++ codes "\n" }
+    ensures { result ≡ text.now ++ words.now ++ before.now ++ decimal number ++ codes "\n" }
 {
     let mut line = line_of(text);
     put(&mut line, words);
@@ -161,7 +161,7 @@ fn numbered(text: &[u8], words: &[u8], before: &[u8], number: u64) -> Line
 }
 
 fn no(rule: u8, a: u16, b: u16) -> Line
-    ensures { result.items ≡ codes "mrt: no: rule " ++ decimal rule ++ codes " at " ++ decimal a ++ codes " " ++ decimal b ++ codes "\n" }
+    ensures { result ≡ codes "mrt: no: rule " ++ decimal rule ++ codes " at " ++ decimal a ++ codes " " ++ decimal b ++ codes "\n" }
 {
     let mut line = line_of(b"mrt: no: rule ");
     put_number(&mut line, u64::from(rule));
@@ -174,7 +174,7 @@ fn no(rule: u8, a: u16, b: u16) -> Line
 }
 
 fn bad_database(at: u32, kind: DbKind) -> Line
-    ensures { result.items ≡ database_line at kind }
+    ensures { result ≡ database_line at kind }
 {
     match kind {
         DbKind::Lsa(kind) => numbered(
@@ -188,7 +188,7 @@ fn bad_database(at: u32, kind: DbKind) -> Line
 }
 
 fn conflict(at: u32, first: u32) -> Line
-    ensures { result.items ≡ codes "mrt: bad database: conflict at " ++ decimal at ++ codes " with " ++ decimal first ++ codes "\n" }
+    ensures { result ≡ codes "mrt: bad database: conflict at " ++ decimal at ++ codes " with " ++ decimal first ++ codes "\n" }
 {
     let mut line = line_of(b"mrt: bad database: conflict at ");
     put_number(&mut line, u64::from(at));
@@ -199,7 +199,7 @@ fn conflict(at: u32, first: u32) -> Line
 }
 
 fn not_there(number: u32) -> Line
-    ensures { result.items ≡ codes "mrt: not there: " ++ address_text number ++ codes "\n" }
+    ensures { result ≡ codes "mrt: not there: " ++ address_text number ++ codes "\n" }
 {
     let mut line = line_of(b"mrt: not there: ");
     put_address(&mut line, number);

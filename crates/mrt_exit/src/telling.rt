@@ -24,6 +24,6 @@ fn write_line<E: Sink>(err: &mut E, exit: Exit)
         (E.written err.old) (E.written err.new) (line_of exit) }
 {
     if !matches!(exit, Exit::Done) {
-        let _ = put_all(err, exit.line().as_slice());
+        let _ = put_all(err, exit.line().bytes());
     }
 }
