@@ -63,6 +63,7 @@ pub enum Body {
 }
 
 /// A link state advertisement.
+#[derive(PartialEq, Eq)]
 pub struct Lsa {
     /// The place of its first byte in the file, from 0.
     pub at: u32,
