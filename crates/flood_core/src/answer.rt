@@ -1,7 +1,7 @@
 //! Answers to deliveries.
 
 /// What the delivery of a packet to a router came to.
-#[derive(Clone, Copy, PartialEq, Eq)]
+#[derive(Clone, Copy)]
 pub enum Answer {
     /// So many of its LSAs were new to the router. Where there were some, the packet of them that the router sends on
     /// has this number.

@@ -8,7 +8,7 @@ use std::alloc::{AllocError, AllocFailed};
 use thiserror::Error;
 
 /// What is wrong with a packet. Of several faults of a packet the first one in this order is told.
-#[derive(Clone, Copy, Debug, PartialEq, Eq)]
+#[derive(Clone, Copy, Debug)]
 pub enum UpdateKind {
     /// Fewer than 28 bytes are left, or fewer than its length field says.
     Truncated,
@@ -23,7 +23,7 @@ pub enum UpdateKind {
 }
 
 /// Why a file of packets was not read.
-#[derive(Clone, Copy, Debug, PartialEq, Eq, Error)]
+#[derive(Clone, Copy, Debug, Error)]
 pub enum UpdateError {
     /// The first faulty packet has this fault. The faulty record of an LSA's fault begins at byte `at` of the file, from
     /// 0; of any other fault the packet does.

@@ -1,6 +1,6 @@
 //! Packets whose LSAs are told by numbers.
 
-ghost use Rattle.std.specs.Prelude.{◌≡◌, ◌++◌, ◌-◌, ◌^◌, List, IfOk, OnOk, length, map, min, sum_by};
+ghost use Rattle.std.specs.Prelude.{◌≡◌, ◌++◌, ◌∷◌, ◌-◌, ◌^◌, [], List, IfOk, OnOk, length, map, min, sum_by};
 ghost use Rattle.std.specs.List.{AllByRecursion};
 ghost use Rattle.ospf_lsa.specs.declared.lsa.Lsa.{Lsa};
 ghost use Rattle.flood_core.specs.Numbers.{lsas_by, update_in, AreNumbers};
@@ -11,12 +11,22 @@ use ospf_lsa::Lsa;
 use std::alloc::Global;
 
 /// A packet whose LSAs are told by their numbers among those of the file.
-#[derive(Drop)]
 pub struct NumberedUpdate {
     pub at: u32,
     pub router: u32,
     pub area: u32,
     pub lsas: Vec<u32>,
+}
+
+impl Drop for NumberedUpdate {
+    fn drop(self) {
+        let Self {
+            at: _,
+            router: _,
+            area: _,
+            lsas: _,
+        } = self;
+    }
 }
 
 impl NumberedUpdate {
@@ -71,13 +81,8 @@ fn numbered(alloc: Global, lsas: &mut Vec<Lsa>, update: Update) -> Result<Number
     ensures packet { IfOk result (λ packet. update_in lsas.new.items packet ≡ update) }
     ensures numbers { IfOk result (λ packet. AreNumbers lsas.new.items packet.lsas.items) }
 {
-    let Update {
-        at,
-        router,
-        area,
-        lsas: own,
-    } = update;
-    let numbers = numbers_of(alloc, lsas, own.into_vec())?;
+    let (at, router, area) = (update.at, update.router, update.area);
+    let numbers = numbers_of(alloc, lsas, update.into_lsas())?;
     Ok(NumberedUpdate {
         at,
         router,
@@ -94,10 +99,19 @@ fn numbers_of(alloc: Global, lsas: &mut Vec<Lsa>, own: Vec<Lsa>) -> Result<Vec<u
 {
     let mut numbers = Vec::with_capacity(alloc, own.as_slice().len())?;
     for lsa in own {
-        numbers.push(next_number(lsas.as_slice())?)?;
-        lsas.push(lsa)?;
+        numbers.push(put(lsas, lsa)?)?;
     }
     Ok(numbers)
+}
+
+/// Puts an LSA after others, and gives its number.
+fn put(lsas: &mut Vec<Lsa>, lsa: Lsa) -> Result<u32, NoMemory>
+    ensures number { IfOk result (λ number. number ≡ length lsas.old.items) }
+    ensures lsas { OnOk result (lsas.new.items ≡ lsas.old.items ++ lsa ∷ []) }
+{
+    let number = next_number(lsas.as_slice())?;
+    lsas.push(lsa)?;
+    Ok(number)
 }
 
 /// The number of the next LSA. Where 32 bits do not tell it, there is no memory for so many LSAs.

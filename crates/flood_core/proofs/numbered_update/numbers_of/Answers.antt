@@ -1,16 +1,15 @@
-use Rattle.std.proofs.Common.{◌∙◌, ◌++◌, ◌∷◌, [], ℕ, length, ap, arith}
+use Rattle.std.proofs.Common.{◌∙◌, ◌++◌, ◌∷◌, [], ℕ, ap, arith}
 use Rattle.flood_core.proofs.Numbered.{numbered_all, one_number}
 use Rattle.flood_core.proofs.numbered_update.numbers_of.Goals as goal
 
 pub loop-lsa-preserved : goal.loop-lsa-preserved
 loop-lsa-preserved c =
-    one_number c.args.lsas.now.items c.args.own.items c.loop-lsa.lsas.items c.push-in-loop-lsa.new.self.items
+    one_number c.args.lsas.now.items c.args.own.items c.loop-lsa.lsas.items c.put.new.lsas.items
     c.loop-lsa.numbers.items c.push.new.self.items c.loop-lsa.lsa-iterator.rest.items c.next.new.self.rest.items
     c.in-Some.lsa c.in-Some.ensures.steps.0 c.loop-lsa.invariant
     (c.in_ok-push.ensures.items
-    ∙ ap (λ (n : ℕ). c.loop-lsa.numbers.items ++ n ∷ [])
-    (c.in_ok-next_number.ensures ∙ ap length c.as_slice-in-loop-lsa.ensures.value))
-    c.in_ok-push-2.ensures.items
+    ∙ ap (λ (n : ℕ). c.loop-lsa.numbers.items ++ n ∷ []) c.in_ok-put.ensures.number)
+    c.in_ok-put.ensures.lsas
 
 pub returns-clause-lsas : goal.returns-clause-lsas
 returns-clause-lsas c =
