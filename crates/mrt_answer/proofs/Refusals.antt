@@ -75,6 +75,23 @@ pub rejected : (input : Input) (file : CertFile) (graph : Topology) (root : ℕ)
 rejected input file graph root island (exits.No rule a b) said = inl (graph, root, island, said)
 rejected input file graph root island exit said = absurd said
 
+pub all_rejected : {T : Type 0} (answer : Result T Exit) (input : Input) (file : CertFile) (graph : Topology) (root : ℕ)
+    → HasIsland input file.root graph root → IfErr answer (IsDue (IsRejected graph root file))
+    → IfErr answer (IsDue (IsRefusedFor input file))
+all_rejected (Ok t) input file graph root island said = tt
+all_rejected (Err exit) input file graph root island (inr memory) = inr memory
+all_rejected (Err exit) input file graph root island (inl said) = rejected input file graph root island exit said
+
+-- what is called for is due, and so is want of memory
+pub due : {T : Type 0} (answer : Result T Exit) (CalledFor : Exit → Type 0) → IfErr answer CalledFor → IfErr answer (IsDue CalledFor)
+due (Ok t) CalledFor said = tt
+due (Err exit) CalledFor said = inl said
+
+pub memory_due : {T : Type 0} (answer : Result T Exit) (CalledFor : Exit → Type 0) → IfErr answer (λ exit. exit ≡ exits.NoMemory)
+    → IfErr answer (IsDue CalledFor)
+memory_due (Ok t) CalledFor said = tt
+memory_due (Err exit) CalledFor said = inr said
+
 -- what is said of the certificate is said of its bytes
 verdict_of_bytes : (input : Input) (bytes : List ℕ) (file : CertFile) → IsSpellingOf bytes file → (exit : Exit)
     → IsDue (IsRefusedFor input file) exit → IsDue (IsNoVerdict input bytes) exit

@@ -10,7 +10,7 @@ ghost use Rattle.mrt_words.specs.Files.{script_limit};
 use crate::given::Given;
 use crate::input::script_of;
 use crate::packets::{AreaAndIsland, area_and_island, tables_to};
-use crate::text::Text;
+use crate::text::{Text, bytes_answer};
 use fabric_runs::{destinations, script_text, texts_by_rows_for_destinations};
 use fabric_script::Script;
 use mrt_exit::Exit;
@@ -34,8 +34,7 @@ fn run_of(alloc: Global, given: &Given, script: &Script) -> Result<Text, Exit>
     ensures refused { IfErr result (IsDue (HasNoIslandFor given.now script.now.router)) }
 {
     let net = area_and_island(alloc, given, script.router)?;
-    let text = run_in(alloc, &net, script)?;
-    Ok(Text::Bytes(text))
+    bytes_answer(run_in(alloc, &net, script))
 }
 
 /// The same, in an area and an island.

@@ -11,7 +11,7 @@ ghost use Rattle.mrt_answer.specs.{Flooded.GivesFlood, TextBytes.HasText};
 ghost use Rattle.mrt_answer.specs.Refusals.{HasNoFloodScript, HasNoUpdates, IsAnswerOfFlood};
 
 use crate::input::profile_of;
-use crate::text::Text;
+use crate::text::{Text, bytes_answer};
 use file_key::FileKey;
 use flood_core::{Update, read_updates};
 use flood_script::{FloodScript, flood_text, read_flood_script};
@@ -33,7 +33,7 @@ pub fn answer_of_flood(alloc: Global, files: &FloodRead) -> Result<Text, Exit>
     let script = script_of(alloc, &files.script)?;
     let comparing = ByIsland::new(&profile);
     let key = FileKey::of(&files.updates);
-    Ok(Text::Bytes(flood_text(alloc, key, updates, &script, &comparing)?))
+    bytes_answer(flood_text(alloc, key, updates, &script, &comparing))
 }
 
 /// The packets that the bytes are.

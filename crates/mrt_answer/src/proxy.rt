@@ -1,9 +1,9 @@
 //! `proxy DB PROFILE ROUTER A B`: the rows for a prefix that is attached to two routers.
 
-ghost use Rattle.std.specs.Prelude.{◌≡◌, ◌≢◌, ◌<◌, IfOk, IfErr, length};
+ghost use Rattle.std.specs.Prelude.{◌≡◌, ◌≢◌, ◌<◌, ℕ, IfOk, IfErr, length};
 ghost use Rattle.mrt_rows.specs.Rooted.{MakeColumns};
 ghost use Rattle.proxy_rows.specs.ProxyRows.{AreProxyRows};
-ghost use Rattle.mrt_answer.specs.{Attached.IsAttachedBy, Computed.HasComputed, TextBytes.HasText};
+ghost use Rattle.mrt_answer.specs.{Attached.IsAttachedBy, Computed.HasComputed, Input.HasIsland, Input.Input, TextBytes.HasText};
 ghost use Rattle.mrt_answer.specs.Proxied.{HasNoProxyOf, HasProxy, IsProxyOf, HasNoProxy};
 ghost use Rattle.mrt_exit.specs.Due.{IsDue};
 
@@ -11,7 +11,7 @@ use crate::columns::columns_of;
 use crate::finding::node_of;
 use crate::given::Given;
 use crate::island::island_in;
-use crate::text::Text;
+use crate::text::{Text, bytes_answer};
 use mrt_exit::Exit;
 use mrt_graph::{CertNode, Graph, NoMemory, NodeNo};
 use mrt_rows::RootedColumns;
@@ -31,10 +31,27 @@ pub(crate) fn proxy(
     ensures refused { IfErr result (IsDue (HasNoProxy given.now router first second)) }
 {
     let island = island_in(alloc, given, router)?;
-    let graph = &island.graph;
+    proxy_in(alloc, &island.graph, island.root, first, second)
+}
+
+/// The same, in the island of whatever router.
+fn proxy_in(
+    alloc: Global,
+    graph: &Graph,
+    root: NodeNo,
+    first: u32,
+    second: u32,
+) -> Result<Text, Exit>
+    requires root { root < length graph.now.ids }
+    requires different { first ≢ second }
+    ensures proxied { (input : Input) (router : ℕ) → HasIsland input router graph.now root
+        → IfOk result (HasText (HasProxy input router first second)) }
+    ensures refused { (input : Input) (router : ℕ) → HasIsland input router graph.now root
+        → IfErr result (IsDue (HasNoProxy input router first second)) }
+{
     let a = node_of(graph, first)?;
     let b = node_of(graph, second)?;
-    proxy_between(alloc, graph, island.root, a, b)
+    proxy_between(alloc, graph, root, a, b)
 }
 
 /// The same for two nodes of a graph, by its certificate from a root, of which one column is made.
@@ -79,8 +96,7 @@ fn proxy_by(
         return Err(Exit::NoCommonBlock);
     };
     let rows = rows_at(alloc, graph, columns, &nodes, &at)?;
-    let text = proxy_text_of(alloc, graph, root, a, b, &rows)?;
-    Ok(Text::Bytes(text))
+    bytes_answer(proxy_text_of(alloc, graph, root, a, b, &rows))
 }
 
 /// The rows at an attachment, by the words on all links and by the column for its head.

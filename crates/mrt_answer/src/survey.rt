@@ -13,7 +13,7 @@ use crate::given::Given;
 use crate::input::database_of;
 use crate::island::island_in;
 use crate::survey_law::made_networks_are_taken;
-use crate::text::Text;
+use crate::text::{Text, bytes_answer};
 use lsdb::Lsdb;
 use mrt_exit::Exit;
 use mrt_graph::{Graph, NoMemory, NodeNo, accepted_implies_sound};
@@ -41,8 +41,7 @@ fn survey_of(alloc: Global, number: u32, given: &Given) -> Result<Text, Exit>
     ensures refused { IfErr result (IsDue (HasNoIslandFor given.now 1)) }
 {
     let island = island_in(alloc, given, 1)?;
-    let text = summed_up(alloc, number, &island.graph, island.root)?;
-    Ok(Text::Bytes(text))
+    bytes_answer(summed_up(alloc, number, &island.graph, island.root))
 }
 
 /// The database of the network, and a profile that says nothing.

@@ -1,18 +1,19 @@
 //! `table DB PROFILE ROUTER`: what a router installs.
 
-ghost use Rattle.std.specs.Prelude.{◌≡◌, ◌≢◌, ◌<◌, IfOk, IfErr, length};
-ghost use Rattle.mrt_graph.specs.{declared.cert.CertFile.CertFile, GraphInvariant.IsNetwork};
+ghost use Rattle.std.specs.Prelude.{◌≡◌, ◌≢◌, ◌<◌, IfOk, IfErr, Contains, length};
+ghost use Rattle.area_graph.specs.Fits.{Fits};
+ghost use Rattle.mrt_graph.specs.{declared.cert.CertFile.CertFile, GraphInvariant.IsNetwork, NodeIds.router as router_node};
 ghost use Rattle.text_parts.specs.Adds.{Adds};
 ghost use Rattle.mrt_report.specs.{AddsLines.AddsLines, ByColumn.IsLineByColumn, TableText.IsTableText};
 ghost use Rattle.mrt_rows.specs.{CertOf.IsCertOf, Rooted.MakeColumns};
-ghost use Rattle.mrt_answer.specs.{TableMade.AreParts, TableMade.with_cert, Tabled.IsComputedFile, Tabled.IsTabled, TextBytes.HasText, Islands.HasNoIslandFor};
+ghost use Rattle.mrt_answer.specs.{TableMade.AreParts, TableMade.with_cert, Tabled.IsComputedFile, Tabled.IsTableOf, Tabled.IsTabled, TextBytes.HasText, Islands.HasNoIslandFor};
 ghost use Rattle.mrt_exit.specs.Due.{IsDue};
 
 use crate::columns::columns_of;
 use crate::finding::{node_of, spot_of};
 use crate::given::Given;
-use crate::island::{area_of, island_of};
-use crate::text::Text;
+use crate::packets::{AreaAndIsland, area_and_island};
+use crate::text::{Text, bytes_answer};
 use area_graph::Area;
 use mrt_exit::Exit;
 use mrt_graph::{Graph, LinkNo, NoMemory, NodeNo};
@@ -38,20 +39,32 @@ pub(crate) fn table(alloc: Global, given: &Given, router: u32) -> Result<Text, E
     ensures tabled { IfOk result (HasText (IsTabled given.now router)) }
     ensures refused { IfErr result (IsDue (HasNoIslandFor given.now router)) }
 {
-    let area = area_of(alloc, given)?;
-    let island = island_of(alloc, &area, given, router)?;
-    let source = node_of(&island.graph, router)?;
-    let spot = spot_of(&area, router)?;
-    let primaries = primaries(alloc, &area, spot)?;
+    let net = area_and_island(alloc, given, router)?;
+    table_in(alloc, &net, router)
+}
+
+/// The same, in an area and the router's island in it.
+fn table_in(alloc: Global, net: &AreaAndIsland, router: u32) -> Result<Text, Exit>
+    requires fits { Fits net.now.area net.now.island.graph net.now.island.link_of }
+    requires root { net.now.island.root < length net.now.island.graph.ids }
+    requires root_router { ¬ IsNetwork net.now.island.graph.ids net.now.island.root }
+    requires inside { Contains net.now.island.graph.ids (router_node router) }
+    ensures tabled { IfOk result (HasText (IsTableOf net.now.area net.now.island.graph net.now.island.root
+        net.now.island.link_of router)) }
+    ensures none { IfErr result (λ exit. exit ≡ Exit.NoMemory) }
+{
+    let island = &net.island.graph;
+    let source = node_of(island, router)?;
+    let spot = spot_of(&net.area, router)?;
+    let primaries = primaries(alloc, &net.area, spot)?;
     let parts = Parts {
-        area: &area,
-        island: &island.graph,
-        link_of: island.link_of.as_slice(),
+        area: &net.area,
+        island,
+        link_of: net.island.link_of.as_slice(),
         source,
         primaries: &primaries,
     };
-    let text = table_of(alloc, island.root, &parts)?;
-    Ok(Text::Bytes(text))
+    bytes_answer(table_of(alloc, net.island.root, &parts))
 }
 
 /// The table that is made from these parts, by the rows of the island's certificate, of which no others are made than

@@ -1,11 +1,13 @@
 //! The text of an answer.
 
-ghost use Rattle.std.specs.Prelude.{◌≡◌, ◌≤◌, ℕ, List, length, IsOk, IfErr, OnOk};
+ghost use Rattle.std.specs.Prelude.{◌≡◌, ◌≤◌, ℕ, Err, List, Ok, length, IsOk, IfErr, IfOk, OnOk};
 ghost use Rattle.mrt_io.specs.{Counts.Rose, Writing.Gained, Writing.GainedPart};
 ghost use Rattle.mrt_answer.specs.TextBytes.{IsTextOf};
 
 use cert_format::WritableCert;
 use cert_stream::CertStream;
+use mrt_exit::Exit;
+use mrt_graph::NoMemory;
 use mrt_io::{PutError, Sink, put_all};
 use text_parts::Line;
 
@@ -38,4 +40,12 @@ impl Text {
             Text::Found(stream) => stream.put(sink),
         }
     }
+}
+
+/// The answer that bytes are, or that there was no memory for them. It is made here, where nothing else is owned.
+pub(crate) fn bytes_answer(bytes: Result<Vec<u8>, NoMemory>) -> Result<Text, Exit>
+    ensures text { IfOk bytes (λ it. result ≡ Ok (Text.Bytes it)) }
+    ensures none { IfErr bytes (λ _. result ≡ Err Exit.NoMemory) }
+{
+    Ok(Text::Bytes(bytes?))
 }

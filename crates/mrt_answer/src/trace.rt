@@ -7,7 +7,7 @@ ghost use Rattle.mrt_exit.specs.Due.{IsDue};
 
 use crate::given::Given;
 use crate::packets::{AreaAndIsland, area_and_island, tables_to};
-use crate::text::Text;
+use crate::text::{Text, bytes_answer};
 use area_graph::{Area, Spot};
 use fabric_runs::{texts_by_rows_for_destinations, trace_text};
 use fabric_script::Trace;
@@ -35,8 +35,7 @@ pub(crate) fn trace(alloc: Global, given: &Given, trace: &Trace) -> Result<Text,
     ensures refused { IfErr result (IsDue (HasNoIslandFor given.now trace.now.from)) }
 {
     let net = area_and_island(alloc, given, trace.from)?;
-    let text = trace_in(alloc, &net, trace)?;
-    Ok(Text::Bytes(text))
+    bytes_answer(trace_in(alloc, &net, trace))
 }
 
 /// The same, in an area and an island.

@@ -1,9 +1,9 @@
 //! `upgrade DB PROFILE CERT`: an accepted certificate in version 2.
 
-ghost use Rattle.std.specs.Prelude.{◌≡◌, ℕ, List, None, IfOk, IfErr};
+ghost use Rattle.std.specs.Prelude.{◌≡◌, ◌<◌, ℕ, List, None, IfOk, IfErr, length};
 ghost use Rattle.mrt_exit.specs.Due.{IsDue};
 ghost use Rattle.mrt_words.specs.Kept.{IsCertRead};
-ghost use Rattle.mrt_answer.specs.{Upgraded.GivesUpgrade, Upgraded.IsUpgradeFor, TextBytes.HasText, Verdict.IsNoVerdict, Verdict.IsRefusedFor};
+ghost use Rattle.mrt_answer.specs.{Upgraded.GivesUpgrade, Upgraded.IsUpgrade, Upgraded.IsUpgradeFor, Refusals.IsRejected, TextBytes.HasText, Verdict.IsNoVerdict, Verdict.IsRefusedFor};
 
 use crate::given::Given;
 use crate::island::island_in;
@@ -12,6 +12,7 @@ use crate::verdict::judge;
 use cert_format::{CertFault, WritableCert};
 use mrt_exit::Exit;
 use mrt_graph::{CertFile, accepted_files_are_foldable, accepted_implies_sound};
+use mrt_island::Island;
 use std::alloc::Global;
 
 /// The version of the files that it writes.
@@ -37,9 +38,18 @@ fn upgrade(alloc: Global, given: &Given, file: CertFile) -> Result<Text, Exit>
     ensures upgraded { IfOk result (HasText (IsUpgradeFor given.now file)) }
     ensures refused { IfErr result (IsDue (IsRefusedFor given.now file)) }
 {
+    let island = island_in(alloc, given, file.root)?;
+    upgrade_in(alloc, &island, file)
+}
+
+/// The certificate in version 2, where it is accepted for an island and its root.
+fn upgrade_in(alloc: Global, island: &Island, file: CertFile) -> Result<Text, Exit>
+    requires { island.now.root < length island.now.graph.ids }
+    ensures upgraded { IfOk result (HasText (IsUpgrade island.now.graph island.now.root file)) }
+    ensures refused { IfErr result (IsDue (IsRejected island.now.graph island.now.root file)) }
+{
     accepted_files_are_foldable();
     accepted_implies_sound();
-    let island = island_in(alloc, given, file.root)?;
     judge(&island.graph, island.root, &file)?;
     // what each graph and each certificate keeps is told by reading it
     let _nodes = island.graph.node_count();

@@ -5,7 +5,7 @@ ghost use Rattle.mrt_exit.specs.Due.{IsDue};
 ghost use Rattle.mrt_words.specs.Kept.{IsCertRead};
 ghost use Rattle.mrt_graph.specs.Accepted.{Accepted};
 ghost use Rattle.mrt_answer.specs.{Refusals.IsRejected, TextBytes.HasText};
-ghost use Rattle.mrt_answer.specs.Verdict.{GivesVerdict, IsYesFor, accepted_line as line_of_accepted, IsNoVerdict, IsRefusedFor};
+ghost use Rattle.mrt_answer.specs.Verdict.{GivesVerdict, IsAccepted, IsYesFor, accepted_line as line_of_accepted, IsNoVerdict, IsRefusedFor};
 
 use crate::given::Given;
 use crate::island::island_in;
@@ -37,10 +37,18 @@ fn verdict(alloc: Global, given: &Given, file: &CertFile) -> Result<Text, Exit>
     ensures accepted { IfOk result (HasText (IsYesFor given.now file.now)) }
     ensures refused { IfErr result (IsDue (IsRefusedFor given.now file.now)) }
 {
-    accepted_implies_sound();
     let island = island_in(alloc, given, file.root)?;
-    judge(&island.graph, island.root, file)?;
-    let graph = &island.graph;
+    verdict_on(&island.graph, island.root, file)
+}
+
+/// The accepted line, where the certificate is accepted for the graph and its root.
+fn verdict_on(graph: &Graph, root: NodeNo, file: &CertFile) -> Result<Text, Exit>
+    requires { root < length graph.now.ids }
+    ensures accepted { IfOk result (HasText (IsAccepted graph.now root file.now)) }
+    ensures refused { IfErr result (IsRejected graph.now root file.now) }
+{
+    accepted_implies_sound();
+    judge(graph, root, file)?;
     let line = accepted_line(file.root, graph.node_count(), graph.link_count());
     Ok(Text::Line(line))
 }

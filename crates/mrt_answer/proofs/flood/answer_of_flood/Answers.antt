@@ -1,4 +1,4 @@
-use Rattle.std.proofs.Common.{ℕ, List, [], subst}
+use Rattle.std.proofs.Common.{ℕ, List, [], inr, refl, subst}
 use Rattle.flood_core.specs.declared.update.Update.{Update}
 use Rattle.flood_core.specs.FloodState.{started}
 use Rattle.flood_core.specs.Updates.{AreUpdates}
@@ -11,7 +11,9 @@ use Rattle.mrt_words.specs.Kept.{flood_bytes}
 use Rattle.mrt_answer.specs.Input.{IsProfile}
 use Rattle.mrt_answer.specs.Refusals.{HasNoFloodScript, HasNoProfile, HasNoUpdates, IsAnswerOfFlood}
 use Rattle.mrt_answer.proofs.Floods.{packets_refused, profile_refused, script_refused}
-use Rattle.mrt_words.proofs.HandedOn.{handed_on}
+use Rattle.mrt_words.proofs.HandedOn.{handed_on, if_ok}
+use Rattle.mrt_answer.specs.Flooded.{GivesFlood}
+use Rattle.mrt_answer.proofs.TextsHeld.{bytes_given, bytes_refused}
 use Rattle.mrt_answer.proofs.flood.answer_of_flood.Goals as goal
 
 pub returns-in_err-profile-clause-refused : goal.returns-in_err-profile-clause-refused
@@ -41,7 +43,9 @@ returns-clause-text c =
     let updates : List Update = c.in_ok-updates.updates.items in
     let settings : List Setting = c.in_ok-profile.profile in
     let script = c.in_ok-script.script in
-    record {
+    bytes_given c.bytes_answer.result (GivesFlood (flood_bytes c.args.files.now)) c.flood_text.result c.bytes_answer.ensures.text
+    c.bytes_answer.ensures.none
+    (if_ok c.flood_text.result _ _ c.flood_text.ensures (λ text answers. record {
       held = record {
         updates = updates;
         packets = subst (λ (b : List ℕ). AreUpdates 0 b updates []) c.deref.ensures.value c.in_ok-updates.ensures.updates;
@@ -52,11 +56,14 @@ returns-clause-text c =
             c.in_ok-script.ensures.script;
       };
       may_flood = c.in_ok-updates.ensures.may_flood;
-      answers = subst
-          (λ (s : List Setting).
-          IsFloodText (Says s) (started updates script.routers) script.lines c.in_ok-flood_text.field-0.items)
-          c.new-comparing.ensures c.in_ok-flood_text.ensures;
-    }
+      answers = subst (λ (s : List Setting). IsFloodText (Says s) (started updates script.routers) script.lines text.items)
+          c.new-comparing.ensures answers;
+    }))
+
+pub returns-clause-refused : goal.returns-clause-refused
+returns-clause-refused c =
+    bytes_refused c.bytes_answer.result (IsAnswerOfFlood (flood_bytes c.args.files.now)) c.flood_text.result c.bytes_answer.ensures.text
+    c.bytes_answer.ensures.none (inr refl)
 
 pub returns-in_err-updates-clause-refused : goal.returns-in_err-updates-clause-refused
 returns-in_err-updates-clause-refused c =

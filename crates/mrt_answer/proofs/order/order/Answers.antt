@@ -1,26 +1,25 @@
-use Rattle.std.proofs.lemmas.Option.{slice_get_within}
-use Rattle.mrt_graph.specs.NodeIds.{router as router_node}
-use Rattle.mrt_answer.proofs.Refusals.{root_in_island}
+use Rattle.mrt_answer.specs.Islands.{HasNoIslandFor}
+use Rattle.mrt_answer.specs.Ordered.{HasOrder, IsOrderOf}
+use Rattle.mrt_answer.proofs.Refusals.{memory_due, root_in_island}
 use Rattle.mrt_answer.proofs.Tables.{in_own_island}
+use Rattle.mrt_answer.proofs.TextsHeld.{answer_has_also}
 use Rattle.mrt_answer.proofs.order.order.Goals as goal
 
-pub order_of-requires-clause-root : goal.order_of-requires-clause-root
-order_of-requires-clause-root c = root_in_island _ _ _ _ c.in_ok-island.ensures.island
-
-pub order_of-requires-clause-source : goal.order_of-requires-clause-source
-order_of-requires-clause-source c =
-    slice_get_within c.in_ok-island.island.graph.ids c.in_ok-source.source (router_node c.args.router) c.in_ok-source.ensures.at
+pub order_in-requires-clause-root : goal.order_in-requires-clause-root
+order_in-requires-clause-root c = root_in_island _ _ _ _ c.in_ok-island.ensures.island
 
 -- a router is in its own island
-pub returns-in_err-source-clause-refused : goal.returns-in_err-source-clause-refused
-returns-in_err-source-clause-refused c =
-    absurd (c.in_err-source.ensures.missed.1
-    (in_own_island _ _ _ _ _ c.in_ok-island.ensures.island.link_of c.in_ok-island.ensures.island.island))
+pub order_in-requires-clause-inside : goal.order_in-requires-clause-inside
+order_in-requires-clause-inside c =
+    in_own_island _ _ _ _ _ c.in_ok-island.ensures.island.link_of c.in_ok-island.ensures.island.island
 
 pub returns-clause-ordered : goal.returns-clause-ordered
-returns-clause-ordered c = record {
-  graph = c.in_ok-island.island.graph;
-  root = c.in_ok-island.island.root;
-  island = c.in_ok-island.ensures.island;
-  order = c.in_ok-text.ensures c.args.router c.in_ok-source.ensures.at;
-}
+returns-clause-ordered c =
+    let island = c.in_ok-island.island in
+    answer_has_also (IsOrderOf island.graph island.root c.args.router) (HasOrder c.args.given.now c.args.router)
+    (λ text of. record { graph = island.graph; root = island.root; island = c.in_ok-island.ensures.island; order = of })
+    c.order_in.result c.order_in.ensures.ordered
+
+pub returns-clause-refused : goal.returns-clause-refused
+returns-clause-refused c =
+    memory_due c.order_in.result (HasNoIslandFor c.args.given.now c.args.router) c.order_in.ensures.none

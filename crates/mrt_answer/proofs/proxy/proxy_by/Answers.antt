@@ -8,8 +8,11 @@ use Rattle.mrt_answer.specs.Attached.{IsAttachedBy}
 use Rattle.mrt_answer.specs.Computed.{HasComputed}
 use Rattle.proxy_rows.specs.declared.proxy_row.ProxyRow.{ProxyRow}
 use Rattle.proxy_rows.specs.ProxyRows.{AreProxyRows}
+use Rattle.mrt_words.proofs.HandedOn.{if_ok}
+use Rattle.mrt_answer.specs.Proxied.{HasNoProxyOf, IsProxyOf}
 use Rattle.mrt_answer.proofs.ComputedColumns.{as_many}
 use Rattle.mrt_answer.proofs.OneProxy.{accepted_for}
+use Rattle.mrt_answer.proofs.TextsHeld.{bytes_given, bytes_refused}
 use Rattle.mrt_answer.proofs.proxy.proxy_by.Goals.{After-deref, After-deref-3}
 use Rattle.mrt_answer.proofs.proxy.proxy_by.Goals as goal
 
@@ -75,7 +78,15 @@ pub returns-clause-proxied : goal.returns-clause-proxied
 returns-clause-proxied c =
     let own = c.requires.computed in
     let at = goal.at.returns-clause-proxied c in
-    record { file = own.file; certificate = own.certificate; spelled = c.in_ok-text.ensures own.file.cert (rows_are at.After-deref-3 (nodes_say at.After-deref)) }
+    bytes_given c.bytes_answer.result (IsProxyOf c.args.graph.now c.args.root c.args.a c.args.b) c.proxy_text_of.result
+    c.bytes_answer.ensures.text c.bytes_answer.ensures.none
+    (if_ok c.proxy_text_of.result _ _ (c.proxy_text_of.ensures own.file.cert (rows_are at.After-deref-3 (nodes_say at.After-deref)))
+    (λ text spelled. record { file = own.file; certificate = own.certificate; spelled = spelled }))
+
+pub returns-clause-refused : goal.returns-clause-refused
+returns-clause-refused c =
+    bytes_refused c.bytes_answer.result (HasNoProxyOf c.args.graph.now c.args.root c.args.a c.args.b) c.proxy_text_of.result
+    c.bytes_answer.ensures.text c.bytes_answer.ensures.none tt
 
 pub nodes-requires : goal.nodes-requires
 nodes-requires c = c.requires.made
