@@ -18,7 +18,7 @@ use Rattle.mrt_answer.specs.TextBytes.{HasText, IsTextOf}
 
 -- what holds of them, and something that follows from it
 pub has_also : (P Q : List ℕ → Type 0) → ((bytes : List ℕ) → P bytes → Q bytes) → (text : Text) → HasText P text → HasText Q text
-has_also P Q then (Line line) held = then line.items held
+has_also P Q then (Line line) held = then line held
 has_also P Q then (Bytes bytes) held = then bytes.items held
 has_also P Q then (Cert file) held = then (cert_text file) held
 has_also P Q then (Found stream) held = (held.0, held.1, then (cert_text held.0) held.2)
@@ -47,7 +47,7 @@ pub record BytesOf (P : List ℕ → Type 0) (text : Text) : Type 0 where
   pub held : P bytes
 
 pub some_bytes : (P : List ℕ → Type 0) (text : Text) → HasText P text → BytesOf P text
-some_bytes P (Line line) held = record { bytes = line.items; are = refl; held = held }
+some_bytes P (Line line) held = record { bytes = line; are = refl; held = held }
 some_bytes P (Bytes bytes) held = record { bytes = bytes.items; are = refl; held = held }
 some_bytes P (Cert file) held = record { bytes = cert_text file; are = refl; held = held }
 some_bytes P (Found stream) held =

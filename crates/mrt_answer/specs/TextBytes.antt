@@ -9,7 +9,7 @@ use Rattle.mrt_answer.specs.declared.text.Text.TheVariants.{Line, Bytes, Cert, F
 -- something holds of the bytes of a text: of a line, of a longer text, of the spelling of a certificate, or of that of the
 -- certificate of a graph and its root
 abbrev pub HasText : (List ℕ → Type 0) → Text → Type 0
-HasText P (Line line) = P line.items
+HasText P (Line line) = P line
 HasText P (Bytes bytes) = P bytes.items
 HasText P (Cert file) = P (cert_text file)
 HasText P (Found stream) = (file : CertFile) × IsCertOf stream.graph stream.root file × P (cert_text file)

@@ -34,7 +34,7 @@ impl Text {
             → K.faults sink.new ≡ K.faults sink.old }
     {
         match self {
-            Text::Line(line) => put_all(sink, line.as_slice()),
+            Text::Line(line) => put_all(sink, line.bytes()),
             Text::Bytes(bytes) => put_all(sink, bytes.as_slice()),
             Text::Cert(cert) => cert.put(sink),
             Text::Found(stream) => stream.put(sink),

@@ -66,7 +66,7 @@ pub(crate) fn judge(graph: &Graph, root: NodeNo, file: &CertFile) -> Result<(), 
 }
 
 fn accepted_line(root: u32, nodes: u16, links: u16) -> Line
-    ensures { result.items ≡ line_of_accepted root nodes links }
+    ensures { result ≡ line_of_accepted root nodes links }
 {
     let mut line = line_of(b"accepted root ");
     put_address(&mut line, root);
