@@ -7,14 +7,14 @@ use fabric_script::Entry;
 use mrt_graph::Color;
 
 /// A node or a bond of the area that fails.
-#[derive(Clone, Copy, PartialEq, Eq)]
+#[derive(Clone, Copy)]
 pub enum Failure {
     Node(Spot),
     Bond(BondNo),
 }
 
 /// One event: a packet enters, the router where a packet is handles it once, or an element fails.
-#[derive(Clone, Copy, PartialEq, Eq)]
+#[derive(Clone, Copy)]
 pub enum Event {
     Inject { at: Spot, to: Spot, entry: Entry },
     Step(PacketNo),
@@ -22,7 +22,7 @@ pub enum Event {
 }
 
 /// The answer to an event that is not refused.
-#[derive(Clone, Copy, PartialEq, Eq)]
+#[derive(Clone, Copy)]
 pub enum Outcome {
     /// The packet got this number.
     Entered(PacketNo),
@@ -38,7 +38,7 @@ pub enum Outcome {
 }
 
 /// Why an event is refused.
-#[derive(Clone, Copy, Debug, PartialEq, Eq)]
+#[derive(Clone, Copy)]
 pub enum Refused {
     /// The area, or for a color the island, has no such place.
     NoSuchPlace,

@@ -19,12 +19,22 @@ use std::marker::Model;
 
 /// Packets on their way through an area, one of whose elements may fail; and the tables by which its routers send them:
 /// routes, and rows from any source of them, as far as they are for the destinations of these packets.
-#[derive(Drop)]
 pub struct Fabric<'a, R: RowsOf> {
     parts: Parts<'a, R>,
     packets: Vec<Packet>,
     failure: Option<Failure>,
     room: u16,
+}
+
+impl<R: RowsOf> Drop for Fabric<'_, R> {
+    fn drop(self) {
+        let Self {
+            parts: _,
+            packets: _,
+            failure: _,
+            room: _,
+        } = self;
+    }
 }
 
 impl<'a, R: RowsOf> Model for Fabric<'a, R> {

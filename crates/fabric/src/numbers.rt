@@ -3,7 +3,7 @@
 use std::marker::Model;
 
 /// The number of a packet, from 0.
-#[derive(Clone, Copy, Default, PartialEq, Eq, PartialOrd, Ord)]
+#[derive(Clone, Copy)]
 pub struct PacketNo(u16);
 
 impl Model for PacketNo {

@@ -5,7 +5,7 @@ use mrt_graph::Color;
 
 /// By what a packet is sent: by the primaries, or by the rows of a color, on which it entered or to which it was
 /// switched.
-#[derive(Clone, Copy, PartialEq, Eq)]
+#[derive(Clone, Copy)]
 pub enum Mode {
     Primary,
     Entered(Color),
@@ -13,7 +13,7 @@ pub enum Mode {
 }
 
 /// Why a packet is lost.
-#[derive(Clone, Copy, PartialEq, Eq)]
+#[derive(Clone, Copy)]
 pub enum Loss {
     /// Its place is the failed node.
     Inside,
@@ -30,7 +30,7 @@ pub enum Loss {
     NoAlternate,
 }
 
-#[derive(Clone, Copy, PartialEq, Eq)]
+#[derive(Clone, Copy)]
 pub enum State {
     Going,
     Delivered,
@@ -38,7 +38,7 @@ pub enum State {
 }
 
 /// A packet: the node where it is, the node that it is for, and how it stands.
-#[derive(Clone, Copy, PartialEq, Eq)]
+#[derive(Clone, Copy)]
 pub struct Packet {
     pub place: Spot,
     pub to: Spot,
