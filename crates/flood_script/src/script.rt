@@ -3,7 +3,7 @@
 use mrt_graph::Seq;
 
 /// What a later line of a script says.
-#[derive(Clone, Copy, PartialEq, Eq)]
+#[derive(Clone, Copy)]
 pub enum FloodLine {
     /// The packet of this number is delivered to the router of that one.
     Deliver { packet: u32, router: u16 },
@@ -12,8 +12,16 @@ pub enum FloodLine {
 }
 
 /// How many routers there are, 1 to 64 where the script was read, and the later lines, in their order.
-#[derive(Drop, PartialEq, Eq)]
 pub struct FloodScript {
     pub routers: u16,
     pub lines: Seq<FloodLine>,
+}
+
+impl Drop for FloodScript {
+    fn drop(self) {
+        let Self {
+            routers: _,
+            lines: _,
+        } = self;
+    }
 }

@@ -1,7 +1,7 @@
 //! What a comparison of two routers' databases comes to.
 
 /// What `same R Q ROUTER` answers.
-#[derive(Clone, Copy, PartialEq, Eq)]
+#[derive(Clone, Copy)]
 pub enum Verdict {
     /// One of the two databases tells nothing of the router.
     None,
