@@ -5,7 +5,7 @@ use mrt_graph::NoMemory;
 use std::alloc::{AllocError, AllocFailed};
 
 /// Why a router has no island here: it is not in the area, or it does not support the profile; or there was no memory.
-#[derive(Clone, Copy, Debug, PartialEq, Eq)]
+#[derive(Clone, Copy, Debug)]
 pub enum IslandError {
     NotThere,
     Unsupported,

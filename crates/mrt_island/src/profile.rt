@@ -13,11 +13,16 @@ use std::alloc::Global;
 use std::marker::Model;
 
 /// What is set apart from the defaults for the routers of an area. Contracts see it as the list of what the lines of its file say.
-#[derive(Drop)]
 pub struct Profile {
     /// Each setting by its subject, with the priority where the subject is one. Most profiles have none, and keys that are
     /// made for all routers and links only to find nothing would cost more than the island.
     settings: IndexMap<Subject, u8, FileKey>,
+}
+
+impl Drop for Profile {
+    fn drop(self) {
+        let Self { settings: _ } = self;
+    }
 }
 
 impl Model for Profile {

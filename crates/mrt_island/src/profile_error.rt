@@ -7,7 +7,7 @@ use std::alloc::{AllocError, AllocFailed};
 use thiserror::Error;
 
 /// What is wrong with a line. Of several faults of a line the first one in this order is told.
-#[derive(Clone, Copy, Debug, PartialEq, Eq)]
+#[derive(Clone, Copy, Debug)]
 pub enum ProfileKind {
     /// It has a byte other than a tab and 32 to 126.
     Bytes,
@@ -22,7 +22,7 @@ pub enum ProfileKind {
 }
 
 /// Why a profile file was not read.
-#[derive(Clone, Copy, Debug, PartialEq, Eq, Error)]
+#[derive(Clone, Copy, Debug, Error)]
 pub enum ProfileError {
     /// The first line with a fault is that with this number, from 1.
     #[error("{kind:?} in line {line}")]

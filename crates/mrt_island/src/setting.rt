@@ -1,7 +1,7 @@
 //! What the lines of a profile file say.
 
 /// What a line of a profile file says of a router.
-#[derive(Clone, Copy, PartialEq, Eq)]
+#[derive(Clone, Copy)]
 pub enum Setting {
     /// The router's GADAG root selection priority (RFC 7812, section 8).
     Priority { router: u32, priority: u8 },
