@@ -6,7 +6,7 @@ use std::alloc::{AllocError, AllocFailed};
 
 /// Why no area was made: there are more nodes or arcs than one may have, told by both counts, or there was no memory.
 /// A count that no number of 32 bits can tell is told as 4,294,967,295.
-#[derive(Clone, Copy, Debug, PartialEq, Eq)]
+#[derive(Clone, Copy, Debug)]
 pub enum AreaError {
     TooLarge { nodes: u32, arcs: u32 },
     NoMemory,

@@ -3,7 +3,7 @@
 use crate::numbers::{BondNo, Spot};
 
 /// One direction between two nodes of an area, which the LSAs of both of them tell (RFC 2328, section 16.1).
-#[derive(Clone, Copy, PartialEq, Eq)]
+#[derive(Clone, Copy)]
 pub struct Arc {
     pub tail: Spot,
     pub to: Spot,
@@ -15,7 +15,7 @@ pub struct Arc {
 }
 
 /// What joins two nodes: two arcs that are each other's way back, or one arc alone.
-#[derive(Clone, Copy, PartialEq, Eq)]
+#[derive(Clone, Copy)]
 pub struct Bond {
     /// The lower node of a pair; of a single arc its tail.
     pub a: Spot,

@@ -4,7 +4,7 @@
 use std::marker::Model;
 
 /// The number of a node of an area, from 0.
-#[derive(Clone, Copy, Default, PartialEq, Eq, PartialOrd, Ord)]
+#[derive(Clone, Copy, PartialEq, Eq)]
 pub struct Spot(u16);
 
 impl Model for Spot {
@@ -35,7 +35,7 @@ impl Spot {
 }
 
 /// The number of an arc of an area, from 0.
-#[derive(Clone, Copy, Default, PartialEq, Eq, PartialOrd, Ord)]
+#[derive(Clone, Copy, PartialEq, Eq, PartialOrd, Ord)]
 pub struct ArcNo(u16);
 
 impl Model for ArcNo {
@@ -66,7 +66,7 @@ impl ArcNo {
 }
 
 /// The number of a bond of an area, from 0.
-#[derive(Clone, Copy, Default, PartialEq, Eq, PartialOrd, Ord)]
+#[derive(Clone, Copy, PartialEq, Eq)]
 pub struct BondNo(u16);
 
 impl Model for BondNo {
