@@ -10,11 +10,16 @@ use mrt_graph::NoMemory;
 use std::alloc::Global;
 
 /// The arcs of an area by the node that they lead to.
-#[derive(Drop)]
 pub struct ArcsInto {
     pub arcs: Vec<Arc>,
     /// Of each node the number of arcs that lead to a lower node, and after them the number of all arcs.
     pub starts: Vec<usize>,
+}
+
+impl Drop for ArcsInto {
+    fn drop(self) {
+        let Self { arcs: _, starts: _ } = self;
+    }
 }
 
 impl ArcsInto {

@@ -5,9 +5,14 @@ use area_graph::{ArcNo, Spot};
 use std::marker::Model;
 
 /// Of each node the first arc on a shortest path to one destination.
-#[derive(Drop)]
 pub struct FirstColumn {
     firsts: Vec<FirstArc>,
+}
+
+impl Drop for FirstColumn {
+    fn drop(self) {
+        let Self { firsts: _ } = self;
+    }
 }
 
 impl Model for FirstColumn {

@@ -14,12 +14,21 @@ use std::collections::BinaryHeap;
 use std::marker::Model;
 
 /// Searches for the distances from nodes of an area: what one search needs serves the next one too.
-#[derive(Drop)]
 pub struct Searches<'a> {
     area: &'a Area,
     /// The arcs of the area turned round, by the node that each leaves.
     into: ArcsInto,
     waiting: BinaryHeap<Reverse<Offer>>,
+}
+
+impl Drop for Searches<'_> {
+    fn drop(self) {
+        let Self {
+            area: _,
+            into: _,
+            waiting: _,
+        } = self;
+    }
 }
 
 impl<'a> Model for Searches<'a> {
