@@ -37,7 +37,7 @@ fn has_ended<R: RowsOf>(fabric: &Fabric<'_, R>) -> bool
     ensures { IsTrue result ↔ HasEnded fabric.now.state }
 {
     match fabric.packet(PacketNo::new(0)) {
-        Some(packet) => packet.state != State::Going,
+        Some(packet) => !matches!(packet.state, State::Going),
         None => true,
     }
 }
