@@ -1,5 +1,5 @@
 /// What the checker says of a certificate file.
-#[derive(Clone, Copy, PartialEq, Eq)]
+#[derive(Clone, Copy)]
 pub enum Verdict {
     /// All fourteen rules hold.
     Yes,
