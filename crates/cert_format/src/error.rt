@@ -7,7 +7,7 @@ use std::alloc::{AllocError, AllocFailed};
 use thiserror::Error;
 
 /// What is wrong with a field.
-#[derive(Clone, Copy, Debug, PartialEq, Eq)]
+#[derive(Clone, Copy, Debug)]
 pub enum CertKind {
     /// These are not the magic bytes, or not a version that is known.
     Magic,
@@ -26,14 +26,14 @@ pub enum CertKind {
 }
 
 /// The first field that is not allowed begins at byte `at`, from 0.
-#[derive(Clone, Copy, Debug, PartialEq, Eq)]
+#[derive(Clone, Copy, Debug)]
 pub struct CertFault {
     pub at: u32,
     pub kind: CertKind,
 }
 
 /// Why a certificate file was not read.
-#[derive(Clone, Copy, Debug, PartialEq, Eq, Error)]
+#[derive(Clone, Copy, Debug, Error)]
 pub enum CertError {
     /// The first field that is not allowed begins at byte `at`, from 0.
     #[error("{kind:?} at {at}")]
