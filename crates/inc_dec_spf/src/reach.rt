@@ -9,7 +9,7 @@ use std::alloc::Global;
 use std::marker::Model;
 
 /// Along the directions of links, or against them.
-#[derive(Clone, Copy, PartialEq, Eq)]
+#[derive(Clone, Copy)]
 pub enum Dir {
     Up,
     Down,
@@ -65,7 +65,7 @@ fn turn(order: u16, count: u16, dir: Dir) -> usize
 }
 
 /// The cost of a least path, and the link of its first end.
-#[derive(Clone, Copy, PartialEq, Eq)]
+#[derive(Clone, Copy)]
 pub struct Hop {
     pub cost: u32,
     pub link: LinkNo,
