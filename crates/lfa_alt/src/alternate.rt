@@ -4,7 +4,7 @@ use area_graph::{ArcNo, Spot};
 
 /// Where a router sends a packet for one destination once its primary fails: the arc of the router, the arc of the
 /// network that it leads to, if it leads to one other than the destination, and the router reached, or the destination.
-#[derive(Clone, Copy, PartialEq, Eq)]
+#[derive(Clone, Copy)]
 pub struct Lfa {
     pub first: ArcNo,
     pub second: Option<ArcNo>,
