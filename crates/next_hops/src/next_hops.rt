@@ -17,7 +17,7 @@ use primary_alt::next_hop;
 use std::alloc::Global;
 
 /// The nodes to which a router sends the packets for a destination, one for each color.
-#[derive(Clone, Copy, PartialEq, Eq)]
+#[derive(Clone, Copy)]
 pub struct NextHops {
     pub blue: NodeId,
     pub red: NodeId,
