@@ -7,7 +7,7 @@ use mrt_graph::NoMemory;
 use std::alloc::{AllocError, AllocFailed};
 
 /// Why there are no proxy rows: the certificate gives the two routers no common block, or there was no memory.
-#[derive(Clone, Copy, Debug, PartialEq, Eq)]
+#[derive(Clone, Copy)]
 pub enum ProxyError {
     NoCommonBlock,
     NoMemory,
