@@ -1,0 +1,53 @@
+//! Words over the files of the folder where the program runs.
+
+use crate::asked::{Asked, asked_of, list_of};
+use crate::devices::{CALM, Streams, new_streams};
+use crate::telling::put_seen;
+use mrt_cmd::{Exit, run};
+use mrt_graph::NoMemory;
+use mrt_io::FileShelf;
+use std::alloc::Global;
+use std::rt::Files;
+
+/// `run WORDS > FILE`.
+pub fn answer<R: Files>(
+    rt: &R,
+    alloc: Global,
+    call: &str,
+    words: &[&str],
+    out: &mut Vec<u8>,
+) -> Result<bool, NoMemory> {
+    if call != "run" {
+        return Ok(false);
+    }
+    put_run(rt, alloc, &asked_of(words), out)?;
+    Ok(true)
+}
+
+fn put_run<R: Files>(
+    rt: &R,
+    alloc: Global,
+    asked: &Asked<'_>,
+    out: &mut Vec<u8>,
+) -> Result<(), NoMemory> {
+    let mut streams = new_streams(alloc, CALM)?;
+    let exit = exit_of(rt, alloc, asked, &mut streams)?;
+    put_seen(rt, alloc, asked.wanted, exit, &streams, out)
+}
+
+fn exit_of<R: Files>(
+    rt: &R,
+    alloc: Global,
+    asked: &Asked<'_>,
+    streams: &mut Streams,
+) -> Result<Exit, NoMemory> {
+    let words = list_of(alloc, asked.words)?;
+    let mut shelf = FileShelf::new(rt);
+    Ok(run(
+        alloc,
+        words.as_slice(),
+        &mut shelf,
+        &mut streams.out,
+        &mut streams.err,
+    ))
+}
