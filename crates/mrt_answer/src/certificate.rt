@@ -1,6 +1,6 @@
 //! `certify DB PROFILE ROUTER`: the certificate of a router's island.
 
-ghost use Rattle.std.specs.Prelude.{◌≡◌, None, IfOk, IfErr};
+ghost use Rattle.std.specs.Prelude.{IfOk, IfErr};
 ghost use Rattle.mrt_answer.specs.{Certified.IsCertified, TextBytes.HasText, Islands.HasNoIslandFor};
 ghost use Rattle.mrt_exit.specs.Due.{IsDue};
 

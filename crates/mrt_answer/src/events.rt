@@ -1,6 +1,6 @@
 //! `fabric DB PROFILE SCRIPT`: packets, step by step through the events of a script.
 
-ghost use Rattle.std.specs.Prelude.{◌≡◌, ◌<◌, ◌≤◌, IfOk, IfErr, length};
+ghost use Rattle.std.specs.Prelude.{◌<◌, ◌≤◌, IfOk, IfErr, length};
 ghost use Rattle.area_graph.specs.Fits.{Fits};
 ghost use Rattle.mrt_answer.specs.{Input.Input, PacketTables.IsAreaAndIsland, TextBytes.HasText, Islands.HasNoIslandFor};
 ghost use Rattle.mrt_answer.specs.Packets.{GivesRun, IsScriptGiven, IsNoRun};

@@ -1,6 +1,6 @@
 //! `order DB PROFILE ROUTER`: a router's repairs by order.
 
-ghost use Rattle.std.specs.Prelude.{◌≡◌, ◌<◌, ℕ, None, IfOk, IfErr, Contains, length};
+ghost use Rattle.std.specs.Prelude.{◌≡◌, ◌<◌, ℕ, IfOk, IfErr, Contains, length};
 ghost use Rattle.mrt_graph.specs.NodeIds.{router as router_node};
 ghost use Rattle.mrt_answer.specs.{Finding.IsAt, Ordered.HasOrder, Ordered.IsOrderOf, TextBytes.HasText, Islands.HasNoIslandFor};
 ghost use Rattle.mrt_exit.specs.Due.{IsDue};

@@ -1,6 +1,6 @@
 //! What the steps of packets read, made for the destinations of the packets alone.
 
-ghost use Rattle.std.specs.Prelude.{◌≡◌, ◌<◌, ◌↔◌, ◌/◌, ℕ, Some, IfOk, IfErr, IsTrue, Contains, filter, length, slice_get};
+ghost use Rattle.std.specs.Prelude.{◌≡◌, ◌<◌, ◌↔◌, ℕ, Some, IfOk, IfErr, Contains, length, slice_get};
 ghost use Rattle.area_graph.specs.Fits.{Fits};
 ghost use Rattle.mrt_graph.specs.Search.{IsMarked};
 ghost use Rattle.mrt_answer.specs.PacketTables.{AreTablesTo, IsAreaAndIsland, IsWanted};
@@ -78,7 +78,7 @@ pub(crate) fn tables_to(
         destinations,
     )?;
     let wanted = wanted_nodes(alloc, &routes, destinations, graph.node_count())?;
-    let mut columns = columns_of(alloc, graph, net.island.root, count_of(&wanted))?;
+    let mut columns = columns_of(alloc, graph, net.island.root, destinations.len())?;
     let rows = columns.rows_to(alloc, graph, &wanted)?;
     Ok(Tables { routes, rows })
 }
@@ -103,11 +103,4 @@ fn wanted_nodes(
         }
     }
     Ok(wanted)
-}
-
-/// How many nodes are wanted.
-fn count_of(wanted: &[bool]) -> usize
-    ensures { result ≡ length (filter (λ mark. mark) wanted.now) }
-{
-    wanted.iter().filter(|mark| **mark).count()
 }

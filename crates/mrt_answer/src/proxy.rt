@@ -1,6 +1,6 @@
 //! `proxy DB PROFILE ROUTER A B`: the rows for a prefix that is attached to two routers.
 
-ghost use Rattle.std.specs.Prelude.{◌≡◌, ◌≢◌, ◌<◌, ℕ, IfOk, IfErr, length};
+ghost use Rattle.std.specs.Prelude.{◌≢◌, ◌<◌, ℕ, IfOk, IfErr, length};
 ghost use Rattle.mrt_rows.specs.Rooted.{MakeColumns};
 ghost use Rattle.proxy_rows.specs.ProxyRows.{AreProxyRows};
 ghost use Rattle.mrt_answer.specs.{Attached.IsAttachedBy, Computed.HasComputed, Input.HasIsland, Input.Input, TextBytes.HasText};

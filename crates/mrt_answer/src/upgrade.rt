@@ -1,6 +1,6 @@
 //! `upgrade DB PROFILE CERT`: an accepted certificate in version 2.
 
-ghost use Rattle.std.specs.Prelude.{◌≡◌, ◌<◌, ℕ, List, None, IfOk, IfErr, length};
+ghost use Rattle.std.specs.Prelude.{◌<◌, ℕ, List, IfOk, IfErr, length};
 ghost use Rattle.mrt_exit.specs.Due.{IsDue};
 ghost use Rattle.mrt_words.specs.Kept.{IsCertRead};
 ghost use Rattle.mrt_answer.specs.{Upgraded.GivesUpgrade, Upgraded.IsUpgrade, Upgraded.IsUpgradeFor, Refusals.IsRejected, TextBytes.HasText, Verdict.IsNoVerdict, Verdict.IsRefusedFor};

@@ -1,6 +1,6 @@
 //! `check DB PROFILE CERT`: the verdict on a certificate file.
 
-ghost use Rattle.std.specs.Prelude.{◌≡◌, ◌<◌, ℕ, List, None, IfOk, IfErr, length};
+ghost use Rattle.std.specs.Prelude.{◌≡◌, ◌<◌, ℕ, List, IfOk, IfErr, length};
 ghost use Rattle.mrt_exit.specs.Due.{IsDue};
 ghost use Rattle.mrt_words.specs.Kept.{IsCertRead};
 ghost use Rattle.mrt_graph.specs.Accepted.{Accepted};

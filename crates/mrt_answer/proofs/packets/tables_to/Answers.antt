@@ -36,6 +36,6 @@ returns c =
       certificate = own.certificate;
       agree = λ t among d at s.
           sym (c.in_ok-rows.ensures.rows own.file own.of_columns d
-          (subst (λ (marks : List Bool). IsMarked marks d) (sym c.deref-2.ensures.value)
+          (subst (λ (marks : List Bool). IsMarked marks d) (sym c.deref.ensures.value)
           ((c.in_ok-wanted.ensures.marked d).1 (record { t = t; among = among; is = node_of_routes parts kept routes c.in_ok-routes.ensures.made t d at }))) s);
     }
