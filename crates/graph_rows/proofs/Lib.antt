@@ -1,0 +1,2 @@
+pub mod HandGraphs
+pub mod Reached

@@ -1,0 +1,109 @@
+//! `order_choice`: the color from each node to each other one by order. There is a letter for each node that has failed, `-` for
+//! the two, and one for each link. The links of the graph are one block.
+
+ghost use Rattle.std.specs.Prelude.{◌≡◌, ◌<◌, IfOk, length};
+ghost use Rattle.inc_dec_spf.specs.HasDirections.{HasDirections};
+
+use crate::gadags::directed_of;
+use inc_dec_spf::{Dir, Reach, spf};
+use mrt_graph::{Color, Directed, Element, Graph, LinkNo, NoMemory, NodeNo};
+use order_repair::order_choice;
+use std::alloc::Global;
+
+/// A node, with the least paths from it.
+#[derive(Drop)]
+pub struct Source {
+    pub node: NodeNo,
+    pub up: Reach,
+    pub down: Reach,
+}
+
+pub fn source_of(alloc: Global, g: &Graph, d: &Directed, node: NodeNo) -> Result<Source, NoMemory>
+    requires directed { HasDirections g.now d.now }
+    requires node { node < length g.now.ids }
+    ensures node { IfOk result (λ source. source.node ≡ node) }
+    ensures one_up_each { IfOk result (λ source. length source.up ≡ length g.now.ids) }
+    ensures one_down_each { IfOk result (λ source. length source.down ≡ length g.now.ids) }
+{
+    let up = spf(alloc, g, d, node, Dir::Up)?;
+    let down = spf(alloc, g, d, node, Dir::Down)?;
+    Ok(Source { node, up, down })
+}
+
+pub fn put_colors(alloc: Global, g: &Graph, root: NodeNo, out: &mut String) -> Result<(), NoMemory>
+    requires { root < length g.now.ids }
+{
+    let d = directed_of(alloc, g, root)?;
+    for n in 0..g.node_count() {
+        put_colors_from(alloc, g, &d, NodeNo::new(n), out)?;
+    }
+    Ok(())
+}
+
+fn put_colors_from(
+    alloc: Global,
+    g: &Graph,
+    d: &Directed,
+    s: NodeNo,
+    out: &mut String,
+) -> Result<(), NoMemory>
+    requires directed { HasDirections g.now d.now }
+    requires source { s < length g.now.ids }
+{
+    let source = source_of(alloc, g, d, s)?;
+    for n in 0..g.node_count() {
+        if n != s.get() {
+            put_colors_to(out, g, d, &source, NodeNo::new(n))?;
+        }
+    }
+    Ok(())
+}
+
+fn put_colors_to(
+    out: &mut String,
+    g: &Graph,
+    d: &Directed,
+    source: &Source,
+    to: NodeNo,
+) -> Result<(), NoMemory>
+    requires directed { HasDirections g.now d.now }
+    requires one_up_each { length source.now.up ≡ length g.now.ids }
+    requires one_down_each { length source.now.down ≡ length g.now.ids }
+    requires source { source.now.node < length g.now.ids }
+    requires to { to < length g.now.ids }
+{
+    write!(out, "from {} to {} ", source.node.get(), to.get())?;
+    for f in 0..g.node_count() {
+        out.push(node_letter(g, d, source, to, NodeNo::new(f)))?;
+    }
+    out.push(' ')?;
+    for e in 0..g.link_count() {
+        let failed = Element::Link(LinkNo::new(e));
+        let color = order_choice(g, d, &source.up, &source.down, source.node, to, failed);
+        out.push(letter(color))?;
+    }
+    out.push('\n')?;
+    Ok(())
+}
+
+fn node_letter(g: &Graph, d: &Directed, source: &Source, to: NodeNo, failed: NodeNo) -> char
+    requires directed { HasDirections g.now d.now }
+    requires one_up_each { length source.now.up ≡ length g.now.ids }
+    requires one_down_each { length source.now.down ≡ length g.now.ids }
+    requires source { source.now.node < length g.now.ids }
+    requires to { to < length g.now.ids }
+    requires failed { failed < length g.now.ids }
+{
+    if failed == source.node || failed == to {
+        return '-';
+    }
+    let failed = Element::Node(failed);
+    letter(order_choice(g, d, &source.up, &source.down, source.node, to, failed))
+}
+
+pub fn letter(color: Color) -> char {
+    match color {
+        Color::Blue => 'b',
+        Color::Red => 'r',
+    }
+}

@@ -1,0 +1,288 @@
+//! `order_walks`: the colors by order beside the walks that the plain program follows. For each two nodes of a block with more than
+//! one link, each other node and each link of the block fails in turn; told is how many walks of the chosen color arrive and do
+//! not use what has failed, and each other one.
+
+ghost use Rattle.std.specs.Prelude.{◌≡◌, ◌<◌, IfOk, IfSome, length};
+ghost use Rattle.inc_dec_spf.specs.HasDirections.{HasDirections};
+ghost use Rattle.mrt_plain.specs.Within.{AreWithin};
+ghost use Rattle.order_repair.specs.Failed.{IsWithin};
+
+use crate::gadags::directed_of;
+use crate::order_colors::{Source, letter, source_of};
+use mrt_graph::{Cert, Color, Directed, Element, Graph, Link, LinkNo, NoMemory, NodeNo};
+use mrt_plain::{Course, follow, links_of};
+use mrt_rows::compute;
+use order_repair::order_choice;
+use std::alloc::Global;
+
+/// A graph with its directions, its links and its certificate.
+#[derive(Clone, Copy)]
+struct Walked<'a> {
+    graph: &'a Graph,
+    directed: &'a Directed,
+    links: &'a [Link],
+    cert: &'a Cert,
+}
+
+/// The walks from one node to another one, on each color.
+#[derive(Drop)]
+struct Pair {
+    to: NodeNo,
+    blue: Course,
+    red: Course,
+}
+
+/// How many walks were asked for, and how many of them go round what has failed.
+#[derive(Clone, Copy)]
+struct Tally {
+    asked: u32,
+    round: u32,
+}
+
+pub fn put_walks(alloc: Global, g: &Graph, root: NodeNo, out: &mut String) -> Result<(), NoMemory>
+    requires { root < length g.now.ids }
+{
+    let directed = directed_of(alloc, g, root)?;
+    let cert = compute(alloc, g, root)?;
+    let links = links_of(alloc, g)?;
+    let walked = Walked {
+        graph: g,
+        directed: &directed,
+        links: &links,
+        cert: &cert,
+    };
+    put_all(alloc, walked, out)
+}
+
+/// Tells how many go round, and each walk that does not.
+fn put_all(alloc: Global, walked: Walked, out: &mut String) -> Result<(), NoMemory>
+    requires within { AreWithin (length walked.graph.now.ids) walked.links.now }
+    requires count { length walked.cert.now.nodes ≡ length walked.graph.now.ids }
+    requires directed { HasDirections walked.graph.now walked.directed.now }
+{
+    let mut tally = Tally { asked: 0, round: 0 };
+    for n in 0..walked.graph.node_count() {
+        follow_from(alloc, walked, NodeNo::new(n), &mut tally, out)?;
+    }
+    writeln!(out, "{} of {} go round", tally.round, tally.asked)?;
+    Ok(())
+}
+
+fn follow_from(
+    alloc: Global,
+    walked: Walked,
+    s: NodeNo,
+    tally: &mut Tally,
+    out: &mut String,
+) -> Result<(), NoMemory>
+    requires within { AreWithin (length walked.graph.now.ids) walked.links.now }
+    requires count { length walked.cert.now.nodes ≡ length walked.graph.now.ids }
+    requires directed { HasDirections walked.graph.now walked.directed.now }
+    requires source { s < length walked.graph.now.ids }
+{
+    let source = source_of(alloc, walked.graph, walked.directed, s)?;
+    for n in 0..walked.graph.node_count() {
+        follow_to(alloc, walked, &source, NodeNo::new(n), tally, out)?;
+    }
+    Ok(())
+}
+
+fn follow_to(
+    alloc: Global,
+    walked: Walked,
+    source: &Source,
+    to: NodeNo,
+    tally: &mut Tally,
+    out: &mut String,
+) -> Result<(), NoMemory>
+    requires within { AreWithin (length walked.graph.now.ids) walked.links.now }
+    requires count { length walked.cert.now.nodes ≡ length walked.graph.now.ids }
+    requires directed { HasDirections walked.graph.now walked.directed.now }
+    requires one_up_each { length source.now.up ≡ length walked.graph.now.ids }
+    requires one_down_each { length source.now.down ≡ length walked.graph.now.ids }
+    requires source { source.now.node < length walked.graph.now.ids }
+    requires to { to < length walked.graph.now.ids }
+{
+    let Some(block) = block_of(walked, source.node, to) else {
+        return Ok(());
+    };
+    let pair = pair_of(alloc, walked, source.node, to)?;
+    fail_nodes(walked, source, &pair, block, tally, out)?;
+    fail_links(walked, source, &pair, block, tally, out)
+}
+
+fn pair_of(alloc: Global, walked: Walked, s: NodeNo, to: NodeNo) -> Result<Pair, NoMemory>
+    requires within { AreWithin (length walked.graph.now.ids) walked.links.now }
+    requires count { length walked.cert.now.nodes ≡ length walked.graph.now.ids }
+    requires source { s < length walked.graph.now.ids }
+    requires to { to < length walked.graph.now.ids }
+    ensures { IfOk result (λ pair. pair.to ≡ to) }
+{
+    let blue = follow(alloc, walked.links, walked.cert, Color::Blue, s, to)?;
+    let red = follow(alloc, walked.links, walked.cert, Color::Red, s, to)?;
+    Ok(Pair { to, blue, red })
+}
+
+/// The block of more than one link that two nodes have in common.
+fn block_of(walked: Walked, s: NodeNo, t: NodeNo) -> Option<NodeNo>
+    requires directed { HasDirections walked.graph.now walked.directed.now }
+    requires source { s < length walked.graph.now.ids }
+    requires to { t < length walked.graph.now.ids }
+    ensures { IfSome result (λ block. block < length walked.graph.now.ids) }
+{
+    let block = common_block(walked.graph, walked.directed, s, t)?;
+    let is_some = s != t && block.get() < walked.graph.node_count();
+    if is_some && count_links(walked.graph, walked.directed, block) > 1 {
+        return Some(block);
+    }
+    None
+}
+
+/// The block that two nodes have in common.
+fn common_block(g: &Graph, d: &Directed, s: NodeNo, t: NodeNo) -> Option<NodeNo>
+    requires directed { HasDirections g.now d.now }
+    requires source { s < length g.now.ids }
+    requires to { t < length g.now.ids }
+{
+    let here = d.place(s);
+    let there = d.place(t);
+    if here.block == there.block || here.head == t {
+        return Some(here.block);
+    }
+    if there.head == s {
+        return Some(there.block);
+    }
+    None
+}
+
+/// How many links a block has.
+fn count_links(g: &Graph, d: &Directed, block: NodeNo) -> u32
+    requires { HasDirections g.now d.now }
+{
+    let mut count: u32 = 0;
+    for e in 0..g.link_count() {
+        if d.mark(LinkNo::new(e)).block == block {
+            count = count.saturating_add(1);
+        }
+    }
+    count
+}
+
+/// Whether a node lies in a block, which is named by one of its nodes, or heads it.
+fn is_node_of(g: &Graph, d: &Directed, block: NodeNo, f: NodeNo) -> bool
+    requires directed { HasDirections g.now d.now }
+    requires block { block < length g.now.ids }
+    requires node { f < length g.now.ids }
+{
+    d.place(f).block == block || d.place(block).head == f
+}
+
+/// Fails each node of a block other than the two.
+fn fail_nodes(
+    walked: Walked,
+    source: &Source,
+    pair: &Pair,
+    block: NodeNo,
+    tally: &mut Tally,
+    out: &mut String,
+) -> Result<(), NoMemory>
+    requires directed { HasDirections walked.graph.now walked.directed.now }
+    requires one_up_each { length source.now.up ≡ length walked.graph.now.ids }
+    requires one_down_each { length source.now.down ≡ length walked.graph.now.ids }
+    requires source { source.now.node < length walked.graph.now.ids }
+    requires to { pair.now.to < length walked.graph.now.ids }
+    requires block { block < length walked.graph.now.ids }
+{
+    for n in 0..walked.graph.node_count() {
+        let f = NodeNo::new(n);
+        let is_end = f == source.node || f == pair.to;
+        if !is_end && is_node_of(walked.graph, walked.directed, block, f) {
+            fail(walked, source, pair, Element::Node(f), tally, out)?;
+        }
+    }
+    Ok(())
+}
+
+/// Fails each link of a block.
+fn fail_links(
+    walked: Walked,
+    source: &Source,
+    pair: &Pair,
+    block: NodeNo,
+    tally: &mut Tally,
+    out: &mut String,
+) -> Result<(), NoMemory>
+    requires directed { HasDirections walked.graph.now walked.directed.now }
+    requires one_up_each { length source.now.up ≡ length walked.graph.now.ids }
+    requires one_down_each { length source.now.down ≡ length walked.graph.now.ids }
+    requires source { source.now.node < length walked.graph.now.ids }
+    requires to { pair.now.to < length walked.graph.now.ids }
+{
+    for e in 0..walked.graph.link_count() {
+        let e = LinkNo::new(e);
+        if walked.directed.mark(e).block == block {
+            fail(walked, source, pair, Element::Link(e), tally, out)?;
+        }
+    }
+    Ok(())
+}
+
+/// Fails one of them.
+fn fail(
+    walked: Walked,
+    source: &Source,
+    pair: &Pair,
+    failed: Element,
+    tally: &mut Tally,
+    out: &mut String,
+) -> Result<(), NoMemory>
+    requires directed { HasDirections walked.graph.now walked.directed.now }
+    requires one_up_each { length source.now.up ≡ length walked.graph.now.ids }
+    requires one_down_each { length source.now.down ≡ length walked.graph.now.ids }
+    requires source { source.now.node < length walked.graph.now.ids }
+    requires to { pair.now.to < length walked.graph.now.ids }
+    requires failed { IsWithin walked.graph.now failed }
+{
+    let (g, d) = (walked.graph, walked.directed);
+    let color = order_choice(g, d, &source.up, &source.down, source.node, pair.to, failed);
+    tally.asked = tally.asked.saturating_add(1);
+    if goes_round(pair, color, failed) {
+        tally.round = tally.round.saturating_add(1);
+        return Ok(());
+    }
+    put_stopped(out, source.node, pair.to, color, failed)
+}
+
+/// Whether the walk on a color arrives and does not use an element.
+fn goes_round(pair: &Pair, color: Color, failed: Element) -> bool {
+    let course = match color {
+        Color::Blue => &pair.blue,
+        Color::Red => &pair.red,
+    };
+    let is_used = match failed {
+        Element::Link(e) => course.links.contains(&e),
+        Element::Node(f) => course.nodes.contains(&f),
+    };
+    course.end == pair.to && !is_used
+}
+
+fn put_stopped(
+    out: &mut String,
+    s: NodeNo,
+    t: NodeNo,
+    color: Color,
+    failed: Element,
+) -> Result<(), NoMemory> {
+    let (kind, number) = match failed {
+        Element::Link(e) => ("link", e.get()),
+        Element::Node(f) => ("node", f.get()),
+    };
+    let letter = letter(color);
+    writeln!(
+        out,
+        "from {} to {}: {letter} where {kind} {number} has failed",
+        s.get(),
+        t.get()
+    )?;
+    Ok(())
+}
