@@ -5,7 +5,8 @@ ghost use Rattle.std.specs.Prelude.{◌≡◌, ◌<◌, IfOk, length};
 ghost use Rattle.inc_dec_spf.specs.HasDirections.{HasDirections};
 
 use crate::gadags::directed_of;
-use inc_dec_spf::{Dir, Reach, spf};
+use crate::paths::reach_of;
+use inc_dec_spf::{Dir, Reach};
 use mrt_graph::{Color, Directed, Element, Graph, LinkNo, NoMemory, NodeNo};
 use order_repair::order_choice;
 use std::alloc::Global;
@@ -25,8 +26,8 @@ pub fn source_of(alloc: Global, g: &Graph, d: &Directed, node: NodeNo) -> Result
     ensures one_up_each { IfOk result (λ source. length source.up ≡ length g.now.ids) }
     ensures one_down_each { IfOk result (λ source. length source.down ≡ length g.now.ids) }
 {
-    let up = spf(alloc, g, d, node, Dir::Up)?;
-    let down = spf(alloc, g, d, node, Dir::Down)?;
+    let up = reach_of(alloc, g, d, node, Dir::Up)?;
+    let down = reach_of(alloc, g, d, node, Dir::Down)?;
     Ok(Source { node, up, down })
 }
 

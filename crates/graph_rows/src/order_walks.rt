@@ -51,14 +51,14 @@ pub fn put_walks(alloc: Global, g: &Graph, root: NodeNo, out: &mut String) -> Re
         links: &links,
         cert: &cert,
     };
-    put_all(alloc, walked, out)
+    put_all(alloc, &walked, out)
 }
 
 /// Tells how many go round, and each walk that does not.
-fn put_all(alloc: Global, walked: Walked, out: &mut String) -> Result<(), NoMemory>
-    requires within { AreWithin (length walked.graph.now.ids) walked.links.now }
-    requires count { length walked.cert.now.nodes ≡ length walked.graph.now.ids }
-    requires directed { HasDirections walked.graph.now walked.directed.now }
+fn put_all(alloc: Global, walked: &Walked, out: &mut String) -> Result<(), NoMemory>
+    requires within { AreWithin (length walked.now.graph.now.ids) walked.now.links.now }
+    requires count { length walked.now.cert.now.nodes ≡ length walked.now.graph.now.ids }
+    requires directed { HasDirections walked.now.graph.now walked.now.directed.now }
 {
     let mut tally = Tally { asked: 0, round: 0 };
     for n in 0..walked.graph.node_count() {
@@ -70,15 +70,15 @@ fn put_all(alloc: Global, walked: Walked, out: &mut String) -> Result<(), NoMemo
 
 fn follow_from(
     alloc: Global,
-    walked: Walked,
+    walked: &Walked,
     s: NodeNo,
     tally: &mut Tally,
     out: &mut String,
 ) -> Result<(), NoMemory>
-    requires within { AreWithin (length walked.graph.now.ids) walked.links.now }
-    requires count { length walked.cert.now.nodes ≡ length walked.graph.now.ids }
-    requires directed { HasDirections walked.graph.now walked.directed.now }
-    requires source { s < length walked.graph.now.ids }
+    requires within { AreWithin (length walked.now.graph.now.ids) walked.now.links.now }
+    requires count { length walked.now.cert.now.nodes ≡ length walked.now.graph.now.ids }
+    requires directed { HasDirections walked.now.graph.now walked.now.directed.now }
+    requires source { s < length walked.now.graph.now.ids }
 {
     let source = source_of(alloc, walked.graph, walked.directed, s)?;
     for n in 0..walked.graph.node_count() {
@@ -89,19 +89,19 @@ fn follow_from(
 
 fn follow_to(
     alloc: Global,
-    walked: Walked,
+    walked: &Walked,
     source: &Source,
     to: NodeNo,
     tally: &mut Tally,
     out: &mut String,
 ) -> Result<(), NoMemory>
-    requires within { AreWithin (length walked.graph.now.ids) walked.links.now }
-    requires count { length walked.cert.now.nodes ≡ length walked.graph.now.ids }
-    requires directed { HasDirections walked.graph.now walked.directed.now }
-    requires one_up_each { length source.now.up ≡ length walked.graph.now.ids }
-    requires one_down_each { length source.now.down ≡ length walked.graph.now.ids }
-    requires source { source.now.node < length walked.graph.now.ids }
-    requires to { to < length walked.graph.now.ids }
+    requires within { AreWithin (length walked.now.graph.now.ids) walked.now.links.now }
+    requires count { length walked.now.cert.now.nodes ≡ length walked.now.graph.now.ids }
+    requires directed { HasDirections walked.now.graph.now walked.now.directed.now }
+    requires one_up_each { length source.now.up ≡ length walked.now.graph.now.ids }
+    requires one_down_each { length source.now.down ≡ length walked.now.graph.now.ids }
+    requires source { source.now.node < length walked.now.graph.now.ids }
+    requires to { to < length walked.now.graph.now.ids }
 {
     let Some(block) = block_of(walked, source.node, to) else {
         return Ok(());
@@ -111,11 +111,11 @@ fn follow_to(
     fail_links(walked, source, &pair, block, tally, out)
 }
 
-fn pair_of(alloc: Global, walked: Walked, s: NodeNo, to: NodeNo) -> Result<Pair, NoMemory>
-    requires within { AreWithin (length walked.graph.now.ids) walked.links.now }
-    requires count { length walked.cert.now.nodes ≡ length walked.graph.now.ids }
-    requires source { s < length walked.graph.now.ids }
-    requires to { to < length walked.graph.now.ids }
+fn pair_of(alloc: Global, walked: &Walked, s: NodeNo, to: NodeNo) -> Result<Pair, NoMemory>
+    requires within { AreWithin (length walked.now.graph.now.ids) walked.now.links.now }
+    requires count { length walked.now.cert.now.nodes ≡ length walked.now.graph.now.ids }
+    requires source { s < length walked.now.graph.now.ids }
+    requires to { to < length walked.now.graph.now.ids }
     ensures { IfOk result (λ pair. pair.to ≡ to) }
 {
     let blue = follow(alloc, walked.links, walked.cert, Color::Blue, s, to)?;
@@ -124,11 +124,11 @@ fn pair_of(alloc: Global, walked: Walked, s: NodeNo, to: NodeNo) -> Result<Pair,
 }
 
 /// The block of more than one link that two nodes have in common.
-fn block_of(walked: Walked, s: NodeNo, t: NodeNo) -> Option<NodeNo>
-    requires directed { HasDirections walked.graph.now walked.directed.now }
-    requires source { s < length walked.graph.now.ids }
-    requires to { t < length walked.graph.now.ids }
-    ensures { IfSome result (λ block. block < length walked.graph.now.ids) }
+fn block_of(walked: &Walked, s: NodeNo, t: NodeNo) -> Option<NodeNo>
+    requires directed { HasDirections walked.now.graph.now walked.now.directed.now }
+    requires source { s < length walked.now.graph.now.ids }
+    requires to { t < length walked.now.graph.now.ids }
+    ensures { IfSome result (λ block. block < length walked.now.graph.now.ids) }
 {
     let block = common_block(walked.graph, walked.directed, s, t)?;
     let is_some = s != t && block.get() < walked.graph.node_count();
@@ -179,19 +179,19 @@ fn is_node_of(g: &Graph, d: &Directed, block: NodeNo, f: NodeNo) -> bool
 
 /// Fails each node of a block other than the two.
 fn fail_nodes(
-    walked: Walked,
+    walked: &Walked,
     source: &Source,
     pair: &Pair,
     block: NodeNo,
     tally: &mut Tally,
     out: &mut String,
 ) -> Result<(), NoMemory>
-    requires directed { HasDirections walked.graph.now walked.directed.now }
-    requires one_up_each { length source.now.up ≡ length walked.graph.now.ids }
-    requires one_down_each { length source.now.down ≡ length walked.graph.now.ids }
-    requires source { source.now.node < length walked.graph.now.ids }
-    requires to { pair.now.to < length walked.graph.now.ids }
-    requires block { block < length walked.graph.now.ids }
+    requires directed { HasDirections walked.now.graph.now walked.now.directed.now }
+    requires one_up_each { length source.now.up ≡ length walked.now.graph.now.ids }
+    requires one_down_each { length source.now.down ≡ length walked.now.graph.now.ids }
+    requires source { source.now.node < length walked.now.graph.now.ids }
+    requires to { pair.now.to < length walked.now.graph.now.ids }
+    requires block { block < length walked.now.graph.now.ids }
 {
     for n in 0..walked.graph.node_count() {
         let f = NodeNo::new(n);
@@ -205,18 +205,18 @@ fn fail_nodes(
 
 /// Fails each link of a block.
 fn fail_links(
-    walked: Walked,
+    walked: &Walked,
     source: &Source,
     pair: &Pair,
     block: NodeNo,
     tally: &mut Tally,
     out: &mut String,
 ) -> Result<(), NoMemory>
-    requires directed { HasDirections walked.graph.now walked.directed.now }
-    requires one_up_each { length source.now.up ≡ length walked.graph.now.ids }
-    requires one_down_each { length source.now.down ≡ length walked.graph.now.ids }
-    requires source { source.now.node < length walked.graph.now.ids }
-    requires to { pair.now.to < length walked.graph.now.ids }
+    requires directed { HasDirections walked.now.graph.now walked.now.directed.now }
+    requires one_up_each { length source.now.up ≡ length walked.now.graph.now.ids }
+    requires one_down_each { length source.now.down ≡ length walked.now.graph.now.ids }
+    requires source { source.now.node < length walked.now.graph.now.ids }
+    requires to { pair.now.to < length walked.now.graph.now.ids }
 {
     for e in 0..walked.graph.link_count() {
         let e = LinkNo::new(e);
@@ -229,19 +229,19 @@ fn fail_links(
 
 /// Fails one of them.
 fn fail(
-    walked: Walked,
+    walked: &Walked,
     source: &Source,
     pair: &Pair,
     failed: Element,
     tally: &mut Tally,
     out: &mut String,
 ) -> Result<(), NoMemory>
-    requires directed { HasDirections walked.graph.now walked.directed.now }
-    requires one_up_each { length source.now.up ≡ length walked.graph.now.ids }
-    requires one_down_each { length source.now.down ≡ length walked.graph.now.ids }
-    requires source { source.now.node < length walked.graph.now.ids }
-    requires to { pair.now.to < length walked.graph.now.ids }
-    requires failed { IsWithin walked.graph.now failed }
+    requires directed { HasDirections walked.now.graph.now walked.now.directed.now }
+    requires one_up_each { length source.now.up ≡ length walked.now.graph.now.ids }
+    requires one_down_each { length source.now.down ≡ length walked.now.graph.now.ids }
+    requires source { source.now.node < length walked.now.graph.now.ids }
+    requires to { pair.now.to < length walked.now.graph.now.ids }
+    requires failed { IsWithin walked.now.graph.now failed }
 {
     let (g, d) = (walked.graph, walked.directed);
     let color = order_choice(g, d, &source.up, &source.down, source.node, pair.to, failed);

@@ -1,7 +1,7 @@
 //! `spf`: of each node the least paths up and down to all nodes; and `spf_to`: those to it from all nodes. Each path is told by
 //! its cost and the link of its first end.
 
-ghost use Rattle.std.specs.Prelude.{◌≡◌, ◌<◌, length};
+ghost use Rattle.std.specs.Prelude.{◌≡◌, ◌<◌, IfOk, length};
 ghost use Rattle.inc_dec_spf.specs.HasDirections.{HasDirections};
 
 use crate::gadags::directed_of;
@@ -20,6 +20,22 @@ pub fn put_paths(alloc: Global, g: &Graph, root: NodeNo, out: &mut String) -> Re
     Ok(())
 }
 
+/// The least paths from a node.
+pub fn reach_of(
+    alloc: Global,
+    g: &Graph,
+    d: &Directed,
+    s: NodeNo,
+    dir: Dir,
+) -> Result<Reach, NoMemory>
+    requires directed { HasDirections g.now d.now }
+    requires source { s < length g.now.ids }
+    ensures { IfOk result (λ reach. length reach ≡ length g.now.ids) }
+{
+    let reach = spf(alloc, g, d, s, dir)?;
+    Ok(reach)
+}
+
 fn put_from(
     alloc: Global,
     g: &Graph,
@@ -31,7 +47,7 @@ fn put_from(
     requires directed { HasDirections g.now d.now }
     requires source { s < length g.now.ids }
 {
-    let reach = spf(alloc, g, d, s, dir)?;
+    let reach = reach_of(alloc, g, d, s, dir)?;
     write!(out, "from {} {}", s.get(), dir_word(dir))?;
     put_reach(out, &reach, g.node_count())
 }
@@ -52,6 +68,16 @@ pub fn put_paths_to(
     Ok(())
 }
 
+/// The least paths to a node.
+fn reach_to(alloc: Global, g: &Graph, d: &Directed, t: NodeNo, dir: Dir) -> Result<Reach, NoMemory>
+    requires directed { HasDirections g.now d.now }
+    requires target { t < length g.now.ids }
+    ensures { IfOk result (λ reach. length reach ≡ length g.now.ids) }
+{
+    let reach = spf_to(alloc, g, d, t, dir)?;
+    Ok(reach)
+}
+
 fn put_to(
     alloc: Global,
     g: &Graph,
@@ -63,7 +89,7 @@ fn put_to(
     requires directed { HasDirections g.now d.now }
     requires target { t < length g.now.ids }
 {
-    let reach = spf_to(alloc, g, d, t, dir)?;
+    let reach = reach_to(alloc, g, d, t, dir)?;
     write!(out, "to {} {}", t.get(), dir_word(dir))?;
     put_reach(out, &reach, g.node_count())
 }

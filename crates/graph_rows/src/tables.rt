@@ -63,6 +63,13 @@ pub fn put_near_rows(
 {
     let mut rows = SourceRows::new(alloc, g, root)?;
     put_near_words(alloc, g, &rows, out)?;
+    put_near_each(out, g, &mut rows)
+}
+
+fn put_near_each(out: &mut String, g: &Graph, rows: &mut SourceRows) -> Result<(), NoMemory>
+    requires { MakeRows g.now rows.old }
+    ensures { MakeRows g.now rows.new }
+{
     for n in 0..g.node_count() {
         rows.find(g, NodeNo::new(n));
         write!(out, "from {n}")?;
@@ -112,7 +119,7 @@ fn put_column_of(
     requires to { to < length g.now.ids }
 {
     let column = column_of(alloc, g, root, d, to)?;
-    put_column(out, &column, to, g.node_count())
+    put_column(out, g, to, &column)
 }
 
 pub fn put_columns(alloc: Global, g: &Graph, root: NodeNo, out: &mut String) -> Result<(), NoMemory>
@@ -138,14 +145,14 @@ fn put_next_column(
 {
     columns.aim(g, to);
     let column = columns.column(g).held(alloc)?;
-    put_column(out, &column, to, g.node_count())
+    put_column(out, g, to, &column)
 }
 
-fn put_column(out: &mut String, column: &Column, to: NodeNo, count: u16) -> Result<(), NoMemory>
-    requires { length column.now ≡ count }
+fn put_column(out: &mut String, g: &Graph, to: NodeNo, column: &Column) -> Result<(), NoMemory>
+    requires { length column.now ≡ length g.now.ids }
 {
     write!(out, "to {}", to.get())?;
-    for n in 0..count {
+    for n in 0..g.node_count() {
         match column.row(NodeNo::new(n)) {
             Some(row) => put_row(out, &row)?,
             None => out.push_str(" -")?,
