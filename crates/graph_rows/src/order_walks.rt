@@ -197,7 +197,7 @@ fn fail_nodes(
         let f = NodeNo::new(n);
         let is_end = f == source.node || f == pair.to;
         if !is_end && is_node_of(walked.graph, walked.directed, block, f) {
-            fail(walked, source, pair, Element::Node(f), tally, out)?;
+            fail(walked, source, pair, &Element::Node(f), tally, out)?;
         }
     }
     Ok(())
@@ -221,7 +221,7 @@ fn fail_links(
     for e in 0..walked.graph.link_count() {
         let e = LinkNo::new(e);
         if walked.directed.mark(e).block == block {
-            fail(walked, source, pair, Element::Link(e), tally, out)?;
+            fail(walked, source, pair, &Element::Link(e), tally, out)?;
         }
     }
     Ok(())
@@ -232,7 +232,7 @@ fn fail(
     walked: &Walked,
     source: &Source,
     pair: &Pair,
-    failed: Element,
+    failed: &Element,
     tally: &mut Tally,
     out: &mut String,
 ) -> Result<(), NoMemory>
@@ -241,10 +241,18 @@ fn fail(
     requires one_down_each { length source.now.down ≡ length walked.now.graph.now.ids }
     requires source { source.now.node < length walked.now.graph.now.ids }
     requires to { pair.now.to < length walked.now.graph.now.ids }
-    requires failed { IsWithin walked.now.graph.now failed }
+    requires failed { IsWithin walked.now.graph.now failed.now }
 {
     let (g, d) = (walked.graph, walked.directed);
-    let color = order_choice(g, d, &source.up, &source.down, source.node, pair.to, failed);
+    let color = order_choice(
+        g,
+        d,
+        &source.up,
+        &source.down,
+        source.node,
+        pair.to,
+        *failed,
+    );
     tally.asked = tally.asked.saturating_add(1);
     if goes_round(pair, color, failed) {
         tally.round = tally.round.saturating_add(1);
@@ -254,14 +262,14 @@ fn fail(
 }
 
 /// Whether the walk on a color arrives and does not use an element.
-fn goes_round(pair: &Pair, color: Color, failed: Element) -> bool {
+fn goes_round(pair: &Pair, color: Color, failed: &Element) -> bool {
     let course = match color {
         Color::Blue => &pair.blue,
         Color::Red => &pair.red,
     };
     let is_used = match failed {
-        Element::Link(e) => course.links.contains(&e),
-        Element::Node(f) => course.nodes.contains(&f),
+        Element::Link(e) => course.links.contains(e),
+        Element::Node(f) => course.nodes.contains(f),
     };
     course.end == pair.to && !is_used
 }
@@ -271,7 +279,7 @@ fn put_stopped(
     s: NodeNo,
     t: NodeNo,
     color: Color,
-    failed: Element,
+    failed: &Element,
 ) -> Result<(), NoMemory> {
     let (kind, number) = match failed {
         Element::Link(e) => ("link", e.get()),

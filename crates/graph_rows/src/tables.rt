@@ -126,8 +126,19 @@ pub fn put_columns(alloc: Global, g: &Graph, root: NodeNo, out: &mut String) -> 
     requires { root < length g.now.ids }
 {
     let mut columns = RootedColumns::for_some(alloc, g, root, DESTINATIONS)?;
+    put_each_column(alloc, g, &mut columns, out)
+}
+
+fn put_each_column(
+    alloc: Global,
+    g: &Graph,
+    columns: &mut RootedColumns,
+    out: &mut String,
+) -> Result<(), NoMemory>
+    requires { MakeColumns g.now columns.old }
+{
     for n in 0..g.node_count() {
-        put_next_column(alloc, g, &mut columns, NodeNo::new(n), out)?;
+        put_next_column(alloc, g, columns, NodeNo::new(n), out)?;
     }
     Ok(())
 }
