@@ -1,0 +1,2 @@
+pub mod ProxyFiles
+pub mod PutSteps
