@@ -1,6 +1,8 @@
 //! Bytes as words tell them and as answers show them: a space is `\s`, a tab `\t`, a line feed `\n`, a carriage return `\r`,
 //! and any other byte that is not shown is `\x` and its two digits.
 
+ghost use Rattle.std.specs.Prelude.{◌<◌};
+
 use crate::told::told;
 use mrt_graph::NoMemory;
 use std::alloc::Global;

@@ -2,4 +2,4 @@ use Rattle.mrt_plain.specs.Within.{AreWithin}
 use Rattle.base_rows.proofs.island.links_between.Given as goal
 
 abbrev pub invariant-loop-pair : goal.invariant-loop-pair
-invariant-loop-pair g l = AreWithin l.count l.links.items
+invariant-loop-pair l = AreWithin l.count l.links.items
