@@ -18,15 +18,19 @@ def sums(data):
     return c0, c1
 
 
-def lsa(kind, number, router, body, age=1, sequence=FIRST_SEQUENCE):
-    """An LSA of any type with this link state ID, advertising router and body, with a fresh checksum (RFC 2328, section 12.1.7)."""
-    head = struct.pack(">HBBIII", age, 2, kind, number, router, sequence)
-    tail = struct.pack(">H", 20 + len(body)) + body
-    covered = head[2:] + b"\0\0" + tail
+def check_bytes(covered):
+    """The checksum of what stands after the age, in which its own place has 0 (RFC 2328, section 12.1.7; RFC 905, annex B)."""
     c0, c1 = sums(covered)
     size = len(covered)
     check = ((size - 15) * c0 - c1) % 255, (c1 - (size - 14) * c0) % 255
-    return head + bytes(value or 255 for value in check) + tail
+    return bytes(value or 255 for value in check)
+
+
+def lsa(kind, number, router, body, age=1, sequence=FIRST_SEQUENCE):
+    """An LSA of any type with this link state ID, advertising router and body, with a fresh checksum."""
+    head = struct.pack(">HBBIII", age, 2, kind, number, router, sequence)
+    tail = struct.pack(">H", 20 + len(body)) + body
+    return head + check_bytes(head[2:] + b"\0\0" + tail) + tail
 
 
 def router_lsa(router, links, age=1, sequence=FIRST_SEQUENCE, flags=0):
