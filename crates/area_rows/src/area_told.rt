@@ -26,11 +26,7 @@ pub fn area(alloc: Global, bytes: &[u8], out: &mut String) -> Result<Option<Area
 }
 
 /// The area of a database; where there is none, it says why.
-pub fn area_in(
-    alloc: Global,
-    database: &Lsdb,
-    out: &mut String,
-) -> Result<Option<Area>, NoMemory> {
+pub fn area_in(alloc: Global, database: &Lsdb, out: &mut String) -> Result<Option<Area>, NoMemory> {
     if let Err(conflict) = database.settled() {
         let (first, second) = (conflict.first, conflict.second);
         writeln!(out, "conflict at {second} with {first}")?;

@@ -26,12 +26,7 @@ pub fn answer(
     Ok(true)
 }
 
-fn put_answer(
-    call: &str,
-    area: &Area,
-    words: &[&str],
-    out: &mut String,
-) -> Result<(), NoMemory> {
+fn put_answer(call: &str, area: &Area, words: &[&str], out: &mut String) -> Result<(), NoMemory> {
     match call {
         "area" => put_area(out, area),
         "find" => put_found(out, area, words),
@@ -132,8 +127,13 @@ fn put_numbered(out: &mut String, area: &Area) -> Result<(), NoMemory> {
         return Ok(());
     }
     let row = area.arcs(Spot::new(0));
-    for number in 0..row.len().min(65536) {
-        put_arc(out, &area.arc(ArcNo::new(number as u16)))?;
+    for number in 0..u16::MAX {
+        let place = usize::from(number);
+        if row.len() <= place {
+            break;
+        }
+        let arc = ArcNo::new(number);
+        put_arc(out, &area.arc(arc))?;
     }
     Ok(())
 }

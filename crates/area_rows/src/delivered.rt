@@ -7,9 +7,7 @@ use crate::told::{file, front, number, number_16, text};
 use area_graph::{Area, build_area};
 use file_key::FileKey;
 use flood_core::{Answer, Flood, SharedLsdb, read_updates};
-use flood_script::{
-    Compare, FloodLine, FloodScriptError, Verdict, flood_text, read_flood_script,
-};
+use flood_script::{Compare, FloodLine, FloodScriptError, Verdict, flood_text, read_flood_script};
 use lsdb::Lsdb;
 use mrt_graph::{NoMemory, NodeId};
 use std::alloc::Global;

@@ -54,12 +54,7 @@ fn put_profile(alloc: Global, words: &[&str], out: &mut String) -> Result<(), No
     put_said(out, &profile, router, data)
 }
 
-fn put_said(
-    out: &mut String,
-    profile: &Profile,
-    router: u32,
-    data: u32,
-) -> Result<(), NoMemory> {
+fn put_said(out: &mut String, profile: &Profile, router: u32, data: u32) -> Result<(), NoMemory> {
     let (priority, supports) = (profile.priority(router), profile.supports(router));
     let eligible = profile.eligible(router, data);
     writeln!(

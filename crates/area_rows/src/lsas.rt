@@ -110,12 +110,7 @@ fn last_of(alloc: Global, bytes: &[u8]) -> Option<Lsa>
 }
 
 /// Whether the last LSAs of two files are equal, and whether their bodies are.
-fn put_alike(
-    alloc: Global,
-    bytes: &[u8],
-    others: &[u8],
-    out: &mut String,
-) -> Result<(), NoMemory>
+fn put_alike(alloc: Global, bytes: &[u8], others: &[u8], out: &mut String) -> Result<(), NoMemory>
     requires bytes { length bytes.now ≤ 8388608 }
     requires others { length others.now ≤ 8388608 }
 {

@@ -73,14 +73,16 @@ fn is_answered(
     words: &[&str],
     out: &mut String,
 ) -> Result<bool, NoMemory> {
-    Ok(lsas::answer(alloc, call, files, words, out)?
-        || written::answer(alloc, call, files, words, out)?
-        || instances::answer(alloc, call, words, out)?
-        || packets::answer(alloc, call, files, out)?
-        || delivered::answer(alloc, call, files, words, out)?
-        || areas::answer(alloc, call, files, words, out)?
-        || islands::answer(alloc, call, files, words, out)?
-        || limits::answer(alloc, call, words, out)?)
+    Ok(
+        lsas::answer(alloc, call, files, words, out)?
+            || written::answer(alloc, call, files, words, out)?
+            || instances::answer(alloc, call, words, out)?
+            || packets::answer(alloc, call, files, out)?
+            || delivered::answer(alloc, call, files, words, out)?
+            || areas::answer(alloc, call, files, words, out)?
+            || islands::answer(alloc, call, files, words, out)?
+            || limits::answer(alloc, call, words, out)?,
+    )
 }
 
 /// One line stands after the name, several stand below it.

@@ -86,8 +86,7 @@ fn put_read_back(alloc: Global, lsa: &Lsa, out: &mut String) -> Result<(), NoMem
 }
 
 /// The bytes of an LSA of the greatest length, 65,535 bytes.
-fn longest(alloc: Global) -> Result<Vec<u8>, NoMemory>
-{
+fn longest(alloc: Global) -> Result<Vec<u8>, NoMemory> {
     write_lsa(
         alloc,
         &Lsa {
@@ -106,12 +105,7 @@ fn longest(alloc: Global) -> Result<Vec<u8>, NoMemory>
     )
 }
 
-fn put_longest(
-    alloc: Global,
-    count: u32,
-    less: u32,
-    out: &mut String,
-) -> Result<(), NoMemory> {
+fn put_longest(alloc: Global, count: u32, less: u32, out: &mut String) -> Result<(), NoMemory> {
     let record = longest(alloc)?;
     let mut file = Vec::new(alloc);
     for _ in 0..count.min(100) {
