@@ -187,29 +187,6 @@ pub fn link(a: u16, b: u16, metric_a: u16, metric_b: u16) -> LinkIn {
     }
 }
 
-/// Both nodes of a link, and its metric at each of them.
-pub type LinkTold = (u16, u16, u16, u16);
-
-/// The links that these tell.
-fn links_of(alloc: Global, told: &[LinkTold]) -> Result<Vec<LinkIn>, NoMemory> {
-    let mut links = Vec::new(alloc);
-    for (a, b, metric_a, metric_b) in told {
-        links.push(link(*a, *b, *metric_a, *metric_b))?;
-    }
-    Ok(links)
-}
-
-/// The graph of so many nodes, the first of them routers, with the links that these tell, where they are one.
-pub fn graph_told(
-    alloc: Global,
-    count: u16,
-    routers: u16,
-    told: &[LinkTold],
-) -> Result<Option<Graph>, GraphError> {
-    let links = links_of(alloc, told)?;
-    graph(alloc, count, routers, links)
-}
-
 /// The links of a ring of so many routers.
 fn ring_links(alloc: Global, count: u16) -> Result<Vec<LinkIn>, NoMemory> {
     let mut links = Vec::new(alloc);
