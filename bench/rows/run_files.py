@@ -292,11 +292,9 @@ FILES = {
 
 CERTIFICATES = {
     # router 1.1.1.1 alone
-    "router": certificate("1.1.1.1",
-        ["1.1.1.1 1 0 0"], [], []),
+    "router": certificate("1.1.1.1", ["1.1.1.1 1 0 0"], [], []),
     # router 2.2.2.2 alone
-    "router_2": certificate("2.2.2.2",
-        ["2.2.2.2 1 0 0"], [], []),
+    "router_2": certificate("2.2.2.2", ["2.2.2.2 1 0 0"], [], []),
     # the triangle
     "triangle": certificate(
         "3.3.3.3",

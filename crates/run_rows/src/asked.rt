@@ -1,6 +1,6 @@
 //! The parts of a row after its call: `SETTINGS : WORDS > FILE << LINES`, of which all but the words may be missing.
 
-use mrt_graph::NoMemory;
+use crate::telling::put;
 use mrt_io::Word;
 use std::alloc::Global;
 
@@ -52,33 +52,35 @@ fn unquoted<'a>(word: &'a str) -> &'a str {
 }
 
 /// The words of the top call.
-pub fn list_of(alloc: Global, words: Words<'_>) -> Result<Vec<Word>, NoMemory> {
+pub fn list_of(alloc: Global, words: Words<'_>) -> Vec<Word> {
     let mut list = Vec::new(alloc);
     for word in words {
-        list.push(Word::new(alloc, unquoted(word).as_bytes())?)?;
+        if let Ok(word) = Word::new(alloc, unquoted(word).as_bytes()) {
+            let _ = list.push(word);
+        }
     }
-    Ok(list)
+    list
 }
 
 /// The text that stands in a row: a `/` is the end of a line, and all other words have a space between them.
-pub fn text_of(alloc: Global, lines: Words<'_>) -> Result<Vec<u8>, NoMemory> {
+pub fn text_of(alloc: Global, lines: Words<'_>) -> Vec<u8> {
     let mut text = Vec::new(alloc);
     let mut begins = true;
     for word in lines {
-        put_word(&mut text, begins, word)?;
+        if *word == "/" {
+            put(&mut text, b"\n");
+        } else {
+            put(
+                &mut text,
+                if begins {
+                    b"".as_slice()
+                } else {
+                    b" ".as_slice()
+                },
+            );
+            put(&mut text, word.as_bytes());
+        }
         begins = *word == "/";
     }
-    Ok(text)
-}
-
-fn put_word(text: &mut Vec<u8>, begins: bool, word: &str) -> Result<(), NoMemory> {
-    if word == "/" {
-        text.push(b'\n')?;
-        return Ok(());
-    }
-    if !begins {
-        text.push(b' ')?;
-    }
-    text.extend_from_slice(word.as_bytes())?;
-    Ok(())
+    text
 }

@@ -27,40 +27,26 @@ pub const CALM: Devices = Devices {
     error: NEVER,
 };
 
-/// The devices with one more setting, `NAME=NUMBER`.
-fn with(devices: Devices, setting: &str) -> Option<Devices> {
+/// Puts in one more setting, `NAME=NUMBER`, if it is one.
+fn set(devices: &mut Devices, setting: &str) -> Option<()> {
     let (name, number) = setting.split_once('=')?;
     let number = number.parse::<u32>().ok()?;
     match name {
-        "read" => Some(Devices {
-            read: number,
-            ..devices
-        }),
-        "room" => Some(Devices {
-            room: number,
-            ..devices
-        }),
-        "step" => Some(Devices {
-            step: number,
-            ..devices
-        }),
-        "write" => Some(Devices {
-            write: number,
-            ..devices
-        }),
-        "error" => Some(Devices {
-            error: number,
-            ..devices
-        }),
-        _ => None,
+        "read" => devices.read = number,
+        "room" => devices.room = number,
+        "step" => devices.step = number,
+        "write" => devices.write = number,
+        "error" => devices.error = number,
+        _ => return None,
     }
+    Some(())
 }
 
 /// The devices that the settings tell.
 pub fn devices_of(settings: &[&str]) -> Option<Devices> {
     let mut devices = CALM;
     for setting in settings {
-        devices = with(devices, setting)?;
+        set(&mut devices, setting)?;
     }
     Some(devices)
 }
@@ -85,6 +71,12 @@ pub fn new_streams(alloc: Global, devices: Devices) -> Result<Streams, NoMemory>
 }
 
 fn sink(alloc: Global, room: u32, step: u32, fails: u32) -> Result<MemSink, NoMemory> {
-    let fails = vec![in alloc; fails]?;
-    MemSink::new(alloc, room, step.max(1), fails)
+    MemSink::new(alloc, room, step.max(1), one(alloc, fails))
+}
+
+/// The numbers of the calls that fail: this one.
+pub fn one(alloc: Global, number: u32) -> Vec<u32> {
+    let mut list = Vec::new(alloc);
+    let _ = list.push(number);
+    list
 }

@@ -8,8 +8,7 @@ ghost use Rattle.mrt_io.specs.Named.{named};
 
 use crate::asked::{Asked, text_of};
 use crate::made::made;
-use mrt_graph::NoMemory;
-use mrt_io::{FileShelf, Shelf, ShelfError, Word};
+use mrt_io::{FileShelf, Shelf, Word};
 use std::alloc::Global;
 use std::rt::Files;
 
@@ -20,55 +19,41 @@ const LIMIT: u32 = 1_000_000;
 pub type Held = (Word, Vec<u8>);
 
 /// The bytes of a file of the folder, if it is there.
-pub fn read<R: Files>(rt: &R, alloc: Global, name: &str) -> Result<Option<Vec<u8>>, NoMemory> {
+pub fn read<R: Files>(rt: &R, alloc: Global, name: &str) -> Option<Vec<u8>> {
     let mut shelf = FileShelf::new(rt);
-    let name = Word::new(alloc, name.as_bytes())?;
-    match shelf.read(alloc, &name, LIMIT) {
-        Ok(bytes) => Ok(Some(bytes)),
-        Err(ShelfError::NoMemory) => Err(NoMemory),
-        Err(_) => Ok(None),
-    }
+    let name = Word::new(alloc, name.as_bytes()).ok()?;
+    shelf.read(alloc, &name, LIMIT).ok()
 }
 
 /// The bytes of the file that a word names, if it names one.
-fn file_of<R: Files>(
-    rt: &R,
-    alloc: Global,
-    word: &str,
-    asked: &Asked<'_>,
-) -> Result<Option<Vec<u8>>, NoMemory> {
+fn file_of<R: Files>(rt: &R, alloc: Global, word: &str, asked: &Asked<'_>) -> Option<Vec<u8>> {
     if word == "lines" {
-        return Ok(Some(text_of(alloc, asked.lines)?));
+        return Some(text_of(alloc, asked.lines));
     }
-    match made(alloc, word)? {
-        Some(file) => Ok(Some(file)),
+    match made(alloc, word) {
+        Some(file) => Some(file),
         None => read(rt, alloc, word),
     }
 }
 
-fn hold_one<R: Files>(
-    rt: &R,
-    alloc: Global,
-    word: &str,
-    asked: &Asked<'_>,
-    files: &mut Vec<Held>,
-) -> Result<(), NoMemory> {
-    let name = Word::new(alloc, word.as_bytes())?;
-    if let Some(file) = file_of(rt, alloc, word, asked)? {
-        files.push((name, file))?;
+/// Adds a file under its name.
+fn push_file(files: &mut Vec<Held>, alloc: Global, word: &str, file: Vec<u8>) {
+    if let Ok(name) = Word::new(alloc, word.as_bytes()) {
+        let _ = files.push((name, file));
     }
-    Ok(())
 }
 
 /// The files that the words name, in memory.
-pub fn hold<R: Files>(rt: &R, alloc: Global, asked: &Asked<'_>) -> Result<Vec<Held>, NoMemory> {
+pub fn hold<R: Files>(rt: &R, alloc: Global, asked: &Asked<'_>) -> Vec<Held> {
     let mut files = Vec::new(alloc);
     for word in asked.words {
         if is_new(word.as_bytes(), &files) {
-            hold_one(rt, alloc, word, asked, &mut files)?;
+            if let Some(file) = file_of(rt, alloc, word, asked) {
+                push_file(&mut files, alloc, word, file);
+            }
         }
     }
-    Ok(files)
+    files
 }
 
 /// Whether no file stands under this name.

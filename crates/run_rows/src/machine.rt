@@ -20,34 +20,21 @@ pub fn answer<R: Files>(
     if call != "run" {
         return Ok(false);
     }
-    put_run(rt, alloc, &asked_of(words), out)?;
+    let asked = asked_of(words);
+    let mut streams = new_streams(alloc, CALM)?;
+    let exit = exit_of(rt, alloc, &asked, &mut streams);
+    put_seen(rt, alloc, asked.wanted, exit, &streams, out);
     Ok(true)
 }
 
-fn put_run<R: Files>(
-    rt: &R,
-    alloc: Global,
-    asked: &Asked<'_>,
-    out: &mut Vec<u8>,
-) -> Result<(), NoMemory> {
-    let mut streams = new_streams(alloc, CALM)?;
-    let exit = exit_of(rt, alloc, asked, &mut streams)?;
-    put_seen(rt, alloc, asked.wanted, exit, &streams, out)
-}
-
-fn exit_of<R: Files>(
-    rt: &R,
-    alloc: Global,
-    asked: &Asked<'_>,
-    streams: &mut Streams,
-) -> Result<Exit, NoMemory> {
-    let words = list_of(alloc, asked.words)?;
+fn exit_of<R: Files>(rt: &R, alloc: Global, asked: &Asked<'_>, streams: &mut Streams) -> Exit {
+    let words = list_of(alloc, asked.words);
     let mut shelf = FileShelf::new(rt);
-    Ok(run(
+    run(
         alloc,
         words.as_slice(),
         &mut shelf,
         &mut streams.out,
         &mut streams.err,
-    ))
+    )
 }

@@ -1,103 +1,78 @@
 //! Large files, which are made: `zeros:COUNT`, bytes 0; `ring:ROUTERS:LINKS`, routers in a ring with so many links between neighbours;
 //! `packets:FIRST:OTHERS`, two packets of so many routers without links.
 
-use mrt_graph::NoMemory;
+use crate::telling::put;
 use mrt_io::zeros;
 use std::alloc::Global;
 
 /// The file that a word tells, if it tells one.
-pub fn made(alloc: Global, word: &str) -> Result<Option<Vec<u8>>, NoMemory> {
-    let Some((kind, numbers)) = word.split_once(':') else {
-        return Ok(None);
-    };
+pub fn made(alloc: Global, word: &str) -> Option<Vec<u8>> {
+    let (kind, numbers) = word.split_once(':')?;
     let (first, second) = numbers.split_once(':').unwrap_or((numbers, "0"));
-    match (first.parse::<u32>(), second.parse::<u32>()) {
-        (Ok(first), Ok(second)) => file_of(alloc, kind, first, second),
-        _ => Ok(None),
-    }
-}
-
-fn file_of(
-    alloc: Global,
-    kind: &str,
-    first: u32,
-    second: u32,
-) -> Result<Option<Vec<u8>>, NoMemory> {
+    let first = first.parse::<u32>().ok()?;
+    let second = second.parse::<u32>().ok()?;
     match kind {
-        "zeros" => Ok(Some(zeros(alloc, first as usize)?)),
-        "ring" => Ok(Some(ring(alloc, first, second)?)),
-        "packets" => Ok(Some(packets(alloc, first, second)?)),
-        _ => Ok(None),
+        "zeros" => zeros(alloc, first as usize).ok(),
+        "ring" => Some(ring(alloc, first, second)),
+        "packets" => Some(packets(alloc, first, second)),
+        _ => None,
     }
 }
 
 /// The routers 1 to `count` in a ring, with so many links to the next one and to the one before.
-fn ring(alloc: Global, count: u32, links: u32) -> Result<Vec<u8>, NoMemory> {
+fn ring(alloc: Global, count: u32, links: u32) -> Vec<u8> {
     let mut file = Vec::new(alloc);
     for number in 0..count {
         let next = number.wrapping_add(1) % count;
         let before = number.wrapping_add(count).wrapping_sub(1) % count;
-        let router = router(alloc, number, &[(next, 1), (before, 2)], links)?;
-        file.extend_from_slice(&router)?;
+        put_router(&mut file, alloc, number, &[(next, 1), (before, 2)], links);
     }
-    Ok(file)
+    file
 }
 
 /// Two packets (RFC 2328, section A.3.5): one of so many routers without links, and one of so many others.
-fn packets(alloc: Global, first: u32, others: u32) -> Result<Vec<u8>, NoMemory> {
+fn packets(alloc: Global, first: u32, others: u32) -> Vec<u8> {
     let mut file = Vec::new(alloc);
-    put_packet(&mut file, alloc, 0, first)?;
-    put_packet(&mut file, alloc, first, others)?;
-    Ok(file)
-}
-
-fn put_packet(file: &mut Vec<u8>, alloc: Global, from: u32, count: u32) -> Result<(), NoMemory> {
-    let length = count.wrapping_mul(24).wrapping_add(28);
-    let [_, _, high, low] = length.to_be_bytes();
-    let [i, j, k, l] = count.to_be_bytes();
-    let head = [
-        2, 4, high, low, 1, 1, 1, 1, 0, 0, 0, 0, 0, 0, 0, 0, 0, 0, 0, 0, 0, 0, 0, 0, i, j, k, l,
-    ];
-    file.extend_from_slice(&head)?;
-    for number in 0..count {
-        let router = router(alloc, from.wrapping_add(number), &[], 0)?;
-        file.extend_from_slice(&router)?;
+    for (from, count) in [(0, first), (first, others)] {
+        let [_, _, high, low] = count.wrapping_mul(24).wrapping_add(28).to_be_bytes();
+        put(&mut file, &[2, 4, high, low, 1, 1, 1, 1]);
+        put(&mut file, &[0; 16]);
+        put(&mut file, &count.to_be_bytes());
+        for number in 0..count {
+            put_router(&mut file, alloc, from.wrapping_add(number), &[], 0);
+        }
     }
-    Ok(())
+    file
 }
 
-/// The first instance of the router after this number (RFC 2328, section A.4), with so many links to each of the routers after
-/// these, whose link data are told too.
-fn router(
+/// Adds the first instance of the router after this number (RFC 2328, section A.4), with so many point-to-point links of metric
+/// 1 to each of the routers after these, whose link data are told too.
+fn put_router(
+    file: &mut Vec<u8>,
     alloc: Global,
     number: u32,
     neighbours: &[(u32, u8)],
     links: u32,
-) -> Result<Vec<u8>, NoMemory> {
+) {
+    let mut lsa = Vec::new(alloc);
     let [i, j, k, l] = number.wrapping_add(1).to_be_bytes();
-    let head = [
-        0, 1, 2, 1, i, j, k, l, i, j, k, l, 0x80, 0, 0, 1, 0, 0, 0, 0, 0, 0, 0, 0,
-    ];
-    let mut lsa = Vec::from_slice(alloc, &head)?;
-    for neighbour in neighbours {
-        put_links(&mut lsa, *neighbour, links)?;
+    put(
+        &mut lsa,
+        &[0, 1, 2, 1, i, j, k, l, i, j, k, l, 0x80, 0, 0, 1],
+    );
+    put(&mut lsa, &[0; 8]);
+    for (to, link_data) in neighbours {
+        let [i, j, k, l] = to.wrapping_add(1).to_be_bytes();
+        for _ in 0..links {
+            put(&mut lsa, &[i, j, k, l, 0, 0, 0, *link_data, 1, 0, 0, 1]);
+        }
     }
     seal(&mut lsa);
-    Ok(lsa)
-}
-
-/// Adds so many point-to-point links of metric 1 to the router after a number.
-fn put_links(lsa: &mut Vec<u8>, neighbour: (u32, u8), links: u32) -> Result<(), NoMemory> {
-    let [i, j, k, l] = neighbour.0.wrapping_add(1).to_be_bytes();
-    let link = [i, j, k, l, 0, 0, 0, neighbour.1, 1, 0, 0, 1];
-    for _ in 0..links {
-        lsa.extend_from_slice(&link)?;
-    }
-    Ok(())
+    put(file, &lsa);
 }
 
 /// Puts two bytes in at a place.
-fn put_at(lsa: &mut Vec<u8>, at: usize, bytes: [u8; 2]) {
+fn put_at(lsa: &mut [u8], at: usize, bytes: [u8; 2]) {
     if let Some(slot) = lsa.get_mut(at) {
         *slot = bytes[0];
     }
@@ -107,7 +82,7 @@ fn put_at(lsa: &mut Vec<u8>, at: usize, bytes: [u8; 2]) {
 }
 
 /// Puts the count of links, the length and the checksum into a router-LSA.
-fn seal(lsa: &mut Vec<u8>) {
+fn seal(lsa: &mut [u8]) {
     let length = (lsa.len() % 65_536) as u16;
     let links = (length.wrapping_sub(24)) / 12;
     put_at(lsa, 22, links.to_be_bytes());

@@ -50,29 +50,34 @@ fn put_answer<R: Files>(
     out: &mut Vec<u8>,
 ) -> Result<(), NoMemory> {
     let words: Vec<&str> = line.split(' ').collect(alloc)?;
-    let [name, call, others @ ..] = words.as_slice() else {
-        return put(out, b"a row without a call\n");
-    };
-    put(out, name.as_bytes())?;
-    if !answer(rt, alloc, call, others, out)? {
-        put(out, b" no such call\n")?;
+    match words.as_slice() {
+        [name, call, others @ ..] => {
+            put(out, name.as_bytes());
+            answer(rt, alloc, call, others, out)
+        }
+        _ => {
+            put(out, b"a row without a call\n");
+            Ok(())
+        }
     }
-    Ok(())
 }
 
-/// Adds the answer to a call; no where it is none of these.
+/// Adds the answer to a call.
 fn answer<R: Files>(
     rt: &R,
     alloc: Global,
     call: &str,
     words: &[&str],
     out: &mut Vec<u8>,
-) -> Result<bool, NoMemory> {
+) -> Result<(), NoMemory> {
     if machine::answer(rt, alloc, call, words, out)? {
-        return Ok(true);
+        return Ok(());
     }
     if memory::answer(rt, alloc, call, words, out)? {
-        return Ok(true);
+        return Ok(());
     }
-    looped::answer(rt, alloc, call, words, out)
+    if !looped::answer(rt, alloc, call, words, out)? {
+        put(out, b" no such call\n");
+    }
+    Ok(())
 }

@@ -1,7 +1,7 @@
 //! Words over devices in memory.
 
 use crate::asked::{Asked, Words, list_of, with_settings};
-use crate::devices::{Devices, Streams, devices_of, new_streams};
+use crate::devices::{Devices, Streams, devices_of, new_streams, one};
 use crate::files::{Held, are_distinct, hold};
 use crate::telling::{put, put_seen};
 use mrt_cmd::{Exit, run};
@@ -23,21 +23,13 @@ pub fn answer<R: Files>(
     }
     let (settings, asked) = with_settings(words);
     match devices_of(settings) {
-        Some(devices) => put_over_memory(rt, alloc, &asked, devices, out)?,
-        None => put(out, b" no such setting\n")?,
+        Some(devices) => {
+            let files = hold(rt, alloc, &asked);
+            put_over_files(rt, alloc, &asked, files, devices, out)?;
+        }
+        None => put(out, b" no such setting\n"),
     }
     Ok(true)
-}
-
-fn put_over_memory<R: Files>(
-    rt: &R,
-    alloc: Global,
-    asked: &Asked<'_>,
-    devices: Devices,
-    out: &mut Vec<u8>,
-) -> Result<(), NoMemory> {
-    let files = hold(rt, alloc, asked)?;
-    put_over_files(rt, alloc, asked, files, devices, out)
 }
 
 /// Adds the answer over these files.
@@ -50,10 +42,11 @@ pub fn put_over_files<R: Files>(
     out: &mut Vec<u8>,
 ) -> Result<(), NoMemory> {
     let mut streams = new_streams(alloc, devices)?;
-    match exit_over(alloc, asked.words, files, devices.read, &mut streams)? {
+    match exit_over(alloc, asked.words, files, devices.read, &mut streams) {
         Some(exit) => put_seen(rt, alloc, asked.wanted, exit, &streams, out),
         None => put(out, b" not asked: a file that is named twice\n"),
     }
+    Ok(())
 }
 
 /// The exit of the words over a shelf of these files, which fails this call; none where a file's name stands twice.
@@ -63,18 +56,17 @@ fn exit_over(
     files: Vec<Held>,
     fails: u32,
     streams: &mut Streams,
-) -> Result<Option<Exit>, NoMemory> {
+) -> Option<Exit> {
     if !are_distinct(&files) {
-        return Ok(None);
+        return None;
     }
-    let words = list_of(alloc, words)?;
-    let fails = vec![in alloc; fails]?;
-    let mut shelf = MemShelf::new(files, fails);
-    Ok(Some(run(
+    let words = list_of(alloc, words);
+    let mut shelf = MemShelf::new(files, one(alloc, fails));
+    Some(run(
         alloc,
         words.as_slice(),
         &mut shelf,
         &mut streams.out,
         &mut streams.err,
-    )))
+    ))
 }
