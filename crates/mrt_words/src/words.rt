@@ -101,13 +101,16 @@ fn read_router_task(command: &[u8], words: &[Word]) -> Option<RouterTask>
     ensures { result ≡ router_task_in command.now words.now }
 {
     if command == b"certify".as_slice() {
-        return read_router(words).map(|router| RouterTask::Certify { router });
+        let router = read_router(words)?;
+        return Some(RouterTask::Certify { router });
     }
     if command == b"table".as_slice() {
-        return read_router(words).map(|router| RouterTask::Table { router });
+        let router = read_router(words)?;
+        return Some(RouterTask::Table { router });
     }
     if command == b"order".as_slice() {
-        return read_router(words).map(|router| RouterTask::Order { router });
+        let router = read_router(words)?;
+        return Some(RouterTask::Order { router });
     }
     if command == b"trace".as_slice() {
         return read_trace(words);
