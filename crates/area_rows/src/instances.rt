@@ -6,7 +6,7 @@ ghost use Rattle.lsdb.specs.Installing.{IsBehind};
 use crate::kept::{Instance, put};
 use crate::lsa_text::{put_lsas, put_placeless};
 use crate::told::{address, address_at, hex_16, number, number_8, number_16, signed};
-use lsdb::Lsdb;
+use lsdb::{Change, Lsdb};
 use mrt_graph::NoMemory;
 use ospf_lsa::Lsa;
 use std::alloc::Global;
@@ -91,10 +91,20 @@ fn put_installed(alloc: Global, words: &[&str], out: &mut String) -> Result<(), 
         }
         let change = put(alloc, &mut database, told.at, &told.instance)?;
         greatest = Some(told.at);
-        writeln!(out, "{change:?}")?;
+        writeln!(out, "{}", change_word(change))?;
     }
     put_settled(out, &database)?;
     put_lsas(out, database.newest())
+}
+
+fn change_word(change: Change) -> &'static str {
+    match change {
+        Change::Added => "Added",
+        Change::Replaced => "Replaced",
+        Change::Older => "Older",
+        Change::Same => "Same",
+        Change::Clash => "Clash",
+    }
 }
 
 fn put_settled(out: &mut String, database: &Lsdb) -> Result<(), NoMemory> {

@@ -35,7 +35,7 @@ pub fn put_seen<R: Files>(
     put(out, b"\n");
     put_beside(rt, alloc, wanted, streams.out.bytes(), out);
     put_lines(out, b"  ! ", streams.err.bytes());
-    put_untold(out, exit.line().as_slice(), streams.err.bytes());
+    put_untold(out, exit.line().bytes(), streams.err.bytes());
 }
 
 fn put_untold(out: &mut Vec<u8>, line: &[u8], told: &[u8]) {
