@@ -21,8 +21,8 @@ import threading
 import time
 
 COLUMNS = ("proof", "tests", "program", "ground", "edits")
-# Two crates to know a machine by: the minutes of their proofs, and in all with five and six edits, on README's processors on 30 November 2026.
-KNOWN = {"lsdb": (1.9, 5.5), "fabric": (2.6, 6.9)}
+# Crates to know a machine by, whose sources have stood since: the minutes of their proofs on 30 November 2026, on four processors at 2.5 GHz.
+KNOWN = {"mrt_survey": 1.9, "link_direction": 1.1, "mrt_rows": 4.2}
 # What a crate may cost, in minutes (CONTRIBUTING.md).
 MOST = 5
 done, lock, begun = [], threading.Lock(), time.monotonic()
@@ -110,15 +110,15 @@ def table():
 
 
 def machine(of):
-    """Prints what ran this, and the two crates that tell how fast it is."""
+    """Prints what ran this, and the crates that tell how fast it is."""
     with open("/proc/cpuinfo", encoding="utf-8") as it:
         model = next((line.partition(": ")[2].strip() for line in it if line.startswith("model name")), "not known")
     kit = subprocess.run(["rt", "version"], capture_output=True, text=True).stdout.strip()
     print(f"{len(os.sched_getaffinity(0))} processors: {model}; {kit}")
-    for name, (proof, in_all) in KNOWN.items():
+    for name, proof in KNOWN.items():
         here = of[name]["proof"] if name in of else 0
         took = f"{here:.1f} here, {here / proof:.2f} times that" if here else "none here"
-        print(f"the proof of {name}: {proof} on 30 November 2026 ({in_all} in all), {took}")
+        print(f"the proof of {name}: {proof} on 30 November 2026, {took}")
 
 
 def main():

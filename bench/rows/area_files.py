@@ -1,3 +1,4 @@
+#!/usr/bin/env python3
 """The files of the rows on LSAs, packets, databases, areas and islands: those of networks.py and those below, each with its name."""
 from networks import (
     AT_1,

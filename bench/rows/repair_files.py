@@ -1,3 +1,4 @@
+#!/usr/bin/env python3
 """The databases of the rows on primaries, repairs and packets: networks.py and those below."""
 from networks import CROSSED, LAN, LINE, TRIANGLE, TWO_TRIANGLES
 from told import POINT_TO_POINT, TRANSIT, joined, main, network, router

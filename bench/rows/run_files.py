@@ -1,5 +1,5 @@
 #!/usr/bin/env python3
-"""Tells the files of the rows in crates/run_rows, and writes them: run_files.py makes crates/run_rows/data anew.
+"""Tells the files of the rows in crates/run_rows, and writes them: run_files.py makes crates/run_rows/data anew, and with --check compares.
 
 Routers 1, 2 and 3 are 1.1.1.1, 2.2.2.2 and 3.3.3.3. A link of a router is told as `mrt` spells it, with its metric: `NEIGHBOUR/LINK-DATA METRIC`,
 after `net:` where it leads to a network and after `stub:` where to a stub network; then entries `TYPE:METRIC` for other types of service. A node of
@@ -494,6 +494,8 @@ def differences():
 
 
 def main():
+    if sys.argv[1:] == ["--check"]:
+        sys.exit("".join(f"{name} is not as it is told\n" for name in differences()) or 0)
     os.makedirs(DATA, exist_ok=True)
     for name in set(os.listdir(DATA)) - FILES.keys():
         os.remove(os.path.join(DATA, name))

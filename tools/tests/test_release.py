@@ -49,7 +49,7 @@ ci)
     mkdir -p crates/mrt/out && cp /bin/echo crates/mrt/out/mrt && echo built >>"$BUILT" && echo "rt: low proved"
     echo "5 passed, 0 failed"
     ;;
-lib)
+lib | check)
     ! grep -q wrong src/*.rt || exit 1
     [ -f out/rlib/stamp ] || echo "${PWD##*/}" >>"$BUILT.libraries"
     mkdir -p out/rlib && touch out/rlib/stamp
@@ -252,7 +252,7 @@ class Deep(Checkout):
         counted = "2 crates, 3 edits refused, 0 not refused"
         self.assertEqual((status, lines[-1]), (0, self.last(counted)), said)
         self.assertEqual(sorted(lines[:-1]), ["low: 2 edits refused", "mrt: 1 edits refused"])
-        self.assertEqual(self.proved(), ["low"])
+        self.assertEqual(self.proved(), ["low", "mrt"])
         sources = self.said("tools/deep", "--sources").strip()
         self.assertEqual(
             self.kept(),
@@ -265,7 +265,7 @@ class Deep(Checkout):
             self.tried("low")[:2],
             (0, ["low: 2 edits refused", self.last("1 crates, 2 edits refused, 0 not refused")]),
         )
-        self.assertEqual((self.proved(), self.kept()), ([], []))
+        self.assertEqual((self.proved(), self.kept()), (["low"], []))
         status, lines, said = self.tried("low_rows")
         self.assertEqual((status, lines), (2, []))
         self.assertIn("no edits of a crate low_rows", said)
@@ -273,7 +273,7 @@ class Deep(Checkout):
     def test_a_library_that_stands_is_taken(self) -> None:
         write(self.at("crates/low/out/rlib/stamp"), "")
         self.assertEqual(self.tried("mrt")[0], 0)
-        self.assertEqual(self.proved(), [])
+        self.assertEqual(self.proved(), ["mrt"])
         self.assertEqual(os.listdir(self.at("crates/low/out")), ["rlib"])
 
     def test_an_edit_that_is_not_refused(self) -> None:
@@ -291,8 +291,8 @@ class Deep(Checkout):
     def test_a_library_that_is_not_proved(self) -> None:
         write(self.at("crates/low/src/lib.rt"), "wrong\n")
         status, lines, said = self.tried()
-        self.assertEqual((status, lines[-1]), (1, self.last("2 crates, 2 edits refused, 1 not refused")))
-        self.assertIn("not refused: mrt/three.edit", lines)
+        self.assertEqual((status, lines[-1]), (1, self.last("2 crates, 0 edits refused, 3 not refused")))
+        self.assertIn("not refused: low/one.edit low/two.edit mrt/three.edit", lines)
         self.assertIn("deep: low is NOT PROVED\n", said)
 
     def test_it_leaves_nothing_where_it_is_ended(self) -> None:
