@@ -22,8 +22,8 @@ from told import POINT_TO_POINT, STUB, TRANSIT, address, joined, main, network, 
 MAX_AGE = 3600
 DO_NOT_AGE = 0x8000
 
-R1, R2, R3, R4 = map(address, (1, 2, 3, 4))
-N4, N5 = 0x0A000004, 0x0A000005
+ROUTER_1, ROUTER_2, ROUTER_3, ROUTER_4 = map(address, (1, 2, 3, 4))
+NETWORK_4, NETWORK_5 = 0x0A000004, 0x0A000005
 
 
 def p2p(to, data, metric=10):
@@ -40,12 +40,12 @@ LSAS = {
     "nothing": [],
     "alone": ROUTER,
     # The same router with a stub link of metric 0 to its own address, and with two TOS entries after such a link.
-    "stub": [router(R1, [(R1, 0xFFFFFFFF, STUB, 0)])],
-    "entries": [other(1, R1, R1, bytes.fromhex("00000001 01010101 ffffffff 03020102 08000007 10000100"))],
+    "stub": [router(ROUTER_1, [(ROUTER_1, 0xFFFFFFFF, STUB, 0)])],
+    "entries": [other(1, ROUTER_1, ROUTER_1, bytes.fromhex("00000001 01010101 ffffffff 03020102 08000007 10000100"))],
     # The same router with three links, of which the first has one TOS entry and the last two.
     "three_links": [
         other(
-            1, R1, R1,
+            1, ROUTER_1, ROUTER_1,
             bytes.fromhex("00000003")
             + bytes.fromhex("01010101 ffffffff 03010102 08000007")
             + bytes.fromhex("0a000000 ff000000 03000005")
@@ -125,7 +125,7 @@ UPDATES = {
     "triangle": TRIANGLE_PACKETS,
     "lan": LAN_PACKETS,
     # The second instance of a router's LSA; and after its first one the LSA of another router.
-    "older_first": [packet(R1, [joined(1, [], sequence=0x80000002)]), packet(R1, [joined(1, []), joined(2, [])])],
+    "older_first": [packet(ROUTER_1, [joined(1, [], sequence=0x80000002)]), packet(ROUTER_1, [joined(1, []), joined(2, [])])],
 }
 
 # The triangle's packets with bytes at places, cut after so many. They begin at 0, 172 and 248; a packet has its version at 0,
@@ -147,52 +147,52 @@ SPOILT_UPDATES = {
 
 # Areas
 
-ON_N4 = [router(R1, [transit(N4, 1)]), router(R2, [transit(N4, 2)])]
-OF_3 = network(N4, R3, [R2, R3])
-OF_1 = network(N4, R1, [R1, R2])
+ON_N4 = [router(ROUTER_1, [transit(NETWORK_4, 1)]), router(ROUTER_2, [transit(NETWORK_4, 2)])]
+OF_3 = network(NETWORK_4, ROUTER_3, [ROUTER_2, ROUTER_3])
+OF_1 = network(NETWORK_4, ROUTER_1, [ROUTER_1, ROUTER_2])
 
 AREAS = {
     "one_sided": ONE_SIDED,
     "lan": LAN,
     "three_parallel_links": THREE_LINKS,
-    "two_against_one": [router(R1, [p2p(R2, 1), p2p(R2, 2)]), joined(2, [1])],
-    "two_against_one_turned": [router(R1, [p2p(R2, 2, 3), p2p(R2, 1, 9)]), joined(2, [1])],
-    "link_to_itself": [router(R1, [p2p(R1, 9), p2p(R2, 2)]), joined(2, [1])],
-    "unlisted_by_a_router": [*ON_N4, joined(3, []), network(N4, R1, [R1, R2, R3])],
-    "unlisted_by_a_network": [*ON_N4, router(R3, [transit(N4, 3), transit(N5, 4)]), OF_1],
-    "two_of_one_network": [*ON_N4, router(R3, [transit(N4, 3)]), OF_3, OF_1],
-    "two_of_one_network_turned": [*ON_N4, router(R3, [transit(N4, 3)]), OF_1, OF_3],
-    "two_of_one_network_aged": [*ON_N4, router(R3, [transit(N4, 3)]), network(N4, R3, [R2, R3], MAX_AGE), OF_1],
+    "two_against_one": [router(ROUTER_1, [p2p(ROUTER_2, 1), p2p(ROUTER_2, 2)]), joined(2, [1])],
+    "two_against_one_turned": [router(ROUTER_1, [p2p(ROUTER_2, 2, 3), p2p(ROUTER_2, 1, 9)]), joined(2, [1])],
+    "link_to_itself": [router(ROUTER_1, [p2p(ROUTER_1, 9), p2p(ROUTER_2, 2)]), joined(2, [1])],
+    "unlisted_by_a_router": [*ON_N4, joined(3, []), network(NETWORK_4, ROUTER_1, [ROUTER_1, ROUTER_2, ROUTER_3])],
+    "unlisted_by_a_network": [*ON_N4, router(ROUTER_3, [transit(NETWORK_4, 3), transit(NETWORK_5, 4)]), OF_1],
+    "two_of_one_network": [*ON_N4, router(ROUTER_3, [transit(NETWORK_4, 3)]), OF_3, OF_1],
+    "two_of_one_network_turned": [*ON_N4, router(ROUTER_3, [transit(NETWORK_4, 3)]), OF_1, OF_3],
+    "two_of_one_network_aged": [*ON_N4, router(ROUTER_3, [transit(NETWORK_4, 3)]), network(NETWORK_4, ROUTER_3, [ROUTER_2, ROUTER_3], MAX_AGE), OF_1],
     # A network and a router of one number, 2.2.2.2; router 1.1.1.1 has a link to each.
     "one_number": [
-        router(R1, [p2p(R2, 7), transit(R2, 8)]),
-        router(R2, [p2p(R1, 9), transit(R2, 10)]),
-        network(R2, R2, [R2, R1]),
+        router(ROUTER_1, [p2p(ROUTER_2, 7), transit(ROUTER_2, 8)]),
+        router(ROUTER_2, [p2p(ROUTER_1, 9), transit(ROUTER_2, 10)]),
+        network(ROUTER_2, ROUTER_2, [ROUTER_2, ROUTER_1]),
     ],
     "max_age": [*TRIANGLE[:2], joined(3, [1, 2], MAX_AGE)],
     "max_age_kept": [*TRIANGLE[:2], joined(3, [1, 2], DO_NOT_AGE + MAX_AGE)],
     "age_kept": [*TRIANGLE[:2], joined(3, [1, 2], DO_NOT_AGE + MAX_AGE - 1)],
     "other_types": [
-        router(R1, [(R2, 1, STUB, 0), (R2, 2, 4, 0), (R2, 3, 5, 1), (R2, 4, 0, 1), (R2, 5, 255, 1), p2p(R2, 6)]),
+        router(ROUTER_1, [(ROUTER_2, 1, STUB, 0), (ROUTER_2, 2, 4, 0), (ROUTER_2, 3, 5, 1), (ROUTER_2, 4, 0, 1), (ROUTER_2, 5, 255, 1), p2p(ROUTER_2, 6)]),
         joined(2, [1]),
     ],
-    "answered_by_another_type": [router(R1, [p2p(R2, 6)]), router(R2, [(R1, 1, 4, 1)])],
+    "answered_by_another_type": [router(ROUTER_1, [p2p(ROUTER_2, 6)]), router(ROUTER_2, [(ROUTER_1, 1, 4, 1)])],
     # Three links between routers 1.1.1.1 and 2.2.2.2, with link data 7 at the one and 9 at the other.
     "unnumbered": [
-        router(R1, [p2p(R2, 7, metric) for metric in (30, 10, 20)]),
-        router(R2, [p2p(R1, 9, metric) for metric in (5, 6, 4)]),
+        router(ROUTER_1, [p2p(ROUTER_2, 7, metric) for metric in (30, 10, 20)]),
+        router(ROUTER_2, [p2p(ROUTER_1, 9, metric) for metric in (5, 6, 4)]),
     ],
     "paired_by_link_data": [
-        router(R1, [p2p(R2, 3, 1), p2p(R2, 1, 2), p2p(R2, 2, 3)]),
-        router(R2, [p2p(R1, 9, 4), p2p(R1, 7, 5), p2p(R1, 8, 6)]),
+        router(ROUTER_1, [p2p(ROUTER_2, 3, 1), p2p(ROUTER_2, 1, 2), p2p(ROUTER_2, 2, 3)]),
+        router(ROUTER_2, [p2p(ROUTER_1, 9, 4), p2p(ROUTER_1, 7, 5), p2p(ROUTER_1, 8, 6)]),
     ],
-    "listed_twice": [*ON_N4, network(N4, R1, [R1, R2, R1])],
+    "listed_twice": [*ON_N4, network(NETWORK_4, ROUTER_1, [ROUTER_1, ROUTER_2, ROUTER_1])],
     "order_of_arcs": [
-        router(R1, [p2p(R4, 4, 9), p2p(R3, 3, 5), p2p(R2, 2, 9), p2p(R2, 1, 9), transit(N4, 8, 5)]),
-        router(R2, [p2p(R1, 1, 2)]),
-        router(R3, [p2p(R1, 1, 2), p2p(R1, 2, 1)]),
-        router(R4, [p2p(R1, 1, 2)]),
-        network(N4, R1, [R1, R4]),
+        router(ROUTER_1, [p2p(ROUTER_4, 4, 9), p2p(ROUTER_3, 3, 5), p2p(ROUTER_2, 2, 9), p2p(ROUTER_2, 1, 9), transit(NETWORK_4, 8, 5)]),
+        router(ROUTER_2, [p2p(ROUTER_1, 1, 2)]),
+        router(ROUTER_3, [p2p(ROUTER_1, 1, 2), p2p(ROUTER_1, 2, 1)]),
+        router(ROUTER_4, [p2p(ROUTER_1, 1, 2)]),
+        network(NETWORK_4, ROUTER_1, [ROUTER_1, ROUTER_4]),
     ],
     "older_and_newer": [*TRIANGLE, joined(1, [3], sequence=0x80000002)],
 }
