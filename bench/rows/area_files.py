@@ -1,5 +1,5 @@
 #!/usr/bin/env python3
-"""The files of the rows on LSAs, packets, databases, areas and islands: those of networks.py and those below, each with its name."""
+"""The files of area_tests: those below, and those on primaries and repairs in repair_files.py; several stand on networks.py."""
 from networks import (
     AT_1,
     AT_3,
@@ -17,6 +17,7 @@ from networks import (
     TRIANGLE_PACKETS,
     of_triangle,
 )
+from repair_files import FILES as OF_REPAIRS
 from told import POINT_TO_POINT, STUB, TRANSIT, address, joined, main, network, other, packet, renewed, router, spoilt
 
 MAX_AGE = 3600
@@ -237,8 +238,8 @@ def files():
     for name, (places, kept) in SPOILT_UPDATES.items():
         made[f"{name}.updates"] = spoilt(triangle_packets, *places)[:kept]
     made["ones.bytes"] = bytes([1] * 4099)
-    return made
+    return {**made, **OF_REPAIRS}
 
 
 if __name__ == "__main__":
-    main("area_rows", files())
+    main("area_tests", files())

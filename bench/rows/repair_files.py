@@ -1,7 +1,7 @@
 #!/usr/bin/env python3
 """The databases of the rows on primaries, repairs and packets: networks.py and those below."""
 from networks import CROSSED, LAN, LINE, TRIANGLE, TWO_TRIANGLES
-from told import POINT_TO_POINT, TRANSIT, joined, main, network, router
+from told import POINT_TO_POINT, TRANSIT, joined, network, router
 
 
 def to(number, metric, data=None):
@@ -140,6 +140,3 @@ FILES = {
 }
 # Router 5 of the small area does not support the profile.
 FILES["without_5.profile"] = b"no-mrt 0.0.0.5"
-
-if __name__ == "__main__":
-    main("repair_rows", FILES)

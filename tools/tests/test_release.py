@@ -27,14 +27,14 @@ COPIED = [
 ]
 FILES = {
     "HANDLES": "Handles allowed: none.\n",
-    "crates.txt": "# the crates\nlow: smallvec\nmrt: low\n\n# tests\nlow_rows: low\n",
+    "crates.txt": "# the crates\nlow: smallvec\nmrt: low\n\n# tests\nlow_tests: low\n",
     "crates/low/src/lib.rt": "low\n",
     "crates/low/proofs/Lib.antt": "proof\n",
     "crates/low/must-fail/one.edit": "file: src/lib.rt\nold: low\nnew: high\n",
     "edits/low/two.edit": "file: src/lib.rt\nold: low\nnew: lower\n",
     "edits/mrt/three.edit": "file: src/main.rt\nold: main\nnew: other\n",
     "crates/mrt/src/main.rt": "main\n",
-    "crates/low_rows/src/lib.rt": "tests\n",
+    "crates/low_tests/src/lib.rt": "tests\n",
     ".gitignore": "out/\n__pycache__/\n",
 }
 
@@ -146,7 +146,7 @@ class Building(Checkout):
 
     def test_each_source_that_the_program_stands_on(self) -> None:
         self.said("./mrt")
-        write(self.at("crates/low_rows/src/lib.rt"), "other tests\n")
+        write(self.at("crates/low_tests/src/lib.rt"), "other tests\n")
         self.said("./mrt")
         self.assertEqual(self.builds(), 1)
         for count, name in enumerate(
@@ -266,9 +266,9 @@ class Deep(Checkout):
             (0, ["low: 2 edits refused", self.last("1 crates, 2 edits refused, 0 not refused")]),
         )
         self.assertEqual((self.proved(), self.kept()), (["low"], []))
-        status, lines, said = self.tried("low_rows")
+        status, lines, said = self.tried("low_tests")
         self.assertEqual((status, lines), (2, []))
-        self.assertIn("no edits of a crate low_rows", said)
+        self.assertIn("no edits of a crate low_tests", said)
 
     def test_a_library_that_stands_is_taken(self) -> None:
         write(self.at("crates/low/out/rlib/stamp"), "")
@@ -311,7 +311,7 @@ class Deep(Checkout):
         known = {self.said("tools/deep", "--sources")}
         for name in (
             "crates/low/proofs/Lib.antt",
-            "crates/low_rows/src/lib.rt",
+            "crates/low_tests/src/lib.rt",
             "edits/mrt/three.edit",
             "edits/mrt/new.edit",
         ):

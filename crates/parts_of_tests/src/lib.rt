@@ -1,6 +1,8 @@
-//! Parts of tests: graphs by hand.
+//! What the programs of rows have in common: a row, and the page on which its answer is put.
 #![tactic(auto)]
 
-mod graphs;
+mod page;
+mod row;
 
-pub use graphs::{graph, link, ring};
+pub use page::Page;
+pub use row::{is_row, put_answer, words_of};

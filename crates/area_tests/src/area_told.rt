@@ -1,0 +1,53 @@
+//! The area of a file of LSAs.
+
+ghost use Rattle.std.specs.Prelude.{◌≤◌, length};
+
+use crate::lsas::put_error;
+use area_graph::{Area, AreaError, build_area};
+use file_key::FileKey;
+use lsdb::{Lsdb, database_of};
+use ospf_lsa::read_lsas;
+use parts_of_tests::Page;
+use std::alloc::Global;
+
+/// The area of a file; where there is none, it says why.
+pub fn area(alloc: Global, bytes: &[u8], page: &mut Page) -> Option<Area>
+    requires { length bytes.now ≤ 8388608 }
+{
+    match read_lsas(alloc, bytes) {
+        Ok(lsas) => match database_of(alloc, FileKey::of(bytes), lsas) {
+            Ok(database) => area_in(alloc, &database, page),
+            Err(_) => {
+                page.lacks_memory();
+                None
+            }
+        },
+        Err(error) => {
+            put_error(page, error);
+            None
+        }
+    }
+}
+
+/// The area of a database; where there is none, it says why.
+pub fn area_in(alloc: Global, database: &Lsdb, page: &mut Page) -> Option<Area> {
+    if let Err(conflict) = database.settled() {
+        page.number("conflict at ", conflict.second as u64);
+        page.number(" with ", conflict.first as u64);
+        page.put("\n");
+        return None;
+    }
+    match build_area(alloc, database) {
+        Ok(area) => Some(area),
+        Err(AreaError::TooLarge { nodes, arcs }) => {
+            page.number("too large: nodes ", nodes as u64);
+            page.number(" arcs ", arcs as u64);
+            page.put("\n");
+            None
+        }
+        Err(AreaError::NoMemory) => {
+            page.lacks_memory();
+            None
+        }
+    }
+}

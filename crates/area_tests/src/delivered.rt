@@ -1,0 +1,210 @@
+//! Link State Update packets: those of a file, and packets that are delivered to routers, one at a time and by a script.
+
+ghost use Rattle.std.specs.Prelude.{◌≡◌, ◌≤◌, IfSome, length};
+
+use crate::lsa_text::put_lsas;
+use crate::lsas::kind_word;
+use crate::told::{file, front, number, number_16, text, word};
+use area_graph::build_area;
+use file_key::FileKey;
+use flood_core::{Answer, Flood, SharedLsdb, Update, UpdateError, UpdateKind, read_updates};
+use flood_script::{Compare, FloodLine, FloodScriptError, Verdict, flood_text, read_flood_script};
+use mrt_graph::{NoMemory, NodeId};
+use parts_of_tests::Page;
+use std::alloc::Global;
+
+/// `updates FILE`. `deliver FILE PACKET ROUTER`: of one router that no packet has reached. `script TEXT..`. `flood FILE TEXT..`: the
+/// text of a script, where databases are compared by how many nodes their areas have.
+pub fn answer(
+    alloc: Global,
+    call: &str,
+    files: &[Vec<u8>],
+    words: &[&str],
+    page: &mut Page,
+) -> bool {
+    match call {
+        "updates" => put_read(alloc, file(files, 0), page),
+        "deliver" => put_delivery(alloc, file(files, 0), words, page),
+        "script" => put_script(alloc, words, page),
+        "flood" => put_flood(alloc, file(files, 0), words, page),
+        _ => return false,
+    }
+    true
+}
+
+fn put_read(alloc: Global, bytes: &[u8], page: &mut Page)
+    requires { length bytes.now ≤ 8388608 }
+{
+    match read_updates(alloc, bytes) {
+        Ok(updates) => put_updates(page, &updates),
+        Err(error) => put_error(page, error),
+    }
+}
+
+fn put_error(page: &mut Page, error: UpdateError) {
+    match error {
+        UpdateError::Fault { at, kind } => {
+            put_kind(page, kind);
+            page.number(" at ", at as u64);
+            page.put("\n");
+        }
+        UpdateError::NoMemory => page.lacks_memory(),
+    }
+}
+
+fn put_kind(page: &mut Page, kind: UpdateKind) {
+    match kind {
+        UpdateKind::Truncated => page.put("Truncated"),
+        UpdateKind::Header => page.put("Header"),
+        UpdateKind::Length => page.put("Length"),
+        UpdateKind::Lsa(kind) => {
+            page.put("Lsa(");
+            page.put(kind_word(kind));
+            page.put(")");
+        }
+        UpdateKind::Count => page.put("Count"),
+    }
+}
+
+fn put_updates(page: &mut Page, updates: &[Update]) {
+    for update in updates {
+        page.number("packet at ", update.at as u64);
+        page.address(": router ", update.router);
+        page.number(" area ", update.area as u64);
+        page.put("\n");
+        put_lsas(page, update.lsas.as_slice());
+    }
+}
+
+/// The packets of a file, and one router that none of them has reached.
+fn flood_of(alloc: Global, packets: &[u8]) -> Option<Flood>
+    requires { length packets.now ≤ 8388608 }
+    ensures { IfSome result (λ flood. flood.changed ≡ 0) }
+{
+    match read_updates(alloc, packets) {
+        Ok(updates) => Flood::new(alloc, FileKey::of(packets), updates, 1).ok(),
+        Err(_) => None,
+    }
+}
+
+fn put_delivery(alloc: Global, packets: &[u8], words: &[&str], page: &mut Page)
+    requires { length packets.now ≤ 8388608 }
+{
+    let Some(flood) = flood_of(alloc, packets) else {
+        page.put("no answer\n");
+        return;
+    };
+    match flood.deliver(number(word(words, 0)), number_16(word(words, 1))) {
+        Ok((_flood, answer)) => put_answer(page, answer),
+        Err(_) => page.lacks_memory(),
+    }
+}
+
+fn put_answer(page: &mut Page, answer: Answer) {
+    match answer {
+        Answer::Changed { count, sent } => {
+            page.number("changed ", count as u64);
+            if let Some(number) = sent {
+                page.number(" sent ", number as u64);
+            }
+            page.put("\n");
+        }
+        Answer::NoSuchPacket => page.put("no such packet\n"),
+        Answer::NoSuchRouter => page.put("no such router\n"),
+    }
+}
+
+fn put_script(alloc: Global, words: &[&str], page: &mut Page) {
+    let script = text(alloc, words);
+    page.heed(&script);
+    match read_flood_script(alloc, front(script.bytes())) {
+        Ok(script) => {
+            page.count("routers ", script.routers);
+            put_lines(page, script.lines.as_slice());
+        }
+        Err(FloodScriptError::Fault { line }) => {
+            page.number("fault in line ", line as u64);
+            page.put("\n");
+        }
+        Err(FloodScriptError::NoMemory) => page.lacks_memory(),
+    }
+}
+
+fn put_lines(page: &mut Page, lines: &[FloodLine]) {
+    page.put("\n");
+    for line in lines {
+        match *line {
+            FloodLine::Deliver { packet, router } => {
+                page.number("deliver ", packet as u64);
+                page.count(" ", router);
+            }
+            FloodLine::Same { one, other, router } => {
+                page.count("same ", one);
+                page.count(" ", other);
+                page.address(" ", router);
+            }
+        }
+        page.put("\n");
+    }
+}
+
+/// Compares two databases by how many nodes their areas have, where both have the router.
+struct ByNodes;
+
+impl Compare for ByNodes {
+    ghost says = { λ _ _ _ _ _. Unit {0} };
+
+    fn compare(
+        &self,
+        alloc: Global,
+        one: &SharedLsdb,
+        other: &SharedLsdb,
+        router: u32,
+    ) -> Result<Verdict, NoMemory> {
+        Ok(verdict_of(nodes(alloc, one, router), nodes(alloc, other, router)))
+    }
+}
+
+fn verdict_of(one: Option<u16>, other: Option<u16>) -> Verdict {
+    match (one, other) {
+        (Some(one), Some(other)) if one == other => Verdict::Same,
+        (Some(_), Some(_)) => Verdict::Different,
+        _ => Verdict::None,
+    }
+}
+
+/// How many nodes the area of a database has, if the router is one of them.
+fn nodes(alloc: Global, database: &SharedLsdb, router: u32) -> Option<u16> {
+    if !database.is_settled() {
+        return None;
+    }
+    let Ok(copy) = database.copied(alloc) else {
+        return None;
+    };
+    match build_area(alloc, &copy) {
+        Ok(area) => match area.find(NodeId::router(router)) {
+            Some(_) => Some(area.count()),
+            None => None,
+        },
+        Err(_) => None,
+    }
+}
+
+/// The text of a script over packets.
+fn put_flood(alloc: Global, packets: &[u8], words: &[&str], page: &mut Page)
+    requires { length packets.now ≤ 8388608 }
+{
+    let told = text(alloc, words);
+    page.heed(&told);
+    let Ok(script) = read_flood_script(alloc, front(told.bytes())) else {
+        page.put("not run\n");
+        return;
+    };
+    match read_updates(alloc, packets) {
+        Ok(updates) => {
+            let file = FileKey::of(packets);
+            page.made(flood_text(alloc, file, updates, &script, &ByNodes));
+        }
+        Err(_) => page.put("not run\n"),
+    }
+}

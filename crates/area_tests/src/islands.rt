@@ -1,0 +1,123 @@
+//! Profiles, and the islands of routers under them.
+
+ghost use Rattle.std.specs.Prelude.{◌<◌, length};
+
+use crate::told::{address, after, front, text, word};
+use area_graph::Area;
+use mrt_graph::{Graph, LinkNo, NodeNo};
+use mrt_island::{
+    Island, IslandError, Profile, ProfileError, ProfileKind, find_island, read_profile,
+};
+use parts_of_tests::Page;
+use std::alloc::Global;
+
+/// `profile ROUTER DATA TEXT..`: what a profile says of a router and of its links with link data; and no other call.
+pub fn answer(alloc: Global, call: &str, words: &[&str], page: &mut Page) -> bool {
+    if call != "profile" {
+        return false;
+    }
+    if let Some(profile) = profile(alloc, after(words, 2), page) {
+        let (router, data) = (address(word(words, 0)), address(word(words, 1)));
+        page.number("priority ", profile.priority(router) as u64);
+        page.truth(" supports ", profile.supports(router));
+        page.truth(" eligible ", profile.eligible(router, data));
+        page.put("\n");
+    }
+    true
+}
+
+/// The profile that words tell; where they tell none, it says why.
+fn profile(alloc: Global, words: &[&str], page: &mut Page) -> Option<Profile> {
+    let text = text(alloc, words);
+    page.heed(&text);
+    match read_profile(alloc, front(text.bytes())) {
+        Ok(profile) => Some(profile),
+        Err(error) => {
+            put_profile_error(page, error);
+            None
+        }
+    }
+}
+
+fn put_profile_error(page: &mut Page, error: ProfileError) {
+    match error {
+        ProfileError::Fault { line, kind } => {
+            page.put(kind_word(kind));
+            page.number(" in line ", line as u64);
+            page.put("\n");
+        }
+        ProfileError::NoMemory => page.lacks_memory(),
+    }
+}
+
+fn kind_word(kind: ProfileKind) -> &'static str {
+    match kind {
+        ProfileKind::Bytes => "Bytes",
+        ProfileKind::Words => "Words",
+        ProfileKind::Address => "Address",
+        ProfileKind::Number => "Number",
+        ProfileKind::Repeated => "Repeated",
+    }
+}
+
+/// The island of a router of the area, which the first word names, under the profile of the others.
+pub fn put_island_of(alloc: Global, area: &Area, words: &[&str], page: &mut Page) {
+    if let Some(profile) = profile(alloc, after(words, 1), page) {
+        match find_island(alloc, area, &profile, address(word(words, 0))) {
+            Ok(island) => put_island(page, &island),
+            Err(error) => put_error(page, error),
+        }
+    }
+}
+
+/// Puts why a router has no island.
+pub fn put_error(page: &mut Page, error: IslandError) {
+    match error {
+        IslandError::NotThere => page.put("NotThere\n"),
+        IslandError::Unsupported => page.put("Unsupported\n"),
+        IslandError::NoMemory => page.lacks_memory(),
+    }
+}
+
+/// The nodes, each with its ends; the links; the root; and the link of each bond.
+fn put_island(page: &mut Page, island: &Island) {
+    for number in 0..island.graph.node_count() {
+        put_node(page, &island.graph, NodeNo::new(number));
+    }
+    for number in 0..island.graph.link_count() {
+        let link = island.graph.link(LinkNo::new(number));
+        page.count("link ", number);
+        page.count(": ", link.a.get());
+        page.count(" ", link.b.get());
+        page.put("\n");
+    }
+    page.count("root ", island.root.get());
+    put_links(page, island.link_of.as_slice());
+}
+
+fn put_node(page: &mut Page, graph: &Graph, node: NodeNo)
+    requires { node < length graph.now.ids }
+{
+    page.count("", node.get());
+    page.put(": ");
+    page.name(graph.id(node));
+    page.put("\n");
+    for end in graph.ends(node) {
+        page.count("  to ", end.to.get());
+        page.count(" metric ", end.metric);
+        page.address(" data ", end.link_data);
+        page.count(" link ", end.link.get());
+        page.put("\n");
+    }
+}
+
+fn put_links(page: &mut Page, links: &[Option<LinkNo>]) {
+    page.put("\nlinks of bonds");
+    for link in links {
+        match link {
+            Some(link) => page.count(" ", link.get()),
+            None => page.put(" -"),
+        }
+    }
+    page.put("\n");
+}

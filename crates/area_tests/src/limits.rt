@@ -1,0 +1,86 @@
+//! The largest areas and islands, and larger ones: databases of many routers, which are numbered from 0 on.
+
+use crate::area_told::area_in;
+use crate::islands::put_error;
+use crate::kept::{Instance, put};
+use crate::told::{number, word};
+use lsdb::Lsdb;
+use mrt_graph::NoMemory;
+use mrt_island::{Profile, find_island};
+use parts_of_tests::Page;
+use std::alloc::Global;
+
+/// `ring ROUTERS`: so many routers in a ring. `apart ROUTERS LINKS`: so many routers, of which the first two have so many links
+/// to each other. The answer has the counts of the area, and of the island of router 0.
+pub fn answer(alloc: Global, call: &str, words: &[&str], page: &mut Page) -> bool {
+    let links = match call {
+        "ring" => None,
+        "apart" => Some(number(word(words, 1)) as usize),
+        _ => return false,
+    };
+    match database_of(alloc, number(word(words, 0)), links) {
+        Ok(database) => put_counts(alloc, &database, page),
+        Err(_) => page.lacks_memory(),
+    }
+    true
+}
+
+/// The two routers beside one, around a ring of so many.
+fn beside(number: u32, count: u32) -> [u32; 2] {
+    let next = number.wrapping_add(1);
+    let next = if next == count { 0 } else { next };
+    if number == 0 {
+        [next, count.wrapping_sub(1)]
+    } else {
+        [next, number - 1]
+    }
+}
+
+/// The routers that a router has links to, one for each link: in a ring, or where the first two have so many links to each other.
+fn neighbours(
+    alloc: Global,
+    routers: u32,
+    links: Option<usize>,
+    number: u32,
+) -> Result<Vec<u32>, NoMemory> {
+    let neighbours = match links {
+        None => Vec::from_slice(alloc, &beside(number, routers))?,
+        Some(links) if number < 2 => vec![in alloc; 1 - number; links]?,
+        Some(_) => Vec::new(alloc),
+    };
+    Ok(neighbours)
+}
+
+/// The database of so many routers, each installed at the place of its own number.
+fn database_of(alloc: Global, routers: u32, links: Option<usize>) -> Result<Lsdb, NoMemory> {
+    let mut database = Lsdb::new(alloc);
+    for number in 0..routers {
+        let instance = Instance {
+            router: number,
+            sequence: 1,
+            age: 1,
+            checksum: 0,
+            flags: 0,
+        };
+        let to = neighbours(alloc, routers, links, number)?;
+        put(alloc, &mut database, number, instance, &to)?;
+    }
+    Ok(database)
+}
+
+fn put_counts(alloc: Global, database: &Lsdb, page: &mut Page) {
+    let Some(area) = area_in(alloc, database, page) else {
+        return;
+    };
+    page.count("area: nodes ", area.count());
+    page.number(" bonds ", area.bonds().len() as u64);
+    page.put("\n");
+    match find_island(alloc, &area, &Profile::empty(alloc), 0) {
+        Ok(island) => {
+            page.count("island of router 0: nodes ", island.graph.node_count());
+            page.count(" links ", island.graph.link_count());
+            page.put("\n");
+        }
+        Err(error) => put_error(page, error),
+    }
+}

@@ -1,0 +1,153 @@
+//! LSAs that are read, copied and compared, and the sums of bytes.
+
+ghost use Rattle.std.specs.Prelude.{◌≤◌, length};
+
+use crate::lsa_text::{put_lsa, put_lsas};
+use crate::told::{file, number, word};
+use crate::written::{put_all_written, put_longest, put_router};
+use ospf_lsa::{Lsa, LsaError, LsaKind, read_lsas, sums};
+use parts_of_tests::Page;
+use std::alloc::Global;
+
+/// `bytes FILE`, `lsas FILE`, `copies FILE`, `written FILE`, `cuts FILE`, `alike FILE FILE`, `sums FILE FROM`; and what is written
+/// and read, `written_router FIELD..` and `longest COUNT LESS`.
+pub fn answer(
+    alloc: Global,
+    call: &str,
+    files: &[Vec<u8>],
+    words: &[&str],
+    page: &mut Page,
+) -> bool {
+    let bytes = file(files, 0);
+    match call {
+        "bytes" => put_bytes(page, bytes),
+        "lsas" | "copies" | "written" => put_read(alloc, call, bytes, page),
+        "cuts" => put_cuts(alloc, bytes, page),
+        "alike" => put_alike(alloc, bytes, file(files, 1), page),
+        "sums" => put_sums(page, bytes, number(word(words, 0)) as usize),
+        "written_router" => put_router(alloc, words, page),
+        "longest" => put_longest(alloc, words, page),
+        _ => return false,
+    }
+    true
+}
+
+/// The bytes of a file, sixteen a line.
+fn put_bytes(page: &mut Page, bytes: &[u8]) {
+    for line in bytes.chunks(16) {
+        page.hex("", line);
+        page.put("\n");
+    }
+}
+
+/// Puts the LSAs that bytes are: as they are, copied, written again, or how many there are; or why they are none.
+pub fn put_read(alloc: Global, call: &str, bytes: &[u8], page: &mut Page)
+    requires { length bytes.now ≤ 8388608 }
+{
+    match read_lsas(alloc, bytes) {
+        Ok(lsas) => match call {
+            "copies" => put_all_copied(alloc, &lsas, page),
+            "written" => put_all_written(alloc, &lsas, page),
+            "count" => put_count(page, lsas.len()),
+            _ => put_lsas(page, &lsas),
+        },
+        Err(error) => put_error(page, error),
+    }
+}
+
+fn put_count(page: &mut Page, count: usize) {
+    page.number("", count as u64);
+    page.put(" LSAs\n");
+}
+
+/// Puts why bytes are no LSAs.
+pub fn put_error(page: &mut Page, error: LsaError) {
+    match error {
+        LsaError::Fault { at, kind } => {
+            page.put(kind_word(kind));
+            page.number(" at ", at as u64);
+            page.put("\n");
+        }
+        LsaError::NoMemory => page.lacks_memory(),
+    }
+}
+
+pub fn kind_word(kind: LsaKind) -> &'static str {
+    match kind {
+        LsaKind::Truncated => "Truncated",
+        LsaKind::Length => "Length",
+        LsaKind::Checksum => "Checksum",
+        LsaKind::ReservedSequence => "ReservedSequence",
+        LsaKind::IdMismatch => "IdMismatch",
+        LsaKind::Body => "Body",
+        LsaKind::ZeroMetric => "ZeroMetric",
+    }
+}
+
+/// What comes of the front of a file, after each count of bytes from which on it is another.
+fn put_cuts(alloc: Global, bytes: &[u8], page: &mut Page)
+    requires { length bytes.now ≤ 8388608 }
+{
+    let mut last = Page::new(alloc);
+    for count in 0..bytes.len() + 1 {
+        let mut told = Page::new(alloc);
+        put_read(alloc, "count", &bytes[..count], &mut told);
+        if told.bytes() != last.bytes() {
+            page.number("", count as u64);
+            page.put(" bytes: ");
+            page.put_bytes(told.bytes());
+        }
+        page.heed(&told);
+        last = told;
+    }
+}
+
+/// The copies of LSAs, and whether each is equal to its own.
+fn put_all_copied(alloc: Global, lsas: &[Lsa], page: &mut Page) {
+    let mut are_equal = true;
+    for lsa in lsas {
+        match lsa.copy(alloc) {
+            Ok(copy) => {
+                put_lsa(page, &copy);
+                are_equal = are_equal && copy == *lsa;
+            }
+            Err(_) => page.lacks_memory(),
+        }
+    }
+    page.truth("equal to theirs: ", are_equal);
+    page.put("\n");
+}
+
+/// Whether the last LSAs of two files are equal, and whether their bodies are.
+fn put_alike(alloc: Global, bytes: &[u8], others: &[u8], page: &mut Page)
+    requires bytes { length bytes.now ≤ 8388608 }
+    requires others { length others.now ≤ 8388608 }
+{
+    let Ok(lsas) = read_lsas(alloc, bytes) else {
+        page.put("not read\n");
+        return;
+    };
+    match read_lsas(alloc, others) {
+        Ok(others) => put_last_alike(page, &lsas, &others),
+        Err(_) => page.put("not read\n"),
+    }
+}
+
+fn put_last_alike(page: &mut Page, lsas: &[Lsa], others: &[Lsa]) {
+    match (lsas.last(), others.last()) {
+        (Some(lsa), Some(other)) => {
+            page.truth("", *lsa == *other);
+            page.truth(" ", lsa.body == other.body);
+            page.put("\n");
+        }
+        _ => page.put("not read\n"),
+    }
+}
+
+/// The sums of the bytes of a file from a place on.
+fn put_sums(page: &mut Page, bytes: &[u8], from: usize) {
+    let (first, second) = sums(&bytes[bytes.len().min(from)..]);
+    page.number("", first as u64);
+    page.number(" ", second as u64);
+    page.put("\n");
+}

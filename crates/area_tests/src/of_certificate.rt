@@ -1,0 +1,57 @@
+//! The certificate of an island, and what is asked of it.
+
+ghost use Rattle.std.specs.Prelude.{◌<◌, IfOk, length};
+ghost use Rattle.area_graph.specs.Fits.{Fits};
+ghost use Rattle.mrt_graph.specs.AcceptedFor.{IsAcceptedAt, IsAcceptedFor};
+
+use crate::alternates::{put_alternate, put_repairs};
+use crate::failures::put_packets;
+use crate::told::{number, word};
+use area_graph::Area;
+use mrt_graph::{Cert, Graph, NoMemory, NodeNo};
+use mrt_island::Island;
+use mrt_rows::compute;
+use mrt_survey::survey_text;
+use parts_of_tests::Page;
+use std::alloc::Global;
+
+/// Answers what is asked of the certificate of an island. A survey's number is the second word.
+pub fn answer(
+    alloc: Global,
+    area: &Area,
+    island: &Island,
+    call: &str,
+    words: &[&str],
+    page: &mut Page,
+) -> bool
+    requires { Fits area.now island.now.graph island.now.link_of }
+{
+    let (g, root) = (&island.graph, island.root);
+    if root.get() >= g.node_count() {
+        return false;
+    }
+    let Ok(cert) = certificate(alloc, g, root) else {
+        page.lacks_memory();
+        return true;
+    };
+    match call {
+        "alternate" => put_alternate(g, &cert, words, page),
+        "repairs" => put_repairs(alloc, g, root, &cert, page),
+        "fabric" => put_packets(alloc, area, island, &cert, words, page),
+        "survey" => page.made(survey_text(alloc, number(word(words, 1)), g, root, &cert)),
+        _ => return false,
+    }
+    true
+}
+
+/// The certificate of a graph and its root.
+fn certificate(alloc: Global, g: &Graph, root: NodeNo) -> Result<Cert, NoMemory>
+    requires { root < length g.now.ids }
+    ensures at { IfOk result (λ cert. IsAcceptedAt g.now root cert) }
+    ensures accepted { IfOk result (λ cert. IsAcceptedFor g.now cert) }
+{
+    let cert = compute(alloc, g, root)?;
+    // the root has an identifier, of which the certificate's clauses speak
+    let _id = g.id(root);
+    Ok(cert)
+}

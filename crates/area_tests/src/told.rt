@@ -1,0 +1,87 @@
+//! What a row tells: files, numbers, addresses and short texts.
+
+ghost use Rattle.std.specs.Prelude.{◌≤◌, length};
+
+use mrt_graph::{NodeId, read_address};
+use parts_of_tests::Page;
+use std::alloc::Global;
+
+/// The most bytes that are read of a file.
+const MOST: usize = 8_388_608;
+
+/// The front of bytes, as many as are read of a file.
+pub fn front(bytes: &[u8]) -> &[u8]
+    ensures { length result.now ≤ 8388608 }
+{
+    &bytes[..bytes.len().min(MOST)]
+}
+
+/// The front of a file of the row; there are no bytes where it has no such file.
+pub fn file(files: &[Vec<u8>], place: usize) -> &[u8]
+    ensures { length result.now ≤ 8388608 }
+{
+    match files.get(place) {
+        Some(file) => front(file),
+        None => &[],
+    }
+}
+
+/// The words after the first ones.
+pub fn after<'a>(words: &'a [&'a str], count: usize) -> &'a [&'a str] {
+    &words[count.min(words.len())..]
+}
+
+/// The word at a place; an empty one where there is none.
+pub fn word<'a>(words: &[&'a str], place: usize) -> &'a str {
+    match words.get(place) {
+        Some(word) => *word,
+        None => "",
+    }
+}
+
+/// The field at a place of a word that is cut at colons; an empty one where there is none.
+pub fn field<'a>(word: &'a str, place: usize) -> &'a str {
+    let mut left = place;
+    for field in word.split(':') {
+        if left == 0 {
+            return field;
+        }
+        left -= 1;
+    }
+    ""
+}
+
+/// The number that a word tells; 0 where it tells none.
+pub fn number(word: &str) -> u32 {
+    word.parse().unwrap_or(0)
+}
+
+/// The same in 16 bits.
+pub fn number_16(word: &str) -> u16 {
+    word.parse().unwrap_or(0)
+}
+
+/// The address that a word tells; 0.0.0.0 where it tells none.
+pub fn address(word: &str) -> u32 {
+    read_address(word.as_bytes()).unwrap_or(0)
+}
+
+/// The node that a word names, as `1.1.1.1` or `net:10.0.0.4`.
+pub fn node(word: &str) -> NodeId {
+    match word.strip_prefix("net:") {
+        Some(network) => NodeId::network(address(network)),
+        None => NodeId::router(address(word)),
+    }
+}
+
+/// The text that the words tell.
+pub fn text(alloc: Global, words: &[&str]) -> Page {
+    let mut text = Page::new(alloc);
+    for place in 0..words.len() {
+        if place > 0 {
+            text.put(" ");
+        }
+        text.put_told(words[place]);
+    }
+    text
+}

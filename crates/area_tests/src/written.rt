@@ -1,0 +1,103 @@
+//! LSAs that are written.
+
+ghost use Rattle.std.specs.Prelude.{◌≤◌};
+ghost use Rattle.ospf_lsa.specs.LsaText.{lsa_length};
+ghost use Rattle.ospf_lsa.specs.Lsas.{AreLsas, IsOfType};
+ghost use Rattle.ospf_lsa.specs.Written.{HasItsEntries};
+
+use crate::lsas::put_read;
+use crate::told::{address, number, number_16, word};
+use mrt_graph::{NoMemory, Seq};
+use ospf_lsa::{Body, Lsa, write_lsa};
+use parts_of_tests::Page;
+use std::alloc::Global;
+
+/// The bytes of LSAs that are written, a line each; `no LSA` where there are none.
+pub fn put_all_written(alloc: Global, lsas: &[Lsa], page: &mut Page)
+    requires { AreLsas 0 lsas.now }
+{
+    if lsas.is_empty() {
+        page.put("no LSA\n");
+    }
+    for lsa in lsas {
+        match write_lsa(alloc, lsa) {
+            Ok(bytes) => page.hex("", &bytes),
+            Err(_) => page.lacks_memory(),
+        }
+        page.put("\n");
+    }
+}
+
+/// `written_router AT AGE OPTIONS ROUTER SEQUENCE CHECKSUM FLAGS SPARE`: a router-LSA without links, written and read.
+pub fn put_router(alloc: Global, words: &[&str], page: &mut Page) {
+    let [at, age, options, router, sequence, checksum, flags, spare] = words else {
+        page.put("not asked: no eight fields\n");
+        return;
+    };
+    let router = address(router);
+    let lsa = Lsa {
+        at: number(at),
+        age: number_16(age),
+        options: options.parse().unwrap_or(0),
+        kind: 1,
+        id: router,
+        router,
+        sequence: sequence.parse().unwrap_or(0),
+        checksum: number_16(checksum),
+        body: Body::Router {
+            flags: flags.parse().unwrap_or(0),
+            spare: spare.parse().unwrap_or(0),
+            links: Seq::from_vec(Vec::new(alloc)),
+            tos: Seq::from_vec(Vec::new(alloc)),
+        },
+    };
+    put_read_back(alloc, &lsa, page);
+}
+
+/// What is read of a written LSA.
+fn put_read_back(alloc: Global, lsa: &Lsa, page: &mut Page)
+    requires kind { IsOfType lsa.now.kind lsa.now.body }
+    requires entries { HasItsEntries lsa.now.body }
+    requires fits { lsa_length lsa.now ≤ 65535 }
+{
+    match write_lsa(alloc, lsa) {
+        Ok(bytes) => put_read(alloc, "lsas", &bytes, page),
+        Err(_) => page.lacks_memory(),
+    }
+}
+
+/// The bytes of an LSA of the greatest length, 65,535 bytes.
+fn longest(alloc: Global) -> Result<Vec<u8>, NoMemory> {
+    write_lsa(
+        alloc,
+        &Lsa {
+            at: 0,
+            age: 1,
+            options: 2,
+            kind: 10,
+            id: 0x0a000001,
+            router: 0x01010101,
+            sequence: -0x7fff_ffff,
+            checksum: 0,
+            body: Body::Other {
+                bytes: Seq::from_vec(vec![in alloc; 0x5a; 65515]?),
+            },
+        },
+    )
+}
+
+/// `longest COUNT LESS`: so many LSAs of the greatest length, written, and read but for so many bytes at the end.
+pub fn put_longest(alloc: Global, words: &[&str], page: &mut Page) {
+    let Ok(record) = longest(alloc) else {
+        page.lacks_memory();
+        return;
+    };
+    let mut file = Page::new(alloc);
+    for _ in 0..number(word(words, 0)).min(100) {
+        file.put_bytes(&record);
+    }
+    page.heed(&file);
+    let bytes = file.bytes();
+    let kept = bytes.len() - bytes.len().min(number(word(words, 1)) as usize);
+    put_read(alloc, "lsas", &bytes[..kept.min(8_388_608)], page);
+}

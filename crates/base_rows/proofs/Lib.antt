@@ -1,2 +1,0 @@
-pub mod ProxyFiles
-pub mod PutSteps

@@ -1,2 +1,0 @@
-pub mod HandGraphs
-pub mod Reached

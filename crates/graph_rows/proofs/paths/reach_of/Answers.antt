@@ -1,4 +1,0 @@
-use Rattle.graph_rows.proofs.paths.reach_of.Goals as goal
-
-pub returns : goal.returns
-returns c = (c.in_ok-reach.ensures c.requires.directed.directions c.requires.directed.are.says).one_each

@@ -1,5 +1,0 @@
-use Rattle.mrt_rows.specs.Making.{MakeRows}
-use Rattle.graph_rows.proofs.tables.put_near_each.Given as goal
-
-abbrev pub invariant-loop-n : goal.invariant-loop-n
-invariant-loop-n l = MakeRows l.g l.rows

@@ -1,0 +1,4 @@
+pub mod HandGraphs
+pub mod ProxyFiles
+pub mod PutSteps
+pub mod Reached

@@ -1,0 +1,5 @@
+use Rattle.mrt_rows.specs.Making.{MakeRows}
+use Rattle.graph_tests.proofs.tables.put_near_each.Given as goal
+
+abbrev pub invariant-loop-n : goal.invariant-loop-n
+invariant-loop-n l = MakeRows l.g l.rows

@@ -1,0 +1,111 @@
+//! Certificates in words, and why there is none. Each node is told by its identifier, its order, its head and its
+//! block; each link by its two nodes, its block and its role; each row by its blue link, its red link and its tag.
+
+use cert_format::{CertError, CertFault, CertKind};
+use mrt_graph::{Cert, CertFile, CertLink, CertNode, NodeId, Role, Row, Tag};
+use parts_of_tests::Page;
+
+/// Says why there is no certificate.
+pub fn put_error(page: &mut Page, error: CertError) {
+    match error {
+        CertError::Fault { at, kind } => put_fault(page, CertFault { at, kind }),
+        CertError::NoMemory => page.lacks_memory(),
+    }
+}
+
+/// Says which field is at fault.
+pub fn put_fault(page: &mut Page, fault: CertFault) {
+    page.put(match fault.kind {
+        CertKind::Magic => "magic",
+        CertKind::Truncated => "truncated",
+        CertKind::Range => "range",
+        CertKind::Tag => "tag",
+        CertKind::Trailing => "trailing",
+        CertKind::Heads => "heads",
+    });
+    page.number(" at ", u64::from(fault.at));
+    page.put("\n");
+}
+
+/// All of a file: its version and root, and the certificate.
+pub fn put_file(page: &mut Page, file: &CertFile) {
+    page.count("version=", file.version);
+    page.put(" root=");
+    page.name(NodeId::router(file.root));
+    page.put("\n");
+    put_cert(page, &file.cert);
+}
+
+pub fn put_cert(page: &mut Page, cert: &Cert) {
+    put_nodes(page, cert.nodes());
+    put_links(page, cert.links());
+    let others = usize::from(cert.node_count().saturating_sub(1));
+    let mut s: u16 = 0;
+    for rows in cert.rows().chunks(others.max(1)) {
+        page.count("from ", s);
+        put_row_list(page, rows);
+        s = s.wrapping_add(1);
+    }
+}
+
+pub fn put_nodes(page: &mut Page, nodes: &[CertNode]) {
+    page.put("nodes");
+    for node in nodes {
+        page.put(" ");
+        page.name(node.id);
+        page.count("/", node.order);
+        page.node("/", node.head);
+        page.node("/", node.block);
+    }
+    page.put("\n");
+}
+
+pub fn put_links(page: &mut Page, links: &[CertLink]) {
+    page.put("links");
+    for link in links {
+        page.node(" ", link.a);
+        page.node("-", link.b);
+        page.node("/", link.block);
+        page.put("/");
+        page.put(role_word(link.role));
+    }
+    page.put("\n");
+}
+
+/// Rows in a line. A row that stands several times in succession is told once, with how many times.
+pub fn put_row_list(page: &mut Page, rows: &[Row]) {
+    let mut times: u64 = 0;
+    for k in 0..rows.len() {
+        times = times.wrapping_add(1);
+        if rows.get(k + 1) != Some(&rows[k]) {
+            put_row(page, rows[k]);
+            if times > 1 {
+                page.number("*", times);
+            }
+            times = 0;
+        }
+    }
+    page.put("\n");
+}
+
+pub fn put_row(page: &mut Page, row: Row) {
+    page.link(" ", row.blue);
+    page.link("/", row.red);
+    page.put(match row.tag {
+        Tag::Sole => "/sole",
+        Tag::Head => "/head",
+        Tag::Top => "/top",
+        Tag::Below => "/below",
+        Tag::Above => "/above",
+        Tag::Unordered => "/unordered",
+        Tag::Carried => "/carried",
+    });
+}
+
+pub fn role_word(role: Role) -> &'static str {
+    match role {
+        Role::Plain => "plain",
+        Role::Sole => "sole",
+        Role::Closing => "closing",
+    }
+}

@@ -1,0 +1,51 @@
+//! Rows on graphs: texts, devices, the computation, certificates, prefixes. Each line of input has a name, a call and
+//! what that is given; each answer is printed after its name.
+#![tactic(auto)]
+
+mod cert_pieces;
+mod cert_words;
+mod certs;
+mod checks;
+mod computed;
+mod devices;
+mod edits;
+mod gadags;
+mod graphs;
+mod hand_graphs;
+mod island;
+mod order_colors;
+mod order_walks;
+mod paths;
+mod plain;
+mod proxies;
+mod rows;
+mod shelves;
+mod steps;
+mod streams;
+mod tables;
+mod texts;
+mod told;
+mod told_bytes;
+mod told_files;
+mod trees;
+
+use mrt_io::{StdSink, put_all};
+use rows::answered;
+use std::process::ExitCode;
+
+fn main(rt: HostRuntime) -> ExitCode {
+    let mut out = StdSink::new(rt.stdout());
+    for line in rt.lines(rt.alloc()) {
+        let Ok(line) = line else {
+            return ExitCode::from(1);
+        };
+        let page = answered(&rt, rt.alloc(), line.as_str());
+        if page.is_cut() {
+            return ExitCode::from(2);
+        }
+        if put_all(&mut out, page.bytes()).is_err() {
+            return ExitCode::from(3);
+        }
+    }
+    ExitCode::from(0)
+}

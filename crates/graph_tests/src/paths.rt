@@ -1,0 +1,106 @@
+//! `spf`: of each node the least paths up and down to all nodes; and `spf_to`: those to it from all nodes. Each path
+//! is told by its cost and the link of its first end.
+
+ghost use Rattle.std.specs.Prelude.{◌≡◌, ◌<◌, IfOk, length};
+ghost use Rattle.inc_dec_spf.specs.HasDirections.{HasDirections};
+
+use crate::gadags::directed_of;
+use inc_dec_spf::{Dir, Hop, Reach, spf, spf_to};
+use mrt_graph::{Directed, Graph, NoMemory, NodeNo};
+use parts_of_tests::Page;
+use std::alloc::Global;
+
+pub fn put_paths(alloc: Global, g: &Graph, root: NodeNo, page: &mut Page)
+    requires { root < length g.now.ids }
+{
+    let Ok(d) = directed_of(alloc, g, root) else {
+        return page.lacks_memory();
+    };
+    for n in 0..g.node_count() {
+        put_from(alloc, g, &d, NodeNo::new(n), Dir::Up, page);
+        put_from(alloc, g, &d, NodeNo::new(n), Dir::Down, page);
+    }
+}
+
+/// The least paths from a node.
+pub fn reach_of(
+    alloc: Global,
+    g: &Graph,
+    d: &Directed,
+    s: NodeNo,
+    dir: Dir,
+) -> Result<Reach, NoMemory>
+    requires directed { HasDirections g.now d.now }
+    requires source { s < length g.now.ids }
+    ensures { IfOk result (λ reach. length reach ≡ length g.now.ids) }
+{
+    let reach = spf(alloc, g, d, s, dir)?;
+    Ok(reach)
+}
+
+fn put_from(alloc: Global, g: &Graph, d: &Directed, s: NodeNo, dir: Dir, page: &mut Page)
+    requires directed { HasDirections g.now d.now }
+    requires source { s < length g.now.ids }
+{
+    page.node("from ", s);
+    match reach_of(alloc, g, d, s, dir) {
+        Ok(reach) => put_reach(page, dir, &reach, g.node_count()),
+        Err(_) => page.lacks_memory(),
+    }
+}
+
+pub fn put_paths_to(alloc: Global, g: &Graph, root: NodeNo, page: &mut Page)
+    requires { root < length g.now.ids }
+{
+    let Ok(d) = directed_of(alloc, g, root) else {
+        return page.lacks_memory();
+    };
+    for n in 0..g.node_count() {
+        put_to(alloc, g, &d, NodeNo::new(n), Dir::Up, page);
+        put_to(alloc, g, &d, NodeNo::new(n), Dir::Down, page);
+    }
+}
+
+/// The least paths to a node.
+fn reach_to(alloc: Global, g: &Graph, d: &Directed, t: NodeNo, dir: Dir) -> Result<Reach, NoMemory>
+    requires directed { HasDirections g.now d.now }
+    requires target { t < length g.now.ids }
+    ensures { IfOk result (λ reach. length reach ≡ length g.now.ids) }
+{
+    let reach = spf_to(alloc, g, d, t, dir)?;
+    Ok(reach)
+}
+
+fn put_to(alloc: Global, g: &Graph, d: &Directed, t: NodeNo, dir: Dir, page: &mut Page)
+    requires directed { HasDirections g.now d.now }
+    requires target { t < length g.now.ids }
+{
+    page.node("to ", t);
+    match reach_to(alloc, g, d, t, dir) {
+        Ok(reach) => put_reach(page, dir, &reach, g.node_count()),
+        Err(_) => page.lacks_memory(),
+    }
+}
+
+fn put_reach(page: &mut Page, dir: Dir, reach: &Reach, count: u16)
+    requires { length reach.now ≡ count }
+{
+    page.put(match dir {
+        Dir::Up => " up",
+        Dir::Down => " down",
+    });
+    for n in 0..count {
+        put_hop(page, reach.hop(NodeNo::new(n)));
+    }
+    page.put("\n");
+}
+
+fn put_hop(page: &mut Page, hop: Option<Hop>) {
+    match hop {
+        Some(hop) => {
+            page.number(" ", u64::from(hop.cost));
+            page.link("/", hop.link);
+        }
+        None => page.put(" -"),
+    }
+}

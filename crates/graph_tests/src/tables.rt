@@ -1,0 +1,145 @@
+//! `compute`: the certificate; `rows_of` and `near_rows`: the rows of each node for the others, all of them and those
+//! that are not carried; `column_of` and `columns`: the rows of all nodes for each one, made alone and with those for
+//! the others.
+
+ghost use Rattle.std.specs.Prelude.{◌≡◌, ◌<◌, length};
+ghost use Rattle.link_direction.specs.OrderedGadag.{SaysOrdered};
+ghost use Rattle.mrt_rows.specs.Making.{MakeRows};
+ghost use Rattle.mrt_rows.specs.Rooted.{MakeColumns};
+
+use crate::cert_words::{put_cert, put_links, put_nodes, put_row, put_row_list};
+use crate::gadags::directed_of;
+use mrt_graph::{Column, Directed, Graph, NodeNo};
+use mrt_rows::{RootedColumns, SourceRows, column_of, compute, rows_of};
+use parts_of_tests::Page;
+use std::alloc::Global;
+
+/// As many destinations as are taken side by side at most.
+const DESTINATIONS: usize = 64;
+
+pub fn put_computed(alloc: Global, g: &Graph, root: NodeNo, page: &mut Page)
+    requires { root < length g.now.ids }
+{
+    match compute(alloc, g, root) {
+        Ok(cert) => put_cert(page, &cert),
+        Err(_) => page.lacks_memory(),
+    }
+}
+
+pub fn put_rows(alloc: Global, g: &Graph, root: NodeNo, page: &mut Page)
+    requires { root < length g.now.ids }
+{
+    let Ok(d) = directed_of(alloc, g, root) else {
+        return page.lacks_memory();
+    };
+    for n in 0..g.node_count() {
+        page.count("from ", n);
+        match rows_of(alloc, g, root, &d, NodeNo::new(n)) {
+            Ok(rows) => put_row_list(page, &rows),
+            Err(_) => page.lacks_memory(),
+        }
+    }
+}
+
+pub fn put_near_rows(alloc: Global, g: &Graph, root: NodeNo, page: &mut Page)
+    requires { root < length g.now.ids }
+{
+    let Ok(mut rows) = SourceRows::new(alloc, g, root) else {
+        return page.lacks_memory();
+    };
+    put_near_words(alloc, g, &rows, page);
+    put_near_each(page, g, &mut rows);
+}
+
+fn put_near_each(page: &mut Page, g: &Graph, rows: &mut SourceRows)
+    requires { MakeRows g.now rows.old }
+    ensures { MakeRows g.now rows.new }
+{
+    for n in 0..g.node_count() {
+        rows.find(g, NodeNo::new(n));
+        page.count("from ", n);
+        put_row_list(page, rows.rows());
+    }
+}
+
+fn put_near_words(alloc: Global, g: &Graph, rows: &SourceRows, page: &mut Page)
+    requires { MakeRows g.now rows.now }
+{
+    match rows.nodes(alloc, g) {
+        Ok(nodes) => put_nodes(page, &nodes),
+        Err(_) => page.lacks_memory(),
+    }
+    match rows.links(alloc, g) {
+        Ok(links) => put_links(page, &links),
+        Err(_) => page.lacks_memory(),
+    }
+}
+
+pub fn put_column_each(alloc: Global, g: &Graph, root: NodeNo, page: &mut Page)
+    requires { root < length g.now.ids }
+{
+    let Ok(d) = directed_of(alloc, g, root) else {
+        return page.lacks_memory();
+    };
+    for n in 0..g.node_count() {
+        put_column_of(alloc, g, root, &d, NodeNo::new(n), page);
+    }
+}
+
+fn put_column_of(alloc: Global, g: &Graph, root: NodeNo, d: &Directed, to: NodeNo, page: &mut Page)
+    requires directed { SaysOrdered g.now root d.now }
+    requires to { to < length g.now.ids }
+{
+    match column_of(alloc, g, root, d, to) {
+        Ok(column) => put_column(page, g, to, &column),
+        Err(_) => page.lacks_memory(),
+    }
+}
+
+pub fn put_columns(alloc: Global, g: &Graph, root: NodeNo, page: &mut Page)
+    requires { root < length g.now.ids }
+{
+    match RootedColumns::for_some(alloc, g, root, DESTINATIONS) {
+        Ok(mut columns) => put_each_column(alloc, g, &mut columns, page),
+        Err(_) => page.lacks_memory(),
+    }
+}
+
+fn put_each_column(alloc: Global, g: &Graph, columns: &mut RootedColumns, page: &mut Page)
+    requires { MakeColumns g.now columns.old }
+{
+    for n in 0..g.node_count() {
+        put_next_column(alloc, g, columns, NodeNo::new(n), page);
+    }
+}
+
+fn put_next_column(
+    alloc: Global,
+    g: &Graph,
+    columns: &mut RootedColumns,
+    to: NodeNo,
+    page: &mut Page,
+)
+    requires to { to < length g.now.ids }
+    requires made { MakeColumns g.now columns.old }
+    ensures { MakeColumns g.now columns.new }
+{
+    columns.aim(g, to);
+    match columns.column(g).held(alloc) {
+        Ok(column) => put_column(page, g, to, &column),
+        Err(_) => page.lacks_memory(),
+    }
+}
+
+fn put_column(page: &mut Page, g: &Graph, to: NodeNo, column: &Column)
+    requires { length column.now ≡ length g.now.ids }
+{
+    page.node("to ", to);
+    for n in 0..g.node_count() {
+        match column.row(NodeNo::new(n)) {
+            Some(row) => put_row(page, row),
+            None => page.put(" -"),
+        }
+    }
+    page.put("\n");
+}

@@ -1,0 +1,194 @@
+//! The answer to a row, while it is put together. A piece for which there is no memory is left out, and the page keeps
+//! in mind that it lacks one; so what puts pieces has nothing to give back.
+
+ghost use Rattle.std.specs.Prelude.{◌<◌};
+
+use mrt_graph::{LinkNo, NodeId, NodeNo, NodeText};
+use std::alloc::Global;
+use text_parts::push_number;
+
+/// A text, and whether it lacks a piece.
+pub struct Page {
+    text: Vec<u8>,
+    is_cut: bool,
+}
+
+impl Drop for Page {
+    fn drop(self) {
+        let Self { text: _, is_cut: _ } = self;
+    }
+}
+
+impl Page {
+    /// A page with nothing on it.
+    pub fn new(alloc: Global) -> Page {
+        Page {
+            text: Vec::new(alloc),
+            is_cut: false,
+        }
+    }
+
+    /// All that was put on it.
+    pub fn into_bytes(self) -> Vec<u8> {
+        let Self { text, is_cut: _ } = self;
+        text
+    }
+
+    pub fn bytes(&self) -> &[u8] {
+        self.text.as_slice()
+    }
+
+    /// Whether there was no memory for a piece of it.
+    pub fn is_cut(&self) -> bool {
+        self.is_cut
+    }
+
+    /// Keeps in mind that there was no memory.
+    pub fn lacks_memory(&mut self) {
+        self.is_cut = true;
+    }
+
+    /// Keeps in mind whether there was memory.
+    pub fn note<E: Drop>(&mut self, done: Result<(), E>) {
+        if done.is_err() {
+            self.is_cut = true;
+        }
+    }
+
+    /// What was found; no where there was no memory to look.
+    pub fn found<E: Drop>(&mut self, found: Result<bool, E>) -> bool {
+        match found {
+            Ok(is_so) => is_so,
+            Err(_) => {
+                self.is_cut = true;
+                false
+            }
+        }
+    }
+
+    /// Keeps in mind that there was no memory for another page.
+    pub fn heed(&mut self, other: &Page) {
+        if other.is_cut {
+            self.is_cut = true;
+        }
+    }
+
+    /// Takes all away that was put on it.
+    pub fn clear(&mut self) {
+        self.text.clear();
+    }
+
+    /// Puts bytes.
+    pub fn put_bytes(&mut self, bytes: &[u8]) {
+        if self.text.extend_from_slice(bytes).is_err() {
+            self.is_cut = true;
+        }
+    }
+
+    /// Puts a text.
+    pub fn put(&mut self, text: &str) {
+        self.put_bytes(text.as_bytes());
+    }
+
+    /// Puts bytes that were made, if there was memory for them.
+    pub fn made<E: Drop>(&mut self, bytes: Result<Vec<u8>, E>) {
+        match bytes {
+            Ok(bytes) => self.put_bytes(&bytes),
+            Err(_) => self.is_cut = true,
+        }
+    }
+
+    /// Puts the bytes that a text tells: `\s`, `\t`, `\n`, `\r` and, by two digits, `\x80` are one byte each.
+    pub fn put_told(&mut self, text: &str) {
+        let mut is_first = true;
+        for piece in text.split('\\') {
+            if is_first {
+                self.put(piece);
+            } else {
+                self.put_escaped(piece.as_bytes());
+            }
+            is_first = false;
+        }
+    }
+
+    /// Puts what a piece tells that stood after a `\`.
+    fn put_escaped(&mut self, piece: &[u8]) {
+        let (byte, rest) = match piece {
+            [b's', rest @ ..] => (b' ', rest),
+            [b't', rest @ ..] => (b'\t', rest),
+            [b'n', rest @ ..] => (b'\n', rest),
+            [b'r', rest @ ..] => (b'\r', rest),
+            [b'x', high, low, rest @ ..] => (told(*high) * 16 + told(*low), rest),
+            _ => (b'\\', piece),
+        };
+        self.put_bytes(&[byte]);
+        self.put_bytes(rest);
+    }
+
+    /// Puts a text and a number.
+    pub fn number(&mut self, before: &str, number: u64) {
+        if push_number(&mut self.text, before.as_bytes(), number).is_err() {
+            self.is_cut = true;
+        }
+    }
+
+    /// The same with a smaller number.
+    pub fn count(&mut self, before: &str, count: u16) {
+        self.number(before, u64::from(count));
+    }
+
+    /// The same with a node's number.
+    pub fn node(&mut self, before: &str, node: NodeNo) {
+        self.count(before, node.get());
+    }
+
+    /// The same with a link's number.
+    pub fn link(&mut self, before: &str, link: LinkNo) {
+        self.count(before, link.get());
+    }
+
+    /// Puts a node's name.
+    pub fn name(&mut self, id: NodeId) {
+        self.put_bytes(NodeText::new(id).bytes());
+    }
+
+    /// Puts a text and an address.
+    pub fn address(&mut self, before: &str, address: u32) {
+        self.put(before);
+        self.name(NodeId::router(address));
+    }
+
+    /// Puts a text, and `true` or `false`.
+    pub fn truth(&mut self, before: &str, is_so: bool) {
+        self.put(before);
+        self.put(if is_so { "true" } else { "false" });
+    }
+
+    /// Puts a text and bytes, two digits each.
+    pub fn hex(&mut self, before: &str, bytes: &[u8]) {
+        self.put(before);
+        for byte in bytes {
+            self.put_bytes(&[digit(*byte / 16), digit(*byte % 16)]);
+        }
+    }
+}
+
+/// The number of a digit; 0 for a byte that is none.
+fn told(digit: u8) -> u8
+    ensures { result < 16 }
+{
+    match digit {
+        b'0'..=b'9' => digit - b'0',
+        b'a'..=b'f' => digit - b'a' + 10,
+        _ => 0,
+    }
+}
+
+/// The digit of a number below 16.
+fn digit(number: u8) -> u8 {
+    match number {
+        0..10 => b'0' + number,
+        10..16 => b'a' + (number - 10),
+        _ => b'?',
+    }
+}
