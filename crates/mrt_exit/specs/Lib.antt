@@ -1,4 +1,5 @@
 pub mod Due
 pub mod Exits
 pub mod Faults
+pub mod Steps
 pub mod Telling
