@@ -2,7 +2,7 @@
 use Rattle.std.proofs.Common.{◌≡◌, ◌∙◌, ◌≤◌, ℕ, true, List, [], ◌∷◌, None, Result, Ok, Err, length, map, refl, sym, ap, subst, inl, inr}
 use Rattle.std.specs.Prelude.{Contains, IfErr, IfOk}
 use Rattle.std.specs.List.{AllByRecursion}
-use Rattle.area_graph.specs.AreaOf.{area_of}
+use Rattle.area_graph.specs.AreaOf.{area_of as area_of_lsas}
 use Rattle.area_graph.specs.AreaSize.{IsTooLarge}
 use Rattle.mrt_graph.specs.NodeIds.{router as router_node}
 use Rattle.lsdb.specs.Conflicts.{least_conflict}
@@ -26,12 +26,15 @@ use Rattle.ospf_lsa.specs.AreaLsas.{is_area_lsa}
 use Rattle.lsdb.specs.Database.{IsDatabase, entering}
 use Rattle.mrt_answer.specs.Database.{IsBadDatabase}
 use Rattle.mrt_words.specs.Form.{IsNetworkSize}
-use Rattle.mrt_answer.specs.Input.{Input, IsInput, area, input_of}
-use Rattle.mrt_answer.specs.Islands.{HasNoIslandFor}
-use Rattle.mrt_answer.specs.Refusals.{HasNoDatabase}
-use Rattle.mrt_answer.specs.Surveyed.{IsSummedUp, made_input}
-use Rattle.mrt_answer.specs.Tabled.{IsComputedFile}
-use Rattle.mrt_answer.proofs.OneVerdict.{no_large_area}
+use Rattle.mrt_answer.specs.Input.{Input, area, input_with, policy}
+use Rattle.mrt_answer.specs.Islands.{area_of, island_in, island_of}
+use Rattle.mrt_answer.specs.Reading.{database_of, input_of}
+use Rattle.mrt_answer.specs.Surveyed.{IsSummedUp, made_input, summed_up_in}
+use Rattle.mrt_answer.specs.TextBytes.{IsTextAnswer}
+use Rattle.mrt_answer.specs.declared.text.Text.{Text}
+use Rattle.mrt_words.proofs.Readings.{if_err}
+use Rattle.mrt_answer.specs.Certified.{IsComputedFile}
+use Rattle.mrt_answer.proofs.Islands.{no_large_area}
 use Rattle.mrt_exit.specs.Due.{IsDue}
 
 -- the laws of the layers below on the LSAs, on the area and on the islands of a network
@@ -44,9 +47,9 @@ pub record NetworkLaws : Type 0 where
   pub entries : (lsas : List Lsa) → all_installed [] lsas ≡ entries_in lsas
   pub agree : (lsas : List Lsa) → least_conflict (entries_in lsas) ≡ None → IsSettled lsas
   pub within : (number nodes : ℕ) → nodes ≤ 2048
-      → IsTooLarge (length (area_of (made_lsas number nodes)).ids) (length (area_of (made_lsas number nodes)).arcs) → ⊥
+      → IsTooLarge (length (area_of_lsas (made_lsas number nodes)).ids) (length (area_of_lsas (made_lsas number nodes)).arcs) → ⊥
   pub there : (number nodes router : ℕ) → 1 ≤ router → router ≤ nodes
-      → Contains (area_of (made_lsas number nodes)).ids (router_node router)
+      → Contains (area_of_lsas (made_lsas number nodes)).ids (router_node router)
 
 -- what may stand in a database enters it
 kept_enters : (lsa : Lsa) → IsKept lsa → is_area_lsa lsa ≡ true
@@ -82,37 +85,42 @@ module _ (laws : NetworkLaws) (number nodes : ℕ) (size : IsNetworkSize nodes) 
     newest_ones = subst (λ (lsas : List Lsa). made_lsas number nodes ≡ newest_in lsas) (sym all_entered) newest_lsas;
   }
 
-  pub made_is_input : IsInput (lsas_text (made_lsas number nodes)) [] (made_input number nodes)
-  made_is_input = record {
-    database_is = made_database;
-    profile_is = record { faultless = λ place. refl; said = refl };
-  }
+  pub made_is_input : input_of (lsas_text (made_lsas number nodes)) [] (Ok (made_input number nodes))
+  made_is_input = (made_lsas number nodes, made_database, ([], record { faultless = λ place. refl; said = refl }, refl))
 
   pub made_has_island : (router : ℕ) → 1 ≤ router → router ≤ nodes → (exit : Exit)
-      → HasNoIslandFor (made_input number nodes) router exit → ⊥
-  made_has_island router first last (exits.TooLarge what count) large =
-      no_large_area (area (made_input number nodes)) what count (laws.within number nodes size.1) large
-  made_has_island router first last (exits.NotThere other) missing = elim missing.2 [
-    | inl absent ↦ absent (laws.there number nodes router first last)
-    | inr unsupported ↦ cc
-  ]
-  made_has_island router first last exit none = none
+      → island_in (made_input number nodes) router (Err exit) → ⊥
+  made_has_island router first last exit (inl large) = not_large exit large
+    where
+      not_large : (exit : Exit) → area_of (made_lsas number nodes) (Err exit) → ⊥
+      not_large (exits.TooLarge what count) large =
+          no_large_area (area (made_input number nodes)) what count (laws.within number nodes size.1) large
+      not_large exit large = large
+  made_has_island router first last exit (inr (of, is, none)) = not_missing exit none
+    where
+      not_missing : (exit : Exit) → island_of (policy (made_input number nodes)) of router (Err exit) → ⊥
+      not_missing (exits.NotThere other) missing = elim missing.1 [
+        | inl absent ↦ absent (rw is.0 (laws.there number nodes router first last))
+        | inr unsupported ↦ cc
+      ]
+      not_missing exit none = none
 
 -- what is said of a network's bytes, or of its router's island, is want of memory
-pub no_fault_of_made : (bytes : List ℕ) (exit : Exit) → ((at : ℕ) (kind : DbKind) → IsBadDatabase bytes at kind → ⊥)
-    → HasNoDatabase bytes exit → exit ≡ exits.NoMemory
-no_fault_of_made bytes (exits.BadDatabase at kind) faultless said = absurd (faultless at kind said)
-no_fault_of_made bytes exits.NoMemory faultless said = refl
-no_fault_of_made bytes exit faultless said = absurd said
+pub memory_of_database : {T : Type 0} (answer : Result T Exit) (bytes : List ℕ) → ((at : ℕ) (kind : DbKind) → IsBadDatabase bytes at kind → ⊥)
+    → IfErr answer (IsDue (λ due. database_of bytes (Err due))) → IfErr answer (λ exit. exit ≡ exits.NoMemory)
+memory_of_database answer bytes faultless said = if_err answer (IsDue (λ due. database_of bytes (Err due))) _ memory said
+  where
+    memory : (exit : Exit) → IsDue (λ due. database_of bytes (Err due)) exit → exit ≡ exits.NoMemory
+    memory (exits.BadDatabase at kind) (inl said) = absurd (faultless at kind said)
+    memory exit (inl said) = absurd said
+    memory exit (inr of_memory) = of_memory
 
-pub memory_of_database : {T : Type 0} (answer : Result T Exit) (bytes : List ℕ) (number nodes : ℕ)
-    → bytes ≡ lsas_text (made_lsas number nodes)
-    → ((at : ℕ) (kind : DbKind) → IsBadDatabase (lsas_text (made_lsas number nodes)) at kind → ⊥)
-    → IfErr answer (HasNoDatabase bytes) → IfErr answer (λ exit. exit ≡ exits.NoMemory)
-memory_of_database (Ok t) bytes number nodes is faultless said = tt
-memory_of_database (Err exit) bytes number nodes is faultless said =
-    no_fault_of_made (lsas_text (made_lsas number nodes)) exit faultless
-    (subst (λ (text : List ℕ). HasNoDatabase text exit) is said)
+pub memory_of_survey : (answer : Result Text Exit) (number : ℕ) (input : Input) → ((exit : Exit) → island_in input 1 (Err exit) → ⊥)
+    → IsTextAnswer (summed_up_in number input) answer → IfErr answer (λ exit. exit ≡ exits.NoMemory)
+memory_of_survey (Ok text) number input has said = tt
+memory_of_survey (Err exit) number input has (inl (inl none)) = absurd (has exit none)
+memory_of_survey (Err exit) number input has (inl (inr (island, is, none))) = absurd none
+memory_of_survey (Err exit) number input has (inr memory) = memory
 
 -- what the database of a network's bytes holds
 pub newest_of_made : {E : Type 0} (answer : Result Database E) (bytes : List ℕ) (number nodes : ℕ)
@@ -125,22 +133,10 @@ newest_of_made (Ok database) bytes number nodes is only held =
     (subst (λ (text : List ℕ). IsDatabase text (map (λ (entry : Entry). entry.lsa) database.entries)) is held)
 newest_of_made (Err error) bytes number nodes is only held = tt
 
-memory_of_island : (input : Input) (router : ℕ) (exit : Exit)
-    → ((exit : Exit) → HasNoIslandFor input router exit → ⊥) → IsDue (HasNoIslandFor input router) exit → exit ≡ exits.NoMemory
-memory_of_island input router exit has (inl none) = absurd (has exit none)
-memory_of_island input router exit has (inr memory) = memory
-
-pub memory_of_islands : {T : Type 0} (answer : Result T Exit) (input given : Input) (router : ℕ) → given ≡ input
-    → ((exit : Exit) → HasNoIslandFor input router exit → ⊥) → IfErr answer (IsDue (HasNoIslandFor given router))
-    → IfErr answer (λ exit. exit ≡ exits.NoMemory)
-memory_of_islands (Ok t) input given router same has said = tt
-memory_of_islands (Err exit) input given router same has said =
-    memory_of_island input router exit has (subst (λ (it : Input). IsDue (HasNoIslandFor it router) exit) same said)
-
 -- where a database holds the LSAs of a network, and a profile nothing, they hold what is surveyed
 pub made_input_is : (entries : List Entry) (settings : List Setting) (number nodes : ℕ)
     → map (λ entry. entry.lsa) entries ≡ made_lsas number nodes → settings ≡ []
-    → input_of entries settings ≡ made_input number nodes
+    → input_with entries settings ≡ made_input number nodes
 made_input_is entries settings number nodes newest none = λ i. record { newest = newest i; settings = none i }
 
 -- what was written of a graph and its certificate is the survey

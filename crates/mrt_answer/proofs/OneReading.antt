@@ -1,5 +1,5 @@
 -- What the bytes of each file hold, they hold in one way, or they have one first fault, and never both.
-use Rattle.std.proofs.Common.{◌≡◌, ◌∙◌, ◌≤◌, ◌+◌, ℕ, Bool, true, false, List, [], ◌∷◌, Option, Some, None, refl, sym, ap, subst, arith}
+use Rattle.std.proofs.Common.{◌≡◌, ◌∙◌, ◌≤◌, ◌+◌, ℕ, Bool, true, false, List, [], ◌∷◌, Option, Some, None, Ok, Err, refl, sym, ap, subst, arith}
 use Rattle.std.specs.Option.{option_map_or}
 use Rattle.cert_format.specs.CertText.{cert_text}
 use Rattle.cert_format.specs.FirstFault.{first_fault}
@@ -28,6 +28,21 @@ use Rattle.mrt_answer.specs.Database.{IsBadDatabase}
 use Rattle.mrt_words.specs.CertSpelling.{IsSpellingOf}
 use Rattle.mrt_exit.specs.declared.exit.DbKind.{DbKind}
 use Rattle.mrt_exit.specs.declared.exit.DbKind.TheVariants.{Lsa, Conflict}
+use Rattle.mrt_exit.specs.declared.exit.Exit.{Exit}
+use Rattle.mrt_exit.specs.declared.exit.Exit.TheVariants.{BadDatabase, BadProfile, BadCertificate, BadScript, BadUpdate}
+use Rattle.mrt_exit.specs.Steps.{IsOne, such, ◌▸◌}
+use Rattle.mrt_exit.proofs.Stepping.{one_such, one_then_one, one_value_or_exit}
+use Rattle.mrt_graph.specs.TextLines.{text_lines}
+use Rattle.mrt_answer.specs.Input.{Input}
+use Rattle.mrt_answer.specs.Reading.{certificate_of, database_of, deliveries_of, input_of, profile_of, script_of, updates_of}
+use Rattle.fabric_script.specs.declared.script.Script.{Script}
+use Rattle.fabric_script.specs.ScriptFaults.{IsFirstFault as IsFirstFaultOfScript, IsScript}
+use Rattle.flood_core.specs.declared.error.UpdateKind.{UpdateKind}
+use Rattle.flood_core.specs.declared.update.Update.{Update}
+use Rattle.flood_core.specs.UpdateOutcome.{IsFirstFault as IsFirstFaultOfUpdates}
+use Rattle.flood_core.specs.Updates.{AreUpdates}
+use Rattle.flood_script.specs.declared.script.FloodScript.{FloodScript}
+use Rattle.flood_script.specs.FloodScripts.{IsFirstFault as IsFirstFaultOfDeliveries, IsScript as IsFloodScript}
 
 -- what an option holds is one
 pub held_once : {X : Type 0} (x y : X) (option : Option X) → option ≡ Some x → option ≡ Some y → x ≡ y
@@ -139,3 +154,121 @@ no_bad_cert laws bytes file fault one some =
 pub one_cert : CertLaws → (bytes : List ℕ) (file other : CertFile) → IsSpellingOf bytes file → IsSpellingOf bytes other
     → file ≡ other
 one_cert laws bytes file other one two = laws.one file other one.within two.within (sym one.spelled ∙ two.spelled)
+
+-- ---- each file
+
+module _ (databases : DatabaseLaws) (profiles : ProfileLaws) where
+  pub one_database_of : (bytes : List ℕ) → IsOne (database_of bytes)
+  one_database_of bytes = one_value_or_exit (database_of bytes) (one_database databases bytes) exits no
+    where
+      exits : (e d : Exit) → database_of bytes (Err e) → database_of bytes (Err d) → e ≡ d
+      exits (BadDatabase at kind) (BadDatabase place other) one two =
+          let same = one_bad_database databases bytes at place kind other one two in
+          λ i. BadDatabase (same.0 i) (same.1 i)
+      exits (BadDatabase at kind) d one two = absurd two
+      exits e d one two = absurd one
+
+      no : (newest : List Advertisement) (e : Exit) → database_of bytes (Ok newest) → database_of bytes (Err e) → ⊥
+      no newest (BadDatabase at kind) one two = no_bad_database databases bytes newest at kind one two
+      no newest e one two = two
+
+  pub one_profile_of : (bytes : List ℕ) → IsOne (profile_of bytes)
+  one_profile_of bytes = one_value_or_exit (profile_of bytes) (profiles.one_list (text_lines bytes)) exits no
+    where
+      exits : (e d : Exit) → profile_of bytes (Err e) → profile_of bytes (Err d) → e ≡ d
+      exits (BadProfile line kind) (BadProfile number other) one two =
+          let same = profiles.one_fault (text_lines bytes) line number kind other one two in
+          λ i. BadProfile (same.0 i) (same.1 i)
+      exits (BadProfile line kind) d one two = absurd two
+      exits e d one two = absurd one
+
+      no : (settings : List Setting) (e : Exit) → profile_of bytes (Ok settings) → profile_of bytes (Err e) → ⊥
+      no settings (BadProfile line kind) one two = profiles.never_both (text_lines bytes) settings line kind one two
+      no settings e one two = two
+
+  -- the two
+  pub one_input_of : (database profile : List ℕ) → IsOne (input_of database profile)
+  one_input_of database profile =
+      one_then_one (database_of database)
+      (λ newest. profile_of profile ▸ λ settings. such (λ input. input ≡ record { newest = newest; settings = settings })) (one_database_of database) (λ newest is.
+      one_then_one (profile_of profile) (λ settings. such (λ input. input ≡ record { newest = newest; settings = settings })) (one_profile_of profile)
+      (λ settings too. one_such (λ (input : Input). input ≡ record { newest = newest; settings = settings }) (λ one other a b. a ∙ sym b)))
+
+pub one_certificate_of : CertLaws → (bytes : List ℕ) → IsOne (certificate_of bytes)
+one_certificate_of laws bytes = one_value_or_exit (certificate_of bytes) (one_cert laws bytes) exits no
+  where
+    exits : (e d : Exit) → certificate_of bytes (Err e) → certificate_of bytes (Err d) → e ≡ d
+    exits (BadCertificate at kind) (BadCertificate place other) one two =
+        let same = held_once (at, kind) (place, other) (first_fault bytes) one two in
+        λ i. BadCertificate (same i).0 (same i).1
+    exits (BadCertificate at kind) d one two = absurd two
+    exits e d one two = absurd one
+
+    no : (file : CertFile) (e : Exit) → certificate_of bytes (Ok file) → certificate_of bytes (Err e) → ⊥
+    no file (BadCertificate at kind) one two = no_bad_cert laws bytes file (at, kind) one two
+    no file e one two = two
+
+-- ---- scripts and packets
+
+-- the laws of the layers below: a script of events, packets, or a script of deliveries
+pub record ScriptLaws : Type 0 where
+  pub never_both : (lines : List (List ℕ)) (script : Script) (number : ℕ) → IsScript lines script
+      → IsFirstFaultOfScript lines number → ⊥
+  pub one_script : (lines : List (List ℕ)) (script other : Script) → IsScript lines script → IsScript lines other
+      → script ≡ other
+  pub one_fault : (lines : List (List ℕ)) (number other : ℕ) → IsFirstFaultOfScript lines number
+      → IsFirstFaultOfScript lines other → number ≡ other
+
+pub record UpdateLaws : Type 0 where
+  pub never_both : (bytes : List ℕ) (updates : List Update) (at : ℕ) (kind : UpdateKind) → AreUpdates 0 bytes updates []
+      → IsFirstFaultOfUpdates bytes at kind → ⊥
+  pub one_list : (bytes : List ℕ) (updates others : List Update) → AreUpdates 0 bytes updates []
+      → AreUpdates 0 bytes others [] → updates ≡ others
+  pub one_fault : (bytes : List ℕ) (at place : ℕ) (kind other : UpdateKind) → IsFirstFaultOfUpdates bytes at kind
+      → IsFirstFaultOfUpdates bytes place other → (at ≡ place) × (kind ≡ other)
+
+pub record DeliveryLaws : Type 0 where
+  pub never_both : (lines : List (List ℕ)) (script : FloodScript) (number : ℕ) → IsFloodScript lines script
+      → IsFirstFaultOfDeliveries lines number → ⊥
+  pub one_script : (lines : List (List ℕ)) (script other : FloodScript) → IsFloodScript lines script
+      → IsFloodScript lines other → script ≡ other
+  pub one_fault : (lines : List (List ℕ)) (number other : ℕ) → IsFirstFaultOfDeliveries lines number
+      → IsFirstFaultOfDeliveries lines other → number ≡ other
+
+pub one_script_of : ScriptLaws → (bytes : List ℕ) → IsOne (script_of bytes)
+one_script_of laws bytes = one_value_or_exit (script_of bytes) (laws.one_script (text_lines bytes)) exits no
+  where
+    exits : (e d : Exit) → script_of bytes (Err e) → script_of bytes (Err d) → e ≡ d
+    exits (BadScript line) (BadScript number) one two = ap BadScript (laws.one_fault (text_lines bytes) line number one two)
+    exits (BadScript line) d one two = absurd two
+    exits e d one two = absurd one
+
+    no : (script : Script) (e : Exit) → script_of bytes (Ok script) → script_of bytes (Err e) → ⊥
+    no script (BadScript line) one two = laws.never_both (text_lines bytes) script line one two
+    no script e one two = two
+
+pub one_updates_of : UpdateLaws → (bytes : List ℕ) → IsOne (updates_of bytes)
+one_updates_of laws bytes = one_value_or_exit (updates_of bytes) (laws.one_list bytes) exits no
+  where
+    exits : (e d : Exit) → updates_of bytes (Err e) → updates_of bytes (Err d) → e ≡ d
+    exits (BadUpdate at kind) (BadUpdate place other) one two =
+        let same = laws.one_fault bytes at place kind other one two in
+        λ i. BadUpdate (same.0 i) (same.1 i)
+    exits (BadUpdate at kind) d one two = absurd two
+    exits e d one two = absurd one
+
+    no : (updates : List Update) (e : Exit) → updates_of bytes (Ok updates) → updates_of bytes (Err e) → ⊥
+    no updates (BadUpdate at kind) one two = laws.never_both bytes updates at kind one two
+    no updates e one two = two
+
+pub one_deliveries_of : DeliveryLaws → (bytes : List ℕ) → IsOne (deliveries_of bytes)
+one_deliveries_of laws bytes = one_value_or_exit (deliveries_of bytes) (laws.one_script (text_lines bytes)) exits no
+  where
+    exits : (e d : Exit) → deliveries_of bytes (Err e) → deliveries_of bytes (Err d) → e ≡ d
+    exits (BadScript line) (BadScript number) one two = ap BadScript (laws.one_fault (text_lines bytes) line number one two)
+    exits (BadScript line) d one two = absurd two
+    exits e d one two = absurd one
+
+    no : (script : FloodScript) (e : Exit) → deliveries_of bytes (Ok script) → deliveries_of bytes (Err e) → ⊥
+    no script (BadScript line) one two = laws.never_both (text_lines bytes) script line one two
+    no script e one two = two

@@ -3,23 +3,31 @@ use Rattle.std.proofs.Common.{◌≡◌, ◌∙◌, ◌<◌, ℕ, List, Option, 
 use Rattle.std.proofs.lemmas.List.{ext_get_or}
 use Rattle.std.proofs.lemmas.Option.{slice_get-get_or}
 use Rattle.area_graph.specs.AreaInvariant.{IsArea}
-use Rattle.mrt_graph.specs.NodeIds.{router}
 use Rattle.area_graph.specs.Parts.{AreaParts}
 use Rattle.mrt_graph.specs.declared.cert.CertFile.{CertFile}
 use Rattle.mrt_graph.specs.GraphInvariant.{IsTopology}
 use Rattle.mrt_graph.specs.Topology.{Topology}
-use Rattle.mrt_graph.proofs.NodeIds.{one_place}
 use Rattle.mrt_report.specs.TableParts.{TableParts, table_parts}
 use Rattle.mrt_report.specs.TableText.{IsTableText}
 use Rattle.mrt_rows.specs.CertOf.{IsCertOf}
 use Rattle.primary_alt.specs.declared.shortest.Primary.{Primary}
 use Rattle.primary_alt.specs.Primaries.{ArePrimaries, IsPrimary}
+use Rattle.mrt_island.specs.IslandOf.{IsIsland}
+use Rattle.mrt_island.specs.Policy.{Policy}
+use Rattle.mrt_island.specs.declared.island.Island.{Island}
+use Rattle.mrt_answer.specs.Certified.{IsComputedFile}
 use Rattle.mrt_answer.specs.Tabled.{IsTableOf}
 
 -- the law of the layer below on the certificate that is computed
 abbrev pub CertificateLaw : Type 0
 CertificateLaw = (g : Topology) (root : ℕ) (file other : CertFile) → IsTopology g → root < length g.ids
     → IsCertOf g root file → IsCertOf g root other → file ≡ other
+
+-- the law of the layer below on the island of a router
+abbrev pub IslandLaw : Type 0
+IslandLaw = (policy : Policy) (area : AreaParts) (number : ℕ) (g h : Topology) (root node : ℕ) (link_of others : List (Option ℕ))
+    → IsArea area → IsIsland policy area number g root link_of → IsIsland policy area number h node others
+    → (g ≡ h) × (root ≡ node) × (link_of ≡ others)
 
 -- the laws of the layers below on tables and on primaries
 pub record TableLaws : Type 0 where
@@ -36,20 +44,14 @@ one_list laws area s entries others one two =
     (λ t within. laws.primary area s t _ _ (one.each t _ (slice_get-get_or entries t None within))
     (two.each t _ (slice_get-get_or others t None (omega (arith, within, one.one_each, two.one_each)))))
 
-pub one_table : CertificateLaw → TableLaws → (area : AreaParts) → IsArea area → (graph : Topology) (root : ℕ)
-    (link_of : List (Option ℕ)) → root < length graph.ids → (number : ℕ) (text other : List ℕ)
-    → IsTableOf area graph root link_of number text → IsTableOf area graph root link_of number other → text ≡ other
-one_table certificates laws area area_kept graph root link_of within number text other one two =
-    let file : one.file ≡ two.file = certificates graph root one.file two.file one.certificate.kept within
-    one.certificate.computed two.certificate.computed in
-    let source : one.source ≡ two.source = one_place graph.ids one.source two.source (router number)
-    one.certificate.kept.ids_ascend one.in_island two.in_island in
-    let spot : one.spot ≡ two.spot = one_place area.ids one.spot two.spot (router number) area_kept.ids_ascend
-    one.in_area two.in_area in
-    let primaries : one.primaries ≡ two.primaries = one_list laws area two.spot one.primaries two.primaries
-    (subst (λ (s : ℕ). ArePrimaries area s one.primaries) spot one.primaries_are) two.primaries_are in
-    let parts : table_parts area graph link_of one.file.cert one.source one.primaries
-    ≡ table_parts area graph link_of two.file.cert two.source two.primaries =
-    λ i. table_parts area graph link_of (file i).cert (source i) (primaries i) in
-    laws.table (table_parts area graph link_of two.file.cert two.source two.primaries) root text other area_kept
-    one.certificate.kept (subst (λ (p : TableParts). IsTableText p root text) parts one.spelled) two.spelled
+-- where the certificate of an island is one, so is a router's table
+pub one_table : TableLaws → (area : AreaParts) → IsArea area → (island : Island) (source spot : ℕ)
+    → ((file other : CertFile) → IsComputedFile island.graph island.root file → IsComputedFile island.graph island.root other → file ≡ other)
+    → (text other : List ℕ) → IsTableOf area island source spot text → IsTableOf area island source spot other → text ≡ other
+one_table laws area area_kept island source spot one_file text other one two =
+    let file = one_file one.file two.file one.certificate two.certificate in
+    let primaries = one_list laws area spot one.primaries two.primaries one.primaries_are two.primaries_are in
+    laws.table (table_parts area island.graph island.link_of two.file.cert source two.primaries) island.root text other area_kept
+    two.certificate.kept
+    (subst (λ (p : TableParts). IsTableText p island.root text)
+    (λ i. table_parts area island.graph island.link_of (file i).cert source (primaries i)) one.spelled) two.spelled

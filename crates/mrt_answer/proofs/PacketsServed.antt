@@ -17,15 +17,13 @@ use Rattle.mrt_graph.specs.Certificate.{row_of}
 use Rattle.mrt_graph.specs.Topology.{Topology}
 use Rattle.mrt_graph.specs.declared.node_id.NodeId.{NodeId}
 use Rattle.mrt_graph.proofs.ListTests.{there}
-use Rattle.mrt_island.specs.IslandOf.{IsIsland}
 use Rattle.mrt_rows.specs.RowsTo.{rows_in}
 use Rattle.primary_alt.specs.RouteLists.{RouteLists}
 use Rattle.primary_alt.specs.RoutesMade.{AreMade}
 use Rattle.mrt_answer.specs.declared.packets.AreaAndIsland.{AreaAndIsland}
 use Rattle.mrt_answer.specs.declared.packets.Tables.{Tables}
-use Rattle.mrt_answer.specs.Input.{Input, policy}
-use Rattle.mrt_answer.specs.PacketTables.{AreTablesTo, IsAreaAndIsland}
-use Rattle.mrt_answer.specs.Packets.{ArePartsFor}
+use Rattle.mrt_answer.specs.PacketTables.{AreTablesTo}
+use Rattle.mrt_answer.specs.Packets.{ArePartsIn}
 use Rattle.mrt_answer.proofs.OneProxy.{accepted_for}
 
 -- tables to the numbers that are lent are tables to the destinations
@@ -57,15 +55,10 @@ module _ {net : AreaAndIsland} {spots : List ℕ} {tables : Tables} (made : AreT
   pub agrees : (t : ℕ) → (t < length net.area.ids → Contains spots t) → AgreeFor parts (row_of made.file.cert) t
   agrees t among = λ d is. made.agree t (among (inside t d is)) d is
 
-  pub are_whole : (input : Input) (router : ℕ) → IsAreaAndIsland input router net → ArePartsFor input router whole
-  are_whole input router is = record {
-    area_is = is.area_is;
-    root = net.island.root;
-    has = record {
-      area_within = is.within;
-      link_of = net.island.link_of;
-      island = subst (λ (a : AreaParts). IsIsland (policy input) a router net.island.graph net.island.root net.island.link_of) is.area_is is.island;
-    };
+  pub are_whole : ArePartsIn net.area net.island whole
+  are_whole = record {
+    area_is = refl;
+    island_is = refl;
     links_are = made.links;
     fits = made.routed.fits;
     file = made.file;

@@ -1,4 +1,4 @@
--- The certificate of a router's island.
+-- The certificate that is computed, and its text.
 use Rattle.std.specs.Prelude.{ℕ, List, length}
 use Rattle.mrt_graph.specs.declared.cert.CertFile.{CertFile}
 use Rattle.mrt_graph.specs.Accepted.{Accepted}
@@ -7,21 +7,17 @@ use Rattle.mrt_graph.specs.GraphInvariant.{IsTopology}
 use Rattle.mrt_graph.specs.Sound.{Sound}
 use Rattle.mrt_graph.specs.Topology.{Topology}
 use Rattle.mrt_rows.specs.CertOf.{IsCertOf}
-use Rattle.mrt_answer.specs.Input.{Input, HasIsland}
 use Rattle.mrt_words.specs.CertSpelling.{IsSpellingOf}
 
--- the text spells the certificate that is computed for a graph and its root: it is accepted, so that its rows are sound
-pub record IsComputed (graph : Topology) (root : ℕ) (text : List ℕ) : Type 0 where
+-- the file is the certificate that is computed for a graph and its root: it is accepted, so that its rows are sound
+pub record IsComputedFile (graph : Topology) (root : ℕ) (file : CertFile) : Type 0 where
   pub kept : IsTopology graph
-  pub file : CertFile
   pub computed : IsCertOf graph root file
-  pub spelled : IsSpellingOf text file
   pub accepted : Accepted graph root file
   pub sound : Sound graph.links (length graph.ids) (row_of file.cert)
 
--- the same, for the island of a router
-pub record IsCertified (input : Input) (router : ℕ) (text : List ℕ) : Type 0 where
-  pub graph : Topology
-  pub root : ℕ
-  pub island : HasIsland input router graph root
-  pub certificate : IsComputed graph root text
+-- the text spells it
+pub record IsComputed (graph : Topology) (root : ℕ) (text : List ℕ) : Type 0 where
+  pub file : CertFile
+  pub certificate : IsComputedFile graph root file
+  pub spelled : IsSpellingOf text file

@@ -1,18 +1,14 @@
 -- What a form is given.
 use Rattle.std.specs.Prelude.{◌≡◌, ◌⊎◌, ℕ, false, List, Option, Contains, length, map}
 use Rattle.area_graph.specs.AreaOf.{area_of}
-use Rattle.area_graph.specs.AreaSize.{IsTooLarge}
 use Rattle.mrt_graph.specs.NodeIds.{router}
 use Rattle.area_graph.specs.Parts.{AreaParts}
 use Rattle.lsdb.specs.Entries.{Entry}
-use Rattle.mrt_graph.specs.Topology.{Topology}
 use Rattle.mrt_graph.specs.TextLines.{text_lines}
 use Rattle.mrt_island.specs.ProfileFaults.{AreSettings}
-use Rattle.mrt_island.specs.IslandOf.{IsIsland}
 use Rattle.mrt_island.specs.Policy.{Policy, policy_of}
 use Rattle.mrt_island.specs.declared.setting.Setting.{Setting}
 use Rattle.ospf_lsa.specs.declared.lsa.Lsa.{Lsa}
-use Rattle.lsdb.specs.Database.{IsDatabase}
 
 -- the bytes are a profile, no line of which has a fault, and this is what its lines say
 abbrev pub IsProfile : List ℕ → List Setting → Type 0
@@ -23,14 +19,9 @@ pub record Input : Type 0 where
   pub newest : List Lsa
   pub settings : List Setting
 
--- what the bytes of a database and of a profile hold
-pub record IsInput (database profile : List ℕ) (input : Input) : Type 0 where
-  pub database_is : IsDatabase database input.newest
-  pub profile_is : IsProfile profile input.settings
-
 -- what a database with these entries, and a profile with these settings, hold
-abbrev pub input_of : List Entry → List Setting → Input
-input_of entries settings = record { newest = map (λ entry. entry.lsa) entries; settings = settings }
+abbrev pub input_with : List Entry → List Setting → Input
+input_with entries settings = record { newest = map (λ entry. entry.lsa) entries; settings = settings }
 
 -- the area
 abbrev pub area : Input → AreaParts
@@ -40,10 +31,6 @@ area input = area_of input.newest
 abbrev pub policy : Input → Policy
 policy input = policy_of input.settings
 
--- the area has at most as many nodes and arcs as an area may have
-abbrev pub HasAreaWithin : Input → Type 0
-HasAreaWithin input = IsTooLarge (length (area input).ids) (length (area input).arcs) → ⊥
-
 -- a router is not in an area
 abbrev pub IsAbsent : AreaParts → ℕ → Type 0
 IsAbsent area number = Contains area.ids (router number) → ⊥
@@ -51,9 +38,3 @@ IsAbsent area number = Contains area.ids (router number) → ⊥
 -- a router is not in an area, or does not support the Default MRT Profile
 abbrev pub IsMissing : Policy → AreaParts → ℕ → Type 0
 IsMissing policy area number = IsAbsent area number ⊎ (policy.supports number ≡ false)
-
--- this is the graph of a router's island, and its GADAG root; the area is within its limits
-pub record HasIsland (input : Input) (number : ℕ) (graph : Topology) (root : ℕ) : Type 0 where
-  pub area_within : HasAreaWithin input
-  pub link_of : List (Option ℕ)
-  pub island : IsIsland (policy input) (area input) number graph root link_of

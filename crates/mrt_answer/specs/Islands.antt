@@ -1,11 +1,19 @@
--- Where there is no router, or no island of it.
-use Rattle.std.specs.Prelude.{◌≡◌, ◌<◌, ◌≤◌, ◌-◌, ◌^◌, ℕ, length, min}
+-- The area of an input, the island of a router in it, and routers of these; or why there is none.
+use Rattle.std.specs.Prelude.{◌≡◌, ◌⊎◌, ◌<◌, ◌≤◌, ◌-◌, ◌^◌, ℕ, false, List, Ok, Err, Some, Contains, length, min, slice_get}
+use Rattle.area_graph.specs.AreaOf.{area_of as area_of_newest}
+use Rattle.area_graph.specs.AreaSize.{IsTooLarge}
 use Rattle.area_graph.specs.Parts.{AreaParts}
-use Rattle.mrt_exit.specs.declared.exit.Exit.{Exit}
+use Rattle.mrt_exit.specs.Steps.{Step, ◌▸◌}
 use Rattle.mrt_exit.specs.declared.exit.Exit.TheVariants.{NotThere, TooLarge}
 use Rattle.mrt_exit.specs.declared.exit.What.{What}
 use Rattle.mrt_exit.specs.declared.exit.What.TheVariants as whats
-use Rattle.mrt_answer.specs.Input.{Input, area, policy, HasAreaWithin, IsAbsent, IsMissing}
+use Rattle.mrt_graph.specs.NodeIds.{router as router_node}
+use Rattle.mrt_graph.specs.declared.node_id.NodeId.{NodeId}
+use Rattle.mrt_island.specs.IslandOf.{IsIsland}
+use Rattle.mrt_island.specs.Policy.{Policy}
+use Rattle.mrt_island.specs.declared.island.Island.{Island}
+use Rattle.ospf_lsa.specs.declared.lsa.Lsa.{Lsa}
+use Rattle.mrt_answer.specs.Input.{Input, policy, IsMissing}
 
 -- so many are told as a number of 32 bits, the greatest one where they are more
 abbrev pub told : ℕ → ℕ
@@ -17,16 +25,24 @@ IsLargeArea area whats.AreaNodes size = (4096 < length area.ids) × (size ≡ to
 IsLargeArea area whats.AreaArcs size = (length area.ids ≤ 4096) × (32768 < length area.arcs) × (size ≡ told (length area.arcs))
 IsLargeArea area _ size = ⊥
 
--- what is said where a router is missed: too large an area; else that the router is not there
-abbrev pub HasNoneFor : Type 0 → Input → ℕ → Exit → Type 0
-HasNoneFor Missing input router (TooLarge what size) = IsLargeArea (area input) what size
-HasNoneFor Missing input router (NotThere number) = HasAreaWithin input × (number ≡ router) × Missing
-HasNoneFor Missing input router _ = ⊥
+-- the area of the newest LSAs, where it is within its limits
+abbrev pub area_of : List Lsa → Step AreaParts
+area_of newest (Ok area) = (area ≡ area_of_newest newest) × (IsTooLarge (length area.ids) (length area.arcs) → ⊥)
+area_of newest (Err (TooLarge what size)) = IsLargeArea (area_of_newest newest) what size
+area_of newest (Err _) = ⊥
 
--- why there is no island of this router
-abbrev pub HasNoIslandFor : Input → ℕ → Exit → Type 0
-HasNoIslandFor input router exit = HasNoneFor (IsMissing (policy input) (area input) router) input router exit
+-- the island of a router in an area; where the router is not there, or does not support the profile, that is said
+abbrev pub island_of : Policy → AreaParts → ℕ → Step Island
+island_of policy area number (Ok island) = IsIsland policy area number island.graph island.root island.link_of
+island_of policy area number (Err (NotThere missing)) = (missing ≡ number) × IsMissing policy area number
+island_of policy area number (Err _) = ⊥
 
--- why there is no such router in the area
-abbrev pub HasNoRouterFor : Input → ℕ → Exit → Type 0
-HasNoRouterFor input router exit = HasNoneFor (IsAbsent (area input) router) input router exit
+-- the place of a router among nodes; where it is none of them, that is said
+abbrev pub place_of : List NodeId → ℕ → Step ℕ
+place_of ids number (Ok place) = slice_get ids place ≡ Some (router_node number)
+place_of ids number (Err (NotThere missing)) = (missing ≡ number) × (Contains ids (router_node number) → ⊥)
+place_of ids number (Err _) = ⊥
+
+-- the area, and then the island of a router in it
+abbrev pub island_in : Input → ℕ → Step Island
+island_in input number = area_of input.newest ▸ λ area. island_of (policy input) area number

@@ -1,25 +1,15 @@
 -- What the steps of packets for some destinations read.
 use Rattle.std.specs.Prelude.{◌≡◌, ◌↔◌, ℕ, Contains, List, Some, slice_get}
-use Rattle.area_graph.specs.Fits.{Fits}
 use Rattle.fabric.specs.SameRows.{AgreeFor}
 use Rattle.fabric.specs.Viewed.{parts_with}
 use Rattle.mrt_graph.specs.declared.cert.CertFile.{CertFile}
 use Rattle.mrt_graph.specs.Certificate.{row_of}
-use Rattle.mrt_island.specs.IslandOf.{IsIsland}
 use Rattle.mrt_rows.specs.RowsTo.{rows_in}
 use Rattle.primary_alt.specs.RouteLists.{HasColumn, RouteLists}
 use Rattle.primary_alt.specs.RoutesMade.{AreMade}
 use Rattle.mrt_answer.specs.declared.packets.AreaAndIsland.{AreaAndIsland}
 use Rattle.mrt_answer.specs.declared.packets.Tables.{Tables}
-use Rattle.mrt_answer.specs.Input.{HasAreaWithin, Input, area, policy}
-use Rattle.mrt_answer.specs.Tabled.{IsComputedFile}
-
--- this is the area, with the island of a router in it
-pub record IsAreaAndIsland (input : Input) (router : ℕ) (net : AreaAndIsland) : Type 0 where
-  pub area_is : net.area ≡ area input
-  pub within : HasAreaWithin input
-  pub island : IsIsland (policy input) net.area router net.island.graph net.island.root net.island.link_of
-  pub fits : Fits net.area net.island.graph net.island.link_of
+use Rattle.mrt_answer.specs.Certified.{IsComputedFile}
 
 -- one of these nodes of the area is island node d
 pub record IsWanted (routes : RouteLists) (destinations : List ℕ) (d : ℕ) : Type 0 where

@@ -1,12 +1,15 @@
 -- The survey of a network that is made from a number.
-use Rattle.std.specs.Prelude.{ℕ, List, []}
+use Rattle.std.specs.Prelude.{ℕ, List, [], Ok}
 use Rattle.mrt_graph.specs.declared.cert.CertFile.{CertFile}
 use Rattle.mrt_graph.specs.Topology.{Topology}
 use Rattle.mrt_survey.specs.MadeLsas.{made_lsas}
 use Rattle.mrt_survey.specs.SurveyText.{IsSurveyText}
+use Rattle.mrt_exit.specs.Steps.{Step, such, ◌▸◌}
 use Rattle.mrt_words.specs.Form.{IsNetworkSize}
-use Rattle.mrt_answer.specs.Input.{Input, HasIsland}
-use Rattle.mrt_answer.specs.Tabled.{IsComputedFile}
+use Rattle.mrt_answer.specs.Input.{Input}
+use Rattle.mrt_answer.specs.Islands.{island_in}
+use Rattle.mrt_island.specs.declared.island.Island.{Island}
+use Rattle.mrt_answer.specs.Certified.{IsComputedFile}
 
 -- the LSAs of the network, under a profile that says nothing
 abbrev pub made_input : ℕ → ℕ → Input
@@ -18,10 +21,13 @@ pub record IsSummedUp (number : ℕ) (graph : Topology) (root : ℕ) (text : Lis
   pub certificate : IsComputedFile graph root file
   pub spelled : IsSurveyText number graph root file.cert text
 
--- the same, for the island of router 1 in the area of the network
+-- the same, for the island of router 1
+abbrev pub summed_up_in : ℕ → Input → Step (List ℕ)
+summed_up_in number input = island_in input 1 ▸ λ island. such (IsSummedUp number island.graph island.root)
+
+-- the text is that for the network of so many routers
 pub record IsSurveyed (number nodes : ℕ) (text : List ℕ) : Type 0 where
   pub size : IsNetworkSize nodes
-  pub graph : Topology
-  pub root : ℕ
-  pub island : HasIsland (made_input number nodes) 1 graph root
-  pub survey : IsSummedUp number graph root text
+  pub island : Island
+  pub island_is : island_in (made_input number nodes) 1 (Ok island)
+  pub survey : IsSummedUp number island.graph island.root text

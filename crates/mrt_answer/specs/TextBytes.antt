@@ -1,8 +1,11 @@
 -- The bytes of an answer's text.
-use Rattle.std.specs.Prelude.{◌≡◌, ℕ, List}
+use Rattle.std.specs.Prelude.{◌≡◌, ℕ, List, Result, Ok, Err}
 use Rattle.cert_format.specs.CertText.{cert_text}
 use Rattle.mrt_graph.specs.declared.cert.CertFile.{CertFile}
 use Rattle.mrt_rows.specs.CertOf.{IsCertOf}
+use Rattle.mrt_exit.specs.Due.{IsDue}
+use Rattle.mrt_exit.specs.Steps.{Step}
+use Rattle.mrt_exit.specs.declared.exit.Exit.{Exit}
 use Rattle.mrt_answer.specs.declared.text.Text.{Text}
 use Rattle.mrt_answer.specs.declared.text.Text.TheVariants.{Line, Bytes, Cert, Found}
 
@@ -17,3 +20,8 @@ HasText P (Found stream) = (file : CertFile) × IsCertOf stream.graph stream.roo
 -- these are the bytes of a text
 abbrev pub IsTextOf : Text → List ℕ → Type 0
 IsTextOf text bytes = HasText (λ of. bytes ≡ of) text
+
+-- a call answers with the text that comes of a step, or an exit that comes of it, or that there was no memory
+abbrev pub IsTextAnswer : Step (List ℕ) → Result Text Exit → Type 0
+IsTextAnswer step (Ok text) = HasText (λ bytes. step (Ok bytes)) text
+IsTextAnswer step (Err exit) = IsDue (λ due. step (Err due)) exit

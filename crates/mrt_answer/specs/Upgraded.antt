@@ -5,7 +5,6 @@ use Rattle.mrt_graph.specs.Accepted.{Accepted}
 use Rattle.mrt_graph.specs.Certificate.{row_of}
 use Rattle.mrt_graph.specs.Sound.{Sound}
 use Rattle.mrt_graph.specs.Topology.{Topology}
-use Rattle.mrt_answer.specs.Input.{Input, HasIsland}
 use Rattle.mrt_words.specs.CertSpelling.{IsSpellingOf}
 
 -- the same file but for its version, which is 2: its root is the same, and so is each node, link and row
@@ -17,16 +16,3 @@ pub record IsUpgrade (graph : Topology) (root : ℕ) (file : CertFile) (text : L
   pub accepted : Accepted graph root (upgraded file)
   pub sound : Sound graph.links (length graph.ids) (row_of file.cert)
   pub spelled : IsSpellingOf text (upgraded file)
-
--- the same, for the island of the certificate's root
-pub record IsUpgradeFor (input : Input) (file : CertFile) (text : List ℕ) : Type 0 where
-  pub graph : Topology
-  pub root : ℕ
-  pub island : HasIsland input file.root graph root
-  pub upgrade : IsUpgrade graph root file text
-
--- the text of an upgrade of these bytes
-pub record GivesUpgrade (input : Input) (certificate text : List ℕ) : Type 0 where
-  pub file : CertFile
-  pub is : IsSpellingOf certificate file
-  pub upgrade : IsUpgradeFor input file text

@@ -1,12 +1,10 @@
 //! What comes of the files that were read.
 
-ghost use Rattle.std.specs.Prelude.{◌≤◌, ℕ, List, IfOk, IfErr, vec_len};
-ghost use Rattle.mrt_exit.specs.Due.{IsDue};
+ghost use Rattle.std.specs.Prelude.{◌≤◌, ℕ, List, vec_len};
 ghost use Rattle.mrt_words.specs.{FileBytes.FileBytes, Form.IsRouterTaskWithin, Form.Task as NamedTask};
 ghost use Rattle.mrt_words.specs.Files.{database_limit, profile_limit};
 ghost use Rattle.mrt_words.specs.Kept.{AreBytesOf, IsWorkWithin, IsWorkFor};
-ghost use Rattle.mrt_answer.specs.Answers.{GivesFor, GivesOf, GivesOver, IsRefusedOf, IsRefusedTask};
-ghost use Rattle.mrt_answer.specs.{Refusals.IsAnswerOver, TextBytes.HasText};
+ghost use Rattle.mrt_answer.specs.{Forms.of_router, Forms.of_task, Forms.over, TextBytes.IsTextAnswer};
 
 use crate::certificate::certificate;
 use crate::events::run_of_bytes;
@@ -25,14 +23,12 @@ use mrt_words::{FilesRead, RouterTask, Task, Work};
 use std::alloc::Global;
 
 /// The text of what is to be done with the files that were read.
+#[tactic(auto, using(crate::proofs::TextSteps::ends_first, crate::proofs::TextSteps::ends_second))]
 pub fn answer_of_files(alloc: Global, files: FilesRead) -> Result<Text, Exit>
     requires database { vec_len files.database ≤ database_limit }
     requires profile { vec_len files.profile ≤ profile_limit }
     requires work { IsWorkWithin files.work }
-    ensures text { (task : NamedTask) (bytes : FileBytes) → AreBytesOf task files bytes
-        → IfOk result (HasText (GivesOver task bytes)) }
-    ensures refused { (task : NamedTask) (bytes : FileBytes) → AreBytesOf task files bytes
-        → IfErr result (IsAnswerOver task bytes) }
+    ensures { (task : NamedTask) (bytes : FileBytes) → AreBytesOf task files bytes → IsTextAnswer (over task bytes) result }
 {
     let given = given_of(alloc, &files.database, &files.profile)?;
     answer_for(alloc, files.work, &given)
@@ -41,10 +37,8 @@ pub fn answer_of_files(alloc: Global, files: FilesRead) -> Result<Text, Exit>
 /// The same, where database and profile have no fault.
 fn answer_for(alloc: Global, work: Work, given: &Given) -> Result<Text, Exit>
     requires { IsWorkWithin work }
-    ensures text { (task : NamedTask) (last : List ℕ) → IsWorkFor task last work
-        → IfOk result (HasText (GivesFor task given.now last)) }
-    ensures refused { (task : NamedTask) (last : List ℕ) → IsWorkFor task last work
-        → IfErr result (IsDue (IsRefusedTask task given.now last)) }
+    ensures { (task : NamedTask) (last : List ℕ) → IsWorkFor task last work
+        → IsTextAnswer (of_task task given.now last) result }
 {
     match work {
         Task::Check { certificate } => checked(alloc, given, certificate),
@@ -57,8 +51,7 @@ fn answer_for(alloc: Global, work: Work, given: &Given) -> Result<Text, Exit>
 /// The same, where no other file is named.
 fn answer_of_router(alloc: Global, given: &Given, task: RouterTask) -> Result<Text, Exit>
     requires { IsRouterTaskWithin task }
-    ensures text { IfOk result (HasText (GivesOf task given.now)) }
-    ensures refused { IfErr result (IsDue (IsRefusedOf task given.now)) }
+    ensures { IsTextAnswer (of_router task given.now) result }
 {
     match task {
         RouterTask::Certify { router } => certificate(alloc, given, router),

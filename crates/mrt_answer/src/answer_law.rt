@@ -1,15 +1,17 @@
 //! What holds of answers.
 
-ghost use Rattle.std.specs.Prelude.{◌≡◌, ◌≤◌, ℕ, List, Contains, length};
+ghost use Rattle.std.specs.Prelude.{◌≡◌, ◌≤◌, ℕ, List, Ok, Contains, length};
 ghost use Rattle.mrt_graph.specs.NodeIds.{router as router_node};
 ghost use Rattle.fabric.specs.{FabricParts.ArePartsKept, FabricParts.FabricParts, Served.AreRowsOn, declared.event.Event.Event};
 ghost use Rattle.flood_verdict.specs.{Alike.ComparesAlike, Alike.IsToldAlike, Says.Says};
-ghost use Rattle.mrt_exit.specs.declared.exit.Exit.{Exit};
 ghost use Rattle.mrt_words.specs.{FileBytes.FileBytes, FileBytes.with_last, Files.certificate_limit, declared.task.RouterTask.TheVariants.Certify, Form.Task};
 ghost use Rattle.mrt_words.specs.declared.task.Task.TheVariants.{Check, Upgrade, OfRouter};
-ghost use Rattle.mrt_answer.specs.{Answers.GivesOver, Answers.IsRefusedOver, Certified.IsCertified, Input.Input, Input.IsInput, Packets.ArePartsFor};
-ghost use Rattle.mrt_answer.specs.{SameFile.IsSameFile, Surveyed.IsSurveyed, Tabled.IsTabled};
-ghost use Rattle.mrt_answer.specs.Flooded.{GivesFlood, HoldsFlood, IsRefusedFlood};
+ghost use Rattle.mrt_answer.specs.{Certified.IsComputedFile, Flooded.HoldsFlood, Forms.flooded, Forms.over, Input.Input, Input.area, Islands.island_in, Packets.ArePartsIn};
+ghost use Rattle.mrt_answer.specs.{Reading.input_of, SameFile.IsSameFile, Surveyed.IsSurveyed};
+ghost use Rattle.mrt_exit.specs.Steps.{IsOne};
+ghost use Rattle.mrt_graph.specs.declared.cert.CertFile.{CertFile};
+ghost use Rattle.mrt_island.specs.declared.island.Island.{Island};
+ghost use Rattle.area_graph.specs.Parts.{AreaParts};
 
 use crate::survey_law::made_networks_are_taken;
 use area_graph::the_newest_records_give_an_area;
@@ -42,18 +44,8 @@ use proxy_rows::{one_proxy_text, proxy_rows_or_no_common_block};
 /// Laws: of the bytes of the files of a task, and of those of a form over packets, there comes one text at most, or one
 /// exit, and never both; and of a network that is made from a number there is one survey.
 pub fn one_answer_comes()
-    ensures refusal { (task : Task) (bytes : FileBytes) (exit other : Exit)
-        → IsRefusedOver task bytes exit → IsRefusedOver task bytes other → exit ≡ other }
-    ensures text { (task : Task) (bytes : FileBytes) (text other : List ℕ)
-        → GivesOver task bytes text → GivesOver task bytes other → text ≡ other }
-    ensures never_both { (task : Task) (bytes : FileBytes) (text : List ℕ) (exit : Exit)
-        → GivesOver task bytes text → IsRefusedOver task bytes exit → ⊥ }
-    ensures flood_refusal { (bytes : FileBytes) (exit other : Exit)
-        → IsRefusedFlood bytes exit → IsRefusedFlood bytes other → exit ≡ other }
-    ensures flood_text { (bytes : FileBytes) (text other : List ℕ)
-        → GivesFlood bytes text → GivesFlood bytes other → text ≡ other }
-    ensures flood_never_both { (bytes : FileBytes) (text : List ℕ) (exit : Exit)
-        → GivesFlood bytes text → IsRefusedFlood bytes exit → ⊥ }
+    ensures task { (task : Task) (bytes : FileBytes) → IsOne (over task bytes) }
+    ensures flood { (bytes : FileBytes) → IsOne (flooded bytes) }
     ensures survey { (number nodes : ℕ) (text other : List ℕ)
         → IsSurveyed number nodes text → IsSurveyed number nodes other → text ≡ other }
 {
@@ -86,11 +78,11 @@ pub fn one_answer_comes()
 /// Laws: the text of a certificate that is computed passes a check and an upgrade over the same database and profile, and it is
 /// within the limit of a certificate's file.
 pub fn what_is_certified_passes()
-    ensures check { (bytes : FileBytes) (router : ℕ) (certificate text : List ℕ) → GivesOver (OfRouter (Certify router)) bytes text
-        → (line : List ℕ) × GivesOver (Check certificate) (with_last bytes text) line }
-    ensures upgrade { (bytes : FileBytes) (router : ℕ) (certificate text : List ℕ) → GivesOver (OfRouter (Certify router)) bytes text
-        → GivesOver (Upgrade certificate) (with_last bytes text) text }
-    ensures short { (bytes : FileBytes) (router : ℕ) (text : List ℕ) → GivesOver (OfRouter (Certify router)) bytes text
+    ensures check { (bytes : FileBytes) (router : ℕ) (certificate text : List ℕ) → over (OfRouter (Certify router)) bytes (Ok text)
+        → (line : List ℕ) × over (Check certificate) (with_last bytes text) (Ok line) }
+    ensures upgrade { (bytes : FileBytes) (router : ℕ) (certificate text : List ℕ) → over (OfRouter (Certify router)) bytes (Ok text)
+        → over (Upgrade certificate) (with_last bytes text) (Ok text) }
+    ensures short { (bytes : FileBytes) (router : ℕ) (text : List ℕ) → over (OfRouter (Certify router)) bytes (Ok text)
         → length text ≤ certificate_limit }
 {
     an_lsa_without_a_fault_may_be_installed();
@@ -99,19 +91,14 @@ pub fn what_is_certified_passes()
     one_spelling();
 }
 
-/// Laws: the tables of the routers of an island are of one graph, one root and one certificate; and this is the one
-/// that `certify` gives for each of them.
-pub fn tables_are_of_one_certificate()
-    ensures tables { (database profile : List ℕ) (input : Input) → IsInput database profile input
-        → (router other : ℕ) (text second : List ℕ)
-        → (one : IsTabled input router text) → (two : IsTabled input other second)
+/// A law: routers of one island have one graph, one root and one certificate that is computed for these: it is the one that `certify`
+/// gives for each of them, and that the table of each is of.
+pub fn an_island_has_one_certificate()
+    ensures { (database profile : List ℕ) (input : Input) → input_of database profile (Ok input)
+        → (router other : ℕ) (one two : Island) → island_in input router (Ok one) → island_in input other (Ok two)
         → Contains one.graph.ids (router_node other)
-        → IsSameFile one.graph one.root one.table.file two.graph two.root two.table.file }
-    ensures certificate { (database profile : List ℕ) (input : Input) → IsInput database profile input
-        → (router other : ℕ) (text second : List ℕ)
-        → (one : IsTabled input router text) → (two : IsCertified input other second)
-        → Contains one.graph.ids (router_node other)
-        → IsSameFile one.graph one.root one.table.file two.graph two.root two.certificate.file }
+        → (file second : CertFile) → IsComputedFile one.graph one.root file → IsComputedFile two.graph two.root second
+        → IsSameFile one.graph one.root file two.graph two.root second }
 {
     an_lsa_without_a_fault_may_be_installed();
     the_newest_records_give_an_area();
@@ -123,9 +110,10 @@ pub fn tables_are_of_one_certificate()
 /// Laws: what the steps of packets read fits together, and there are rows for all destinations, so that the laws of
 /// `fabric` hold of each run over it.
 pub fn what_steps_read_fits_together()
-    ensures kept { (database profile : List ℕ) (input : Input) → IsInput database profile input
-        → (router : ℕ) (parts : FabricParts) → ArePartsFor input router parts → ArePartsKept parts }
-    ensures rows { (input : Input) (router : ℕ) (parts : FabricParts) → ArePartsFor input router parts
+    ensures kept { (database profile : List ℕ) (input : Input) → input_of database profile (Ok input)
+        → (router : ℕ) (island : Island) → island_in input router (Ok island)
+        → (parts : FabricParts) → ArePartsIn (area input) island parts → ArePartsKept parts }
+    ensures rows { (area : AreaParts) (island : Island) (parts : FabricParts) → ArePartsIn area island parts
         → (events : List Event) → AreRowsOn parts events }
 {
     an_lsa_without_a_fault_may_be_installed();
@@ -135,7 +123,7 @@ pub fn what_steps_read_fits_together()
 /// A law: in the text of packets, a profile and a script of deliveries, no line that compares two routers to which the
 /// deliveries before it brought the same LSAs, or after which flooding is done, is `different`.
 pub fn alike_deliveries_are_told_alike()
-    ensures { (bytes : FileBytes) (text : List ℕ) → GivesFlood bytes text → (held : HoldsFlood bytes)
+    ensures { (bytes : FileBytes) (text : List ℕ) → flooded bytes (Ok text) → (held : HoldsFlood bytes)
         → (compares : ComparesAlike held.updates held.script)
         → IsToldAlike (Says held.settings) held.updates held.script compares text }
 {

@@ -1,8 +1,7 @@
 //! `certify DB PROFILE ROUTER`: the certificate of a router's island.
 
-ghost use Rattle.std.specs.Prelude.{IfOk, IfErr};
-ghost use Rattle.mrt_answer.specs.{Certified.IsCertified, TextBytes.HasText, Islands.HasNoIslandFor};
-ghost use Rattle.mrt_exit.specs.Due.{IsDue};
+ghost use Rattle.std.specs.Prelude.{◌≡◌, None};
+ghost use Rattle.mrt_answer.specs.{Forms.certified, TextBytes.IsTextAnswer};
 
 use crate::given::Given;
 use crate::island::island_in;
@@ -15,9 +14,9 @@ use mrt_rows::certificates_are_accepted;
 use std::alloc::Global;
 
 /// The certificate that is computed for the island of a router, the rows of which are found as they are written.
+#[tactic(auto, using(crate::proofs::TextSteps::ends_first, crate::proofs::TextSteps::ends_second))]
 pub(crate) fn certificate(alloc: Global, given: &Given, router: u32) -> Result<Text, Exit>
-    ensures certified { IfOk result (HasText (IsCertified given.now router)) }
-    ensures refused { IfErr result (IsDue (HasNoIslandFor given.now router)) }
+    ensures { IsTextAnswer (certified given.now router) result }
 {
     certificates_are_accepted();
     accepted_implies_sound();

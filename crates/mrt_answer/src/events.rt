@@ -1,10 +1,9 @@
 //! `fabric DB PROFILE SCRIPT`: packets, step by step through the events of a script.
 
-ghost use Rattle.std.specs.Prelude.{◌<◌, ◌≤◌, IfOk, IfErr, length};
+ghost use Rattle.std.specs.Prelude.{◌<◌, ◌≤◌, IfOk, length};
 ghost use Rattle.area_graph.specs.Fits.{Fits};
-ghost use Rattle.mrt_answer.specs.{Input.Input, PacketTables.IsAreaAndIsland, TextBytes.HasText, Islands.HasNoIslandFor};
-ghost use Rattle.mrt_answer.specs.Packets.{GivesRun, IsScriptGiven, IsNoRun};
-ghost use Rattle.mrt_exit.specs.Due.{IsDue};
+ghost use Rattle.mrt_answer.specs.{Forms.scripted, Packets.IsScriptIn, Reading.script_of as script_step, TextBytes.IsTextAnswer};
+ghost use Rattle.mrt_exit.specs.Steps.{◌▸◌};
 ghost use Rattle.mrt_words.specs.Files.{script_limit};
 
 use crate::given::Given;
@@ -18,20 +17,20 @@ use mrt_graph::NoMemory;
 use std::alloc::Global;
 
 /// The answers to the events of the script that the bytes are.
+#[tactic(auto, using(crate::proofs::TextSteps::ends_first, crate::proofs::TextSteps::ends_second))]
 pub(crate) fn run_of_bytes(alloc: Global, given: &Given, bytes: &[u8]) -> Result<Text, Exit>
     requires limit { length bytes.now ≤ script_limit }
-    ensures given { IfOk result (HasText (GivesRun given.now bytes.now)) }
-    ensures refused { IfErr result (IsDue (IsNoRun given.now bytes.now)) }
+    ensures { IsTextAnswer (script_step bytes.now ▸ scripted given.now) result }
 {
     let script = script_of(alloc, bytes)?;
     run_of(alloc, given, &script)
 }
 
 /// The answers to the events of a script.
+#[tactic(auto, using(crate::proofs::TextSteps::ends_first, crate::proofs::TextSteps::ends_second, crate::proofs::TextSteps::of_bytes))]
 fn run_of(alloc: Global, given: &Given, script: &Script) -> Result<Text, Exit>
     requires room { 1 ≤ script.now.room }
-    ensures given { IfOk result (HasText (IsScriptGiven given.now script.now)) }
-    ensures refused { IfErr result (IsDue (HasNoIslandFor given.now script.now.router)) }
+    ensures { IsTextAnswer (scripted given.now script.now) result }
 {
     let net = area_and_island(alloc, given, script.router)?;
     bytes_answer(run_in(alloc, &net, script))
@@ -42,8 +41,7 @@ fn run_in(alloc: Global, net: &AreaAndIsland, script: &Script) -> Result<Vec<u8>
     requires fits { Fits net.now.area net.now.island.graph net.now.island.link_of }
     requires root { net.now.island.root < length net.now.island.graph.ids }
     requires room { 1 ≤ script.now.room }
-    ensures { (input : Input) → IsAreaAndIsland input script.now.router net.now
-        → IfOk result (λ text. IsScriptGiven input script.now text.items) }
+    ensures { IfOk result (λ text. IsScriptIn net.now.area net.now.island script.now text.items) }
 {
     texts_by_rows_for_destinations();
     let spots = destinations(alloc, &net.area, script)?;

@@ -22,11 +22,11 @@ impl Drop for Given {
 impl Model for Given {
     ghost use Rattle.std.specs.Prelude.{◌≡◌, None};
     ghost use Rattle.lsdb.specs.Conflicts.{least_conflict};
-    ghost use Rattle.mrt_answer.specs.Input.{Input, input_of};
+    ghost use Rattle.mrt_answer.specs.Input.{Input, input_with};
 
     ghost Value = { Input };
 
-    ghost view = { λ given. input_of given.database.entries given.profile };
+    ghost view = { λ given. input_with given.database.entries given.profile };
 
     ghost invariant = { λ given. least_conflict given.database.entries ≡ None };
 }

@@ -1,12 +1,10 @@
 //! What the bytes of the files are.
 
-ghost use Rattle.std.specs.Prelude.{◌≡◌, ◌≤◌, None, IfOk, IfErr, length, map};
-ghost use Rattle.lsdb.specs.{Conflicts.least_conflict, Database.IsDatabase};
-ghost use Rattle.fabric_script.specs.ScriptFaults.{IsScript};
-ghost use Rattle.mrt_graph.specs.TextLines.{text_lines};
+ghost use Rattle.std.specs.Prelude.{◌≡◌, ◌≤◌, None, Ok, Err, IfOk, IfErr, length, map};
+ghost use Rattle.lsdb.specs.Conflicts.{least_conflict};
 ghost use Rattle.mrt_words.specs.Files.{database_limit, profile_limit, script_limit};
-ghost use Rattle.mrt_answer.specs.Input.{IsInput, IsProfile};
-ghost use Rattle.mrt_answer.specs.Refusals.{HasNoDatabase, HasNoInput, HasNoProfile, HasNoScript};
+ghost use Rattle.mrt_answer.specs.Reading.{database_of as database_step, input_of, profile_of as profile_step, script_of as script_step};
+ghost use Rattle.mrt_exit.specs.{Due.IsDue, Steps.IsAnswer};
 
 use crate::given::Given;
 use fabric_script::{Script, read_script};
@@ -18,11 +16,11 @@ use ospf_lsa::read_lsas;
 use std::alloc::Global;
 
 /// The database and the profile that the bytes are.
+#[tactic(auto, using(mrt_exit::proofs::Stepping::early, mrt_exit::proofs::Stepping::late))]
 pub(crate) fn given_of(alloc: Global, database: &[u8], profile: &[u8]) -> Result<Given, Exit>
     requires database { length database.now ≤ database_limit }
     requires profile { length profile.now ≤ profile_limit }
-    ensures given { IfOk result (λ given. IsInput database.now profile.now given) }
-    ensures none { IfErr result (HasNoInput database.now profile.now) }
+    ensures { IsAnswer (input_of database.now profile.now) result }
 {
     let database = database_of(alloc, database)?;
     let profile = profile_of(alloc, profile)?;
@@ -32,9 +30,9 @@ pub(crate) fn given_of(alloc: Global, database: &[u8], profile: &[u8]) -> Result
 /// The database of the router-LSAs and network-LSAs that the bytes are.
 pub(crate) fn database_of(alloc: Global, bytes: &[u8]) -> Result<Lsdb, Exit>
     requires { length bytes.now ≤ database_limit }
-    ensures newest { IfOk result (λ database. IsDatabase bytes.now (map (λ entry. entry.lsa) database.entries)) }
+    ensures newest { IfOk result (λ database. database_step bytes.now (Ok (map (λ entry. entry.lsa) database.entries))) }
     ensures settled { IfOk result (λ database. least_conflict database.entries ≡ None) }
-    ensures none { IfErr result (HasNoDatabase bytes.now) }
+    ensures none { IfErr result (IsDue (λ exit. database_step bytes.now (Err exit))) }
 {
     refuses_exactly_where_not_settled();
     tells_the_first_conflict();
@@ -47,8 +45,7 @@ pub(crate) fn database_of(alloc: Global, bytes: &[u8]) -> Result<Lsdb, Exit>
 /// The profile that the bytes are.
 pub(crate) fn profile_of(alloc: Global, bytes: &[u8]) -> Result<Profile, Exit>
     requires { length bytes.now ≤ profile_limit }
-    ensures profile { IfOk result (λ profile. IsProfile bytes.now profile) }
-    ensures none { IfErr result (HasNoProfile bytes.now) }
+    ensures { IsAnswer (profile_step bytes.now) result }
 {
     Ok(read_profile(alloc, bytes)?)
 }
@@ -56,9 +53,8 @@ pub(crate) fn profile_of(alloc: Global, bytes: &[u8]) -> Result<Profile, Exit>
 /// The script that the bytes are.
 pub(crate) fn script_of(alloc: Global, bytes: &[u8]) -> Result<Script, Exit>
     requires { length bytes.now ≤ script_limit }
-    ensures script { IfOk result (λ script. IsScript (text_lines bytes.now) script) }
+    ensures script { IsAnswer (script_step bytes.now) result }
     ensures room { IfOk result (λ script. 1 ≤ script.room) }
-    ensures none { IfErr result (HasNoScript bytes.now) }
 {
     Ok(read_script(alloc, bytes)?)
 }

@@ -25,7 +25,7 @@ mod verdict;
 
 pub use answer::answer_of_files;
 pub use answer_law::{
-    alike_deliveries_are_told_alike, one_answer_comes, tables_are_of_one_certificate,
+    alike_deliveries_are_told_alike, an_island_has_one_certificate, one_answer_comes,
     what_is_certified_passes, what_steps_read_fits_together,
 };
 pub use flood::answer_of_flood;

@@ -1,9 +1,6 @@
 //! `lfa DB ROUTER`: a router's loop-free alternates (RFC 5286).
 
-ghost use Rattle.std.specs.Prelude.{ℕ, IfOk, IfErr};
-ghost use Rattle.lfa_alt.specs.LfaText.{IsLfaText};
-ghost use Rattle.mrt_answer.specs.{Finding.IsAt, Finding.IsMissed, LoopFree.HasLoopFree, TextBytes.HasText, Islands.HasNoRouterFor};
-ghost use Rattle.mrt_exit.specs.Due.{IsDue};
+ghost use Rattle.mrt_answer.specs.{Forms.loop_free as loop_free_step, Forms.loop_free_in as in_area, TextBytes.IsTextAnswer};
 
 use crate::finding::spot_of;
 use crate::given::Given;
@@ -15,18 +12,18 @@ use mrt_exit::Exit;
 use std::alloc::Global;
 
 /// The text on the loop-free alternates of a router of the area, whatever the profile says.
+#[tactic(auto, using(crate::proofs::TextSteps::ends_first, crate::proofs::TextSteps::ends_second))]
 pub(crate) fn loop_free(alloc: Global, given: &Given, router: u32) -> Result<Text, Exit>
-    ensures given { IfOk result (HasText (HasLoopFree given.now router)) }
-    ensures refused { IfErr result (IsDue (HasNoRouterFor given.now router)) }
+    ensures { IsTextAnswer (loop_free_step given.now router) result }
 {
     let area = area_of(alloc, given)?;
     loop_free_in(alloc, &area, router)
 }
 
 /// The same, in an area.
+#[tactic(auto, using(crate::proofs::TextSteps::ends_first, crate::proofs::TextSteps::ends_second, crate::proofs::TextSteps::of_bytes))]
 fn loop_free_in(alloc: Global, area: &Area, router: u32) -> Result<Text, Exit>
-    ensures given { IfOk result (HasText (λ text. (spot : ℕ) × IsAt area.now.ids router spot × IsLfaText area.now spot text)) }
-    ensures refused { IfErr result (IsDue (IsMissed area.now.ids router)) }
+    ensures { IsTextAnswer (in_area area.now router) result }
 {
     let spot = spot_of(area, router)?;
     bytes_answer(lfa_text(alloc, area, spot))

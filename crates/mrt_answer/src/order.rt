@@ -1,9 +1,7 @@
 //! `order DB PROFILE ROUTER`: a router's repairs by order.
 
-ghost use Rattle.std.specs.Prelude.{◌≡◌, ◌<◌, ℕ, IfOk, IfErr, Contains, length};
-ghost use Rattle.mrt_graph.specs.NodeIds.{router as router_node};
-ghost use Rattle.mrt_answer.specs.{Finding.IsAt, Ordered.HasOrder, Ordered.IsOrderOf, TextBytes.HasText, Islands.HasNoIslandFor};
-ghost use Rattle.mrt_exit.specs.Due.{IsDue};
+ghost use Rattle.std.specs.Prelude.{◌<◌, IfOk, length};
+ghost use Rattle.mrt_answer.specs.{Forms.ordered, Forms.ordered_in, Ordered.IsOrderOf, TextBytes.IsTextAnswer};
 
 use crate::finding::node_of;
 use crate::given::Given;
@@ -16,20 +14,19 @@ use order_repair::order_text;
 use std::alloc::Global;
 
 /// The text on the repairs by order of a router in its island.
+#[tactic(auto, using(crate::proofs::TextSteps::ends_first, crate::proofs::TextSteps::ends_second))]
 pub(crate) fn order(alloc: Global, given: &Given, router: u32) -> Result<Text, Exit>
-    ensures ordered { IfOk result (HasText (HasOrder given.now router)) }
-    ensures refused { IfErr result (IsDue (HasNoIslandFor given.now router)) }
+    ensures { IsTextAnswer (ordered given.now router) result }
 {
     let island = island_in(alloc, given, router)?;
     order_in(alloc, &island.graph, island.root, router)
 }
 
-/// The same, in an island that the router is in.
+/// The same, in an island.
+#[tactic(auto, using(crate::proofs::TextSteps::ends_first, crate::proofs::TextSteps::ends_second, crate::proofs::TextSteps::of_bytes))]
 fn order_in(alloc: Global, graph: &Graph, root: NodeNo, router: u32) -> Result<Text, Exit>
     requires root { root < length graph.now.ids }
-    requires inside { Contains graph.now.ids (router_node router) }
-    ensures ordered { IfOk result (HasText (IsOrderOf graph.now root router)) }
-    ensures none { IfErr result (λ exit. exit ≡ Exit.NoMemory) }
+    ensures { IsTextAnswer (ordered_in graph.now root router) result }
 {
     let source = node_of(graph, router)?;
     bytes_answer(order_of(alloc, graph, root, source))
@@ -39,8 +36,7 @@ fn order_in(alloc: Global, graph: &Graph, root: NodeNo, router: u32) -> Result<T
 fn order_of(alloc: Global, graph: &Graph, root: NodeNo, source: NodeNo) -> Result<Vec<u8>, NoMemory>
     requires root { root < length graph.now.ids }
     requires source { source < length graph.now.ids }
-    ensures { (router : ℕ) → IsAt graph.now.ids router source
-        → IfOk result (λ text. IsOrderOf graph.now root router text.items) }
+    ensures { IfOk result (λ text. IsOrderOf graph.now root source text.items) }
 {
     let directed = directions(alloc, graph, root)?;
     order_text(alloc, graph, root, &directed, source)

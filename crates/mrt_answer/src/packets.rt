@@ -1,10 +1,10 @@
 //! What the steps of packets read, made for the destinations of the packets alone.
 
-ghost use Rattle.std.specs.Prelude.{◌≡◌, ◌<◌, ◌↔◌, ℕ, Some, IfOk, IfErr, Contains, length, slice_get};
+ghost use Rattle.std.specs.Prelude.{◌≡◌, ◌<◌, ◌↔◌, ◌/◌, ℕ, Some, Ok, Err, IfOk, IfErr, IsTrue, Contains, filter, length, slice_get};
 ghost use Rattle.area_graph.specs.Fits.{Fits};
 ghost use Rattle.mrt_graph.specs.Search.{IsMarked};
-ghost use Rattle.mrt_answer.specs.PacketTables.{AreTablesTo, IsAreaAndIsland, IsWanted};
-ghost use Rattle.mrt_answer.specs.Islands.{HasNoIslandFor};
+ghost use Rattle.mrt_answer.specs.{Input.area as area_with, Islands.island_in};
+ghost use Rattle.mrt_answer.specs.PacketTables.{AreTablesTo, IsWanted};
 ghost use Rattle.mrt_exit.specs.Due.{IsDue};
 
 use crate::columns::columns_of;
@@ -48,8 +48,11 @@ pub(crate) fn area_and_island(
     given: &Given,
     router: u32,
 ) -> Result<AreaAndIsland, Exit>
-    ensures is { IfOk result (IsAreaAndIsland given.now router) }
-    ensures refused { IfErr result (IsDue (HasNoIslandFor given.now router)) }
+    ensures area { IfOk result (λ net. net.area ≡ area_with given.now) }
+    ensures island { IfOk result (λ net. island_in given.now router (Ok net.island)) }
+    ensures refused { IfErr result (IsDue (λ exit. island_in given.now router (Err exit))) }
+    ensures fits { IfOk result (λ net. Fits net.area net.island.graph net.island.link_of) }
+    ensures root { IfOk result (λ net. net.island.root < length net.island.graph.ids) }
 {
     let area = area_of(alloc, given)?;
     let island = island_of(alloc, &area, given, router)?;

@@ -1,11 +1,9 @@
 //! `proxy DB PROFILE ROUTER A B`: the rows for a prefix that is attached to two routers.
 
-ghost use Rattle.std.specs.Prelude.{◌≢◌, ◌<◌, ℕ, IfOk, IfErr, length};
+ghost use Rattle.std.specs.Prelude.{◌≢◌, ◌<◌, IfOk, length};
 ghost use Rattle.mrt_rows.specs.Rooted.{MakeColumns};
 ghost use Rattle.proxy_rows.specs.ProxyRows.{AreProxyRows};
-ghost use Rattle.mrt_answer.specs.{Attached.IsAttachedBy, Computed.HasComputed, Input.HasIsland, Input.Input, TextBytes.HasText};
-ghost use Rattle.mrt_answer.specs.Proxied.{HasNoProxyOf, HasProxy, IsProxyOf, HasNoProxy};
-ghost use Rattle.mrt_exit.specs.Due.{IsDue};
+ghost use Rattle.mrt_answer.specs.{Attached.IsAttachedBy, Computed.HasComputed, Forms.proxied_for, Forms.proxied_in, Proxied.proxied, TextBytes.IsTextAnswer};
 
 use crate::columns::columns_of;
 use crate::finding::node_of;
@@ -19,6 +17,7 @@ use proxy_rows::{Attachment, ProxyRow, attach, proxy_rows_at, proxy_text_of};
 use std::alloc::Global;
 
 /// The rows of all nodes of a router's island for a prefix that is attached to two routers of it.
+#[tactic(auto, using(crate::proofs::TextSteps::ends_first, crate::proofs::TextSteps::ends_second))]
 pub(crate) fn proxy(
     alloc: Global,
     given: &Given,
@@ -27,14 +26,14 @@ pub(crate) fn proxy(
     second: u32,
 ) -> Result<Text, Exit>
     requires { first ≢ second }
-    ensures proxied { IfOk result (HasText (HasProxy given.now router first second)) }
-    ensures refused { IfErr result (IsDue (HasNoProxy given.now router first second)) }
+    ensures { IsTextAnswer (proxied_for given.now router first second) result }
 {
     let island = island_in(alloc, given, router)?;
     proxy_in(alloc, &island.graph, island.root, first, second)
 }
 
 /// The same, in the island of whatever router.
+#[tactic(auto, using(crate::proofs::TextSteps::ends_first, crate::proofs::TextSteps::ends_second))]
 fn proxy_in(
     alloc: Global,
     graph: &Graph,
@@ -44,10 +43,7 @@ fn proxy_in(
 ) -> Result<Text, Exit>
     requires root { root < length graph.now.ids }
     requires different { first ≢ second }
-    ensures proxied { (input : Input) (router : ℕ) → HasIsland input router graph.now root
-        → IfOk result (HasText (HasProxy input router first second)) }
-    ensures refused { (input : Input) (router : ℕ) → HasIsland input router graph.now root
-        → IfErr result (IsDue (HasNoProxy input router first second)) }
+    ensures { IsTextAnswer (proxied_in graph.now root first second) result }
 {
     let a = node_of(graph, first)?;
     let b = node_of(graph, second)?;
@@ -66,8 +62,7 @@ fn proxy_between(
     requires first { a < length graph.now.ids }
     requires second { b < length graph.now.ids }
     requires different { a ≢ b }
-    ensures proxied { IfOk result (HasText (IsProxyOf graph.now root a b)) }
-    ensures refused { IfErr result (HasNoProxyOf graph.now root a b) }
+    ensures { IsTextAnswer (proxied graph.now root a b) result }
 {
     let mut columns = columns_of(alloc, graph, root, 1)?;
     proxy_by(alloc, graph, root, &mut columns, a, b)
@@ -88,8 +83,7 @@ fn proxy_by(
     requires first { a < length graph.now.ids }
     requires second { b < length graph.now.ids }
     requires different { a ≢ b }
-    ensures proxied { IfOk result (HasText (IsProxyOf graph.now root a b)) }
-    ensures refused { IfErr result (HasNoProxyOf graph.now root a b) }
+    ensures { IsTextAnswer (proxied graph.now root a b) result }
 {
     let nodes = columns.nodes(alloc, graph)?;
     let Some(at) = attach(&nodes, a, b) else {

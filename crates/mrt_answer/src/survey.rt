@@ -2,12 +2,10 @@
 
 ghost use Rattle.std.specs.Prelude.{◌≡◌, ◌<◌, ℕ, None, IfOk, IfErr, length, map};
 ghost use Rattle.lsdb.specs.Conflicts.{least_conflict};
-ghost use Rattle.mrt_graph.specs.Topology.{Topology};
 ghost use Rattle.mrt_survey.specs.MadeLsas.{made_lsas};
-ghost use Rattle.mrt_exit.specs.Due.{IsDue};
 ghost use Rattle.mrt_words.specs.Form.{IsNetworkSize};
-ghost use Rattle.mrt_answer.specs.{Input.HasIsland, TextBytes.HasText, Islands.HasNoIslandFor};
-ghost use Rattle.mrt_answer.specs.Surveyed.{IsSummedUp, IsSurveyed, made_input};
+ghost use Rattle.mrt_answer.specs.TextBytes.{HasText, IsTextAnswer};
+ghost use Rattle.mrt_answer.specs.Surveyed.{IsSummedUp, IsSurveyed, made_input, summed_up_in};
 
 use crate::given::Given;
 use crate::input::database_of;
@@ -35,10 +33,9 @@ pub fn answer_of_survey(alloc: Global, number: u32, nodes: u16) -> Result<Text, 
 }
 
 /// The survey of the island of router 1.
+#[tactic(auto, using(crate::proofs::TextSteps::ends_first, crate::proofs::TextSteps::ends_second, crate::proofs::TextSteps::of_bytes))]
 fn survey_of(alloc: Global, number: u32, given: &Given) -> Result<Text, Exit>
-    ensures text { IfOk result (HasText (λ text. (graph : Topology) × (root : ℕ) × HasIsland given.now 1 graph root
-        × IsSummedUp number graph root text)) }
-    ensures refused { IfErr result (IsDue (HasNoIslandFor given.now 1)) }
+    ensures { IsTextAnswer (summed_up_in number given.now) result }
 {
     let island = island_in(alloc, given, 1)?;
     bytes_answer(summed_up(alloc, number, &island.graph, island.root))

@@ -1,13 +1,13 @@
 //! What holds of the networks that are made from a number.
 
-ghost use Rattle.std.specs.Prelude.{◌≡◌, ◌≤◌, ℕ, List, [], map};
+ghost use Rattle.std.specs.Prelude.{◌≡◌, ◌≤◌, ℕ, Err, List, Ok, [], map};
 ghost use Rattle.std.specs.List.{range_with_len};
 ghost use Rattle.mrt_graph.specs.NodeIds.{router as router_node};
 ghost use Rattle.mrt_survey.specs.MadeLsas.{made_lsas};
 ghost use Rattle.ospf_lsa.specs.{LsaText.lsas_text, declared.lsa.Lsa.Lsa};
 ghost use Rattle.mrt_exit.specs.{declared.exit.DbKind.DbKind, declared.exit.Exit.Exit};
 ghost use Rattle.lsdb.specs.Database.{IsDatabase};
-ghost use Rattle.mrt_answer.specs.{Database.IsBadDatabase, Input.IsInput, Islands.HasNoIslandFor, Surveyed.IsSurveyed, Surveyed.made_input};
+ghost use Rattle.mrt_answer.specs.{Database.IsBadDatabase, Islands.island_in, Reading.input_of, Surveyed.IsSurveyed, Surveyed.made_input};
 ghost use Rattle.mrt_words.specs.Form.{IsNetworkSize};
 
 use lsdb::{
@@ -24,7 +24,7 @@ use ospf_lsa::bytes_are_lsas_or_have_a_fault;
 /// tells holds all of them.
 pub fn made_networks_are_taken()
     ensures input { (number nodes : ℕ) → IsNetworkSize nodes
-        → IsInput (lsas_text (made_lsas number nodes)) [] (made_input number nodes) }
+        → input_of (lsas_text (made_lsas number nodes)) [] (Ok (made_input number nodes)) }
     ensures faultless { (number nodes : ℕ) → IsNetworkSize nodes
         → (at : ℕ) (kind : DbKind) → IsBadDatabase (lsas_text (made_lsas number nodes)) at kind → ⊥ }
     ensures newest { (number nodes : ℕ) → IsNetworkSize nodes
@@ -32,9 +32,9 @@ pub fn made_networks_are_taken()
         → newest ≡ made_lsas number nodes }
     ensures island { (number nodes : ℕ) → IsNetworkSize nodes
         → (router : ℕ) → 1 ≤ router → router ≤ nodes
-        → (exit : Exit) → HasNoIslandFor (made_input number nodes) router exit → ⊥ }
+        → (exit : Exit) → island_in (made_input number nodes) router (Err exit) → ⊥ }
     ensures routers { (number nodes : ℕ) (text : List ℕ) → (survey : IsSurveyed number nodes text)
-        → survey.graph.ids ≡ map router_node (range_with_len 1 nodes) }
+        → survey.island.graph.ids ≡ map router_node (range_with_len 1 nodes) }
 {
     bytes_are_lsas_or_have_a_fault();
     entries_are_those_of_the_list();

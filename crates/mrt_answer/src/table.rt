@@ -1,13 +1,12 @@
 //! `table DB PROFILE ROUTER`: what a router installs.
 
-ghost use Rattle.std.specs.Prelude.{◌≡◌, ◌≢◌, ◌<◌, IfOk, IfErr, Contains, length};
+ghost use Rattle.std.specs.Prelude.{◌≡◌, ◌≢◌, ◌<◌, IfOk, length};
 ghost use Rattle.area_graph.specs.Fits.{Fits};
-ghost use Rattle.mrt_graph.specs.{declared.cert.CertFile.CertFile, GraphInvariant.IsNetwork, NodeIds.router as router_node};
+ghost use Rattle.mrt_graph.specs.{declared.cert.CertFile.CertFile, GraphInvariant.IsNetwork};
 ghost use Rattle.text_parts.specs.Adds.{Adds};
 ghost use Rattle.mrt_report.specs.{AddsLines.AddsLines, ByColumn.IsLineByColumn, TableText.IsTableText};
 ghost use Rattle.mrt_rows.specs.{CertOf.IsCertOf, Rooted.MakeColumns};
-ghost use Rattle.mrt_answer.specs.{TableMade.AreParts, TableMade.with_cert, Tabled.IsComputedFile, Tabled.IsTableOf, Tabled.IsTabled, TextBytes.HasText, Islands.HasNoIslandFor};
-ghost use Rattle.mrt_exit.specs.Due.{IsDue};
+ghost use Rattle.mrt_answer.specs.{Certified.IsComputedFile, Forms.table_in as table_step, Forms.tabled, TableMade.AreParts, TableMade.with_cert, TextBytes.IsTextAnswer};
 
 use crate::columns::columns_of;
 use crate::finding::{node_of, spot_of};
@@ -35,23 +34,21 @@ struct Parts<'a> {
 
 /// The table of a router: of each other node of its island the two colors' next hops, the primary, and which color
 /// repairs it.
+#[tactic(auto, using(crate::proofs::TextSteps::ends_first, crate::proofs::TextSteps::ends_second))]
 pub(crate) fn table(alloc: Global, given: &Given, router: u32) -> Result<Text, Exit>
-    ensures tabled { IfOk result (HasText (IsTabled given.now router)) }
-    ensures refused { IfErr result (IsDue (HasNoIslandFor given.now router)) }
+    ensures { IsTextAnswer (tabled given.now router) result }
 {
     let net = area_and_island(alloc, given, router)?;
     table_in(alloc, &net, router)
 }
 
 /// The same, in an area and the router's island in it.
+#[tactic(auto, using(crate::proofs::TextSteps::ends_first, crate::proofs::TextSteps::ends_second, crate::proofs::TextSteps::of_bytes))]
 fn table_in(alloc: Global, net: &AreaAndIsland, router: u32) -> Result<Text, Exit>
     requires fits { Fits net.now.area net.now.island.graph net.now.island.link_of }
     requires root { net.now.island.root < length net.now.island.graph.ids }
     requires root_router { ¬ IsNetwork net.now.island.graph.ids net.now.island.root }
-    requires inside { Contains net.now.island.graph.ids (router_node router) }
-    ensures tabled { IfOk result (HasText (IsTableOf net.now.area net.now.island.graph net.now.island.root
-        net.now.island.link_of router)) }
-    ensures none { IfErr result (λ exit. exit ≡ Exit.NoMemory) }
+    ensures { IsTextAnswer (table_step net.now.area net.now.island router) result }
 {
     let island = &net.island.graph;
     let source = node_of(island, router)?;

@@ -1,9 +1,8 @@
 //! `trace DB PROFILE FROM TO blue` and the like: a packet, step by step through a failure.
 
-ghost use Rattle.std.specs.Prelude.{◌≡◌, ◌<◌, ◌↔◌, ℕ, Some, IfOk, IfErr, Contains, length, slice_get};
+ghost use Rattle.std.specs.Prelude.{◌≡◌, ◌<◌, ◌↔◌, ℕ, Some, IfOk, Contains, length, slice_get};
 ghost use Rattle.area_graph.specs.Fits.{Fits};
-ghost use Rattle.mrt_answer.specs.{Input.Input, PacketTables.IsAreaAndIsland, Packets.IsTraceGiven, TextBytes.HasText, Islands.HasNoIslandFor};
-ghost use Rattle.mrt_exit.specs.Due.{IsDue};
+ghost use Rattle.mrt_answer.specs.{Forms.traced, Packets.IsTraceIn, TextBytes.IsTextAnswer};
 
 use crate::given::Given;
 use crate::packets::{AreaAndIsland, area_and_island, tables_to};
@@ -30,9 +29,9 @@ fn destination_of(alloc: Global, area: &Area, trace: &Trace) -> Result<Vec<Spot>
 }
 
 /// The answers to a failure, if one is asked for, to a packet that enters, and to its steps until it ends.
+#[tactic(auto, using(crate::proofs::TextSteps::ends_first, crate::proofs::TextSteps::ends_second, crate::proofs::TextSteps::of_bytes))]
 pub(crate) fn trace(alloc: Global, given: &Given, trace: &Trace) -> Result<Text, Exit>
-    ensures given { IfOk result (HasText (IsTraceGiven given.now trace.now)) }
-    ensures refused { IfErr result (IsDue (HasNoIslandFor given.now trace.now.from)) }
+    ensures { IsTextAnswer (traced given.now trace.now) result }
 {
     let net = area_and_island(alloc, given, trace.from)?;
     bytes_answer(trace_in(alloc, &net, trace))
@@ -42,8 +41,7 @@ pub(crate) fn trace(alloc: Global, given: &Given, trace: &Trace) -> Result<Text,
 fn trace_in(alloc: Global, net: &AreaAndIsland, trace: &Trace) -> Result<Vec<u8>, NoMemory>
     requires fits { Fits net.now.area net.now.island.graph net.now.island.link_of }
     requires root { net.now.island.root < length net.now.island.graph.ids }
-    ensures { (input : Input) → IsAreaAndIsland input trace.now.from net.now
-        → IfOk result (λ text. IsTraceGiven input trace.now text.items) }
+    ensures { IfOk result (λ text. IsTraceIn net.now.area net.now.island trace.now text.items) }
 {
     texts_by_rows_for_destinations();
     let spots = destination_of(alloc, &net.area, trace)?;

@@ -1,9 +1,9 @@
 //! `upgrade DB PROFILE CERT`: an accepted certificate in version 2.
 
-ghost use Rattle.std.specs.Prelude.{◌<◌, ℕ, List, IfOk, IfErr, length};
-ghost use Rattle.mrt_exit.specs.Due.{IsDue};
+ghost use Rattle.std.specs.Prelude.{◌<◌, ℕ, List, length};
 ghost use Rattle.mrt_words.specs.Kept.{IsCertRead};
-ghost use Rattle.mrt_answer.specs.{Upgraded.GivesUpgrade, Upgraded.IsUpgrade, Upgraded.IsUpgradeFor, Refusals.IsRejected, TextBytes.HasText, Verdict.IsNoVerdict, Verdict.IsRefusedFor};
+ghost use Rattle.mrt_answer.specs.{Forms.upgraded_in, Forms.upgraded_to, Reading.certificate_of, TextBytes.IsTextAnswer};
+ghost use Rattle.mrt_exit.specs.Steps.{◌▸◌};
 
 use crate::given::Given;
 use crate::island::island_in;
@@ -11,7 +11,7 @@ use crate::text::Text;
 use crate::verdict::judge;
 use cert_format::{CertFault, WritableCert};
 use mrt_exit::Exit;
-use mrt_graph::{CertFile, accepted_files_are_foldable, accepted_implies_sound};
+use mrt_graph::{CertFile, accepted_files_are_foldable};
 use mrt_island::Island;
 use std::alloc::Global;
 
@@ -19,37 +19,35 @@ use std::alloc::Global;
 const WRITTEN: u16 = 2;
 
 /// The certificate in version 2, where there is one and it is accepted for the island of its root.
+#[tactic(auto, using(crate::proofs::TextSteps::ends_first, crate::proofs::TextSteps::ends_second))]
 pub(crate) fn upgraded(
     alloc: Global,
     given: &Given,
     certificate: Result<CertFile, CertFault>,
 ) -> Result<Text, Exit>
-    ensures text { (bytes : List ℕ) → IsCertRead bytes certificate
-        → IfOk result (HasText (GivesUpgrade given.now bytes)) }
-    ensures refused { (bytes : List ℕ) → IsCertRead bytes certificate
-        → IfErr result (IsDue (IsNoVerdict given.now bytes)) }
+    ensures { (bytes : List ℕ) → IsCertRead bytes certificate
+        → IsTextAnswer (certificate_of bytes ▸ upgraded_to given.now) result }
 {
     let file = certificate?;
     upgrade(alloc, given, file)
 }
 
 /// The certificate in version 2, where it is accepted for the island of its root.
+#[tactic(auto, using(crate::proofs::TextSteps::ends_first, crate::proofs::TextSteps::ends_second))]
 fn upgrade(alloc: Global, given: &Given, file: CertFile) -> Result<Text, Exit>
-    ensures upgraded { IfOk result (HasText (IsUpgradeFor given.now file)) }
-    ensures refused { IfErr result (IsDue (IsRefusedFor given.now file)) }
+    ensures { IsTextAnswer (upgraded_to given.now file) result }
 {
     let island = island_in(alloc, given, file.root)?;
     upgrade_in(alloc, &island, file)
 }
 
 /// The certificate in version 2, where it is accepted for an island and its root.
+#[tactic(auto, using(crate::proofs::TextSteps::ends_first, crate::proofs::TextSteps::ends_second))]
 fn upgrade_in(alloc: Global, island: &Island, file: CertFile) -> Result<Text, Exit>
     requires { island.now.root < length island.now.graph.ids }
-    ensures upgraded { IfOk result (HasText (IsUpgrade island.now.graph island.now.root file)) }
-    ensures refused { IfErr result (IsDue (IsRejected island.now.graph island.now.root file)) }
+    ensures { IsTextAnswer (upgraded_in island.now.graph island.now.root file) result }
 {
     accepted_files_are_foldable();
-    accepted_implies_sound();
     judge(&island.graph, island.root, &file)?;
     // what each graph and each certificate keeps is told by reading it
     let _nodes = island.graph.node_count();

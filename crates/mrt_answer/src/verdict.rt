@@ -1,11 +1,9 @@
 //! `check DB PROFILE CERT`: the verdict on a certificate file.
 
-ghost use Rattle.std.specs.Prelude.{◌≡◌, ◌<◌, ℕ, List, IfOk, IfErr, length};
-ghost use Rattle.mrt_exit.specs.Due.{IsDue};
+ghost use Rattle.std.specs.Prelude.{◌≡◌, ◌<◌, ℕ, List, Ok, length};
 ghost use Rattle.mrt_words.specs.Kept.{IsCertRead};
-ghost use Rattle.mrt_graph.specs.Accepted.{Accepted};
-ghost use Rattle.mrt_answer.specs.{Refusals.IsRejected, TextBytes.HasText};
-ghost use Rattle.mrt_answer.specs.Verdict.{GivesVerdict, IsAccepted, IsYesFor, accepted_line as line_of_accepted, IsNoVerdict, IsRefusedFor};
+ghost use Rattle.mrt_answer.specs.{Forms.checked as checked_step, Forms.said_yes, Reading.certificate_of, TextBytes.IsTextAnswer, Verdict.accepted_line as line_of_accepted, Verdict.judged};
+ghost use Rattle.mrt_exit.specs.Steps.{IsAnswer, ◌▸◌};
 
 use crate::given::Given;
 use crate::island::island_in;
@@ -18,36 +16,34 @@ use std::alloc::Global;
 use text_parts::{Line, line_of, put, put_address, put_number};
 
 /// The accepted line, where there is a certificate and it is accepted for the island of its root.
+#[tactic(auto, using(crate::proofs::TextSteps::ends_first, crate::proofs::TextSteps::ends_second))]
 pub(crate) fn checked(
     alloc: Global,
     given: &Given,
     certificate: Result<CertFile, CertFault>,
 ) -> Result<Text, Exit>
-    ensures text { (bytes : List ℕ) → IsCertRead bytes certificate
-        → IfOk result (HasText (GivesVerdict given.now bytes)) }
-    ensures refused { (bytes : List ℕ) → IsCertRead bytes certificate
-        → IfErr result (IsDue (IsNoVerdict given.now bytes)) }
+    ensures { (bytes : List ℕ) → IsCertRead bytes certificate
+        → IsTextAnswer (certificate_of bytes ▸ checked_step given.now) result }
 {
     let file = certificate?;
     verdict(alloc, given, &file)
 }
 
 /// The accepted line, where the certificate is accepted for the island of its root.
+#[tactic(auto, using(crate::proofs::TextSteps::ends_first, crate::proofs::TextSteps::ends_second))]
 fn verdict(alloc: Global, given: &Given, file: &CertFile) -> Result<Text, Exit>
-    ensures accepted { IfOk result (HasText (IsYesFor given.now file.now)) }
-    ensures refused { IfErr result (IsDue (IsRefusedFor given.now file.now)) }
+    ensures { IsTextAnswer (checked_step given.now file.now) result }
 {
     let island = island_in(alloc, given, file.root)?;
     verdict_on(&island.graph, island.root, file)
 }
 
 /// The accepted line, where the certificate is accepted for the graph and its root.
+#[tactic(auto, using(crate::proofs::TextSteps::ends_first, crate::proofs::TextSteps::ends_second))]
 fn verdict_on(graph: &Graph, root: NodeNo, file: &CertFile) -> Result<Text, Exit>
     requires { root < length graph.now.ids }
-    ensures accepted { IfOk result (HasText (IsAccepted graph.now root file.now)) }
-    ensures refused { IfErr result (IsRejected graph.now root file.now) }
+    ensures { IsTextAnswer (said_yes graph.now root file.now) result }
 {
-    accepted_implies_sound();
     judge(graph, root, file)?;
     let line = accepted_line(file.root, graph.node_count(), graph.link_count());
     Ok(Text::Line(line))
@@ -56,9 +52,9 @@ fn verdict_on(graph: &Graph, root: NodeNo, file: &CertFile) -> Result<Text, Exit
 /// Whether the certificate is accepted for the graph and its root.
 pub(crate) fn judge(graph: &Graph, root: NodeNo, file: &CertFile) -> Result<(), Exit>
     requires { root < length graph.now.ids }
-    ensures accepted { IfOk result (λ _. Accepted graph.now root file.now) }
-    ensures refused { IfErr result (IsRejected graph.now root file.now) }
+    ensures { IsAnswer (judged graph.now root file.now) result }
 {
+    accepted_implies_sound();
     match check(graph, root, file) {
         Verdict::Yes => Ok(()),
         Verdict::No { rule, a, b } => Err(Exit::No { rule, a, b }),

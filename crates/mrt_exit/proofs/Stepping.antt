@@ -1,6 +1,6 @@
 -- Steps one after another.
 use Rattle.std.proofs.Common.{◌≡◌, ◌⊎◌, ◌∙◌, Result, Ok, Err, refl, sym, ap, subst, inl, inr}
-use Rattle.mrt_exit.specs.Steps.{EndsAs, IsAnswer, IsOne, Step, such, ◌▸◌}
+use Rattle.mrt_exit.specs.Steps.{IsAnswer, IsOne, Step, such, ◌▸◌}
 use Rattle.mrt_exit.specs.declared.exit.Exit.{Exit}
 
 module _ {A B : Type 0} (first : Step A) (next : A → Step B) where
@@ -44,11 +44,6 @@ module _ {A B : Type 0} (first : Step A) (next : A → Step B) where
       both (inr (x, on, of)) (inl (exit, ends, is)) = absurd (never_both exit x (one (Err exit) (Ok x) ends on))
       both (inr (x, on, of)) (inr (x', on', of')) =
           then x' on' answer other (subst (λ (y : A). next y answer) (same_Ok x x' (one (Ok x) (Ok x') on on')) of) of'
-
-  -- exits of two steps are those of the one or of the other
-  pub ends_then_ends : (Is : Exit → Type 0) → EndsAs Is first → ((x : A) → EndsAs Is (next x)) → EndsAs Is (first ▸ next)
-  ends_then_ends Is ends then exit (inl said) = ends exit said
-  ends_then_ends Is ends then exit (inr (x, on, said)) = then x exit said
 
 -- at most one thing comes of a step of which one value comes, or one exit, and never both
 pub one_value_or_exit : {A : Type 0} (step : Step A) → ((x y : A) → step (Ok x) → step (Ok y) → x ≡ y)

@@ -1,8 +1,8 @@
-use Rattle.std.proofs.Common.{◌≡◌, ◌∙◌, ℕ, List, sym, subst}
-use Rattle.mrt_answer.specs.Input.{IsInput}
-use Rattle.mrt_answer.specs.Refusals.{HasNoInput, IsAnswerOver}
-use Rattle.mrt_words.proofs.HandedOn.{handed_on}
-use Rattle.mrt_answer.proofs.OverBytes.{gives_over, input_over, tasks_over}
+use Rattle.std.proofs.Common.{◌≡◌, ◌∙◌, ℕ, List, Ok, Err, sym, subst}
+use Rattle.mrt_exit.specs.Steps.{IsAnswer}
+use Rattle.mrt_answer.specs.Forms.{of_task}
+use Rattle.mrt_answer.specs.Reading.{input_of}
+use Rattle.mrt_answer.proofs.TextSteps.{ends_second, handed_on}
 use Rattle.mrt_answer.proofs.answer.answer_of_files.Goals as goal
 
 -- what holds of the bytes that are lent holds of those of the two files
@@ -10,23 +10,15 @@ of_both : (Holds : List ℕ → List ℕ → Type 0) (database profile lent othe
 of_both Holds database profile lent other same same' holds =
     subst (λ (b : List ℕ). Holds b profile) same (subst (λ (b : List ℕ). Holds lent b) same' holds)
 
-pub returns-in_err-given-clause-refused : goal.returns-in_err-given-clause-refused
-returns-in_err-given-clause-refused c =
+pub returns-in_err-given : goal.returns-in_err-given
+returns-in_err-given c = λ task bytes are.
     let exit = c.in_err-given.field-0.0 in
-    λ task bytes are.
-    handed_on c.from_residual.result exit c.from_residual.ensures.1 (IsAnswerOver task bytes)
-    (input_over task bytes exit
-    (of_both (λ database profile. HasNoInput database profile exit) _ _ _ _ (c.deref.ensures.value ∙ sym are.database) (c.deref-2.ensures.value ∙ sym are.profile)
-    c.in_err-given.ensures.none))
+    handed_on (input_of bytes.first bytes.profile) (λ input. of_task task input bytes.last) c.from_residual.result exit c.from_residual.ensures.1
+    (of_both (λ database profile. IsAnswer (input_of database profile) (Err exit)) _ _ _ _ (c.deref.ensures.value ∙ sym are.database)
+    (c.deref-2.ensures.value ∙ sym are.profile) c.in_err-given.ensures)
 
-pub returns-clause-text : goal.returns-clause-text
-returns-clause-text c = λ task bytes are.
-    let given = of_both (λ database profile. IsInput database profile c.in_ok-given.given) _ _ _ _ (c.deref.ensures.value ∙ sym are.database)
-    (c.deref-2.ensures.value ∙ sym are.profile) c.in_ok-given.ensures.given in
-    gives_over c.answer_for.result task bytes c.in_ok-given.given given (c.answer_for.ensures.text task bytes.last are.work)
-
-pub returns-clause-refused : goal.returns-clause-refused
-returns-clause-refused c = λ task bytes are.
-    let given = of_both (λ database profile. IsInput database profile c.in_ok-given.given) _ _ _ _ (c.deref.ensures.value ∙ sym are.database)
-    (c.deref-2.ensures.value ∙ sym are.profile) c.in_ok-given.ensures.given in
-    tasks_over c.answer_for.result task bytes c.in_ok-given.given given (c.answer_for.ensures.refused task bytes.last are.work)
+pub returns : goal.returns
+returns c = λ task bytes are.
+    ends_second (input_of bytes.first bytes.profile) (λ input. of_task task input bytes.last) c.in_ok-given.given
+    (of_both (λ database profile. input_of database profile (Ok c.in_ok-given.given)) _ _ _ _ (c.deref.ensures.value ∙ sym are.database)
+    (c.deref-2.ensures.value ∙ sym are.profile) c.in_ok-given.ensures) c.answer_for.result (c.answer_for.ensures task bytes.last are.work)

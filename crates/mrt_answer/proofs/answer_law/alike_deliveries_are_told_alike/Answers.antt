@@ -4,11 +4,7 @@ use Rattle.mrt_answer.proofs.answer_law.alike_deliveries_are_told_alike.Goals as
 pub returns : goal.returns
 returns c =
     told_alike (record {
-      profiles = record {
-        never_both = c.lines_are_settings_or_have_a_fault.ensures.never_both;
-        one_list = c.lines_are_settings_or_have_a_fault.ensures.one_list;
-        one_fault = c.lines_are_settings_or_have_a_fault.ensures.one_fault;
-      };
-      one_list = c.bytes_are_updates_or_have_a_fault.ensures.one_list;
-      one_script = c.lines_are_a_flood_script_or_have_a_fault.ensures.one_script;
+      updates = c.bytes_are_updates_or_have_a_fault.ensures.one_list;
+      settings = c.lines_are_settings_or_have_a_fault.ensures.one_list;
+      script = c.lines_are_a_flood_script_or_have_a_fault.ensures.one_script;
     }) c.no_difference_is_told.ensures

@@ -23,13 +23,13 @@ script_text-requires-clause-served c =
     (λ t among. served made t (λ within. among))
 
 pub returns : goal.returns
-returns c = λ input is.
+returns c =
     let made = made_for c.deref.ensures.value c.in_ok-tables.ensures in
     let agree = agree_at_destinations (parts made) (row_of made.file.cert) c.args.script.now.events c.in_ok-spots.spots.items c.in_ok-spots.ensures.are
     (λ t among. agrees made t (λ within. among)) in
     if_ok c.script_text.result _ _ c.script_text.ensures
     (λ text spelled. (
       whole made,
-      are_whole made input c.args.script.now.router is,
+      are_whole made,
       c.texts_by_rows_for_destinations.ensures.script (parts made) (row_of made.file.cert) c.args.script.now agree text.items spelled,
     ))

@@ -2,9 +2,9 @@ use Rattle.mrt_words.proofs.HandedOn.{if_ok}
 use Rattle.mrt_answer.proofs.order.order_of.Goals as goal
 
 pub returns : goal.returns
-returns c = λ router at.
+returns c =
     if_ok c.order_text.result _ _ (c.order_text.ensures.of_graph c.in_ok-directed.ensures.made)
-    (λ text spelled. record { kept = c.directions.ensures.kept; source = c.args.source; in_island = at; spelled = spelled })
+    (λ text spelled. record { kept = c.directions.ensures.kept; spelled = spelled })
 
 pub directions-requires : goal.directions-requires
 directions-requires c = c.requires.root

@@ -6,8 +6,5 @@ proxy_by-requires-clause-made c = c.in_ok-columns.ensures.made
 pub proxy_by-requires-clause-computed : goal.proxy_by-requires-clause-computed
 proxy_by-requires-clause-computed c = c.in_ok-columns.ensures.computed
 
-pub returns-clause-proxied : goal.returns-clause-proxied
-returns-clause-proxied c = c.proxy_by.ensures.proxied
-
-pub returns-clause-refused : goal.returns-clause-refused
-returns-clause-refused c = c.proxy_by.ensures.refused
+pub returns : goal.returns
+returns c = c.proxy_by.ensures

@@ -1,4 +1,4 @@
-use Rattle.std.proofs.Common.{◌≡◌, ◌∙◌, ℕ, List, length, refl, sym, subst, arith}
+use Rattle.std.proofs.Common.{◌≡◌, ◌∙◌, ℕ, List, length, inl, refl, sym, subst, arith}
 use Rattle.mrt_graph.specs.declared.cert.CertNode.{CertNode}
 use Rattle.mrt_graph.specs.Topology.{Topology}
 use Rattle.mrt_rows.specs.declared.rooted.RootedColumns.{RootedColumns}
@@ -9,10 +9,10 @@ use Rattle.mrt_answer.specs.Computed.{HasComputed}
 use Rattle.proxy_rows.specs.declared.proxy_row.ProxyRow.{ProxyRow}
 use Rattle.proxy_rows.specs.ProxyRows.{AreProxyRows}
 use Rattle.mrt_words.proofs.HandedOn.{if_ok}
-use Rattle.mrt_answer.specs.Proxied.{HasNoProxyOf, IsProxyOf}
+use Rattle.mrt_answer.specs.Proxied.{proxied}
 use Rattle.mrt_answer.proofs.ComputedColumns.{as_many}
 use Rattle.mrt_answer.proofs.OneProxy.{accepted_for}
-use Rattle.mrt_answer.proofs.TextsHeld.{bytes_given, bytes_refused}
+use Rattle.mrt_answer.proofs.TextSteps.{of_bytes}
 use Rattle.mrt_answer.proofs.proxy.proxy_by.Goals.{After-deref, After-deref-3}
 use Rattle.mrt_answer.proofs.proxy.proxy_by.Goals as goal
 
@@ -29,10 +29,10 @@ attach-requires-clause-first c = omega (arith, c.requires.first, all_said (goal.
 pub attach-requires-clause-second : goal.attach-requires-clause-second
 attach-requires-clause-second c = omega (arith, c.requires.second, all_said (goal.at.attach-requires-clause-second c).After-deref)
 
-pub returns-in_default-clause-refused : goal.returns-in_default-clause-refused
-returns-in_default-clause-refused c =
+pub returns-in_default : goal.returns-in_default
+returns-in_default c =
     let own = c.requires.computed in
-    (own.file, own.certificate, (c.in_default.ensures.none own.file.cert (sym (nodes_say (goal.at.returns-in_default-clause-refused c).After-deref))).0 refl)
+    inl (own.file, own.certificate, (c.in_default.ensures.none own.file.cert (sym (nodes_say (goal.at.returns-in_default c).After-deref))).0 refl)
 
 pub rows_at-requires-clause-made : goal.rows_at-requires-clause-made
 rows_at-requires-clause-made c = c.requires.made
@@ -74,19 +74,14 @@ proxy_text_of-requires-clause-rows c =
     let at = goal.at.proxy_text_of-requires-clause-rows c in
     (own.file.cert, accepted_for c.args.graph.now c.args.root own.file own.certificate, rows_are at.After-deref-3 (nodes_say at.After-deref))
 
-pub returns-clause-proxied : goal.returns-clause-proxied
-returns-clause-proxied c =
+pub returns : goal.returns
+returns c =
     let own = c.requires.computed in
-    let at = goal.at.returns-clause-proxied c in
-    bytes_given c.bytes_answer.result (IsProxyOf c.args.graph.now c.args.root c.args.a c.args.b) c.proxy_text_of.result
-    c.bytes_answer.ensures.text c.bytes_answer.ensures.none
+    let at = goal.at.returns c in
+    of_bytes (proxied c.args.graph.now c.args.root c.args.a c.args.b) c.proxy_text_of.result c.bytes_answer.result
     (if_ok c.proxy_text_of.result _ _ (c.proxy_text_of.ensures own.file.cert (rows_are at.After-deref-3 (nodes_say at.After-deref)))
     (λ text spelled. record { file = own.file; certificate = own.certificate; spelled = spelled }))
-
-pub returns-clause-refused : goal.returns-clause-refused
-returns-clause-refused c =
-    bytes_refused c.bytes_answer.result (HasNoProxyOf c.args.graph.now c.args.root c.args.a c.args.b) c.proxy_text_of.result
-    c.bytes_answer.ensures.text c.bytes_answer.ensures.none tt
+    c.bytes_answer.ensures.text c.bytes_answer.ensures.none
 
 pub nodes-requires : goal.nodes-requires
 nodes-requires c = c.requires.made

@@ -9,6 +9,6 @@ returns-clause-newest c =
 
 pub returns-clause-none : goal.returns-clause-none
 returns-clause-none c =
-    memory_of_database c.database_of.result c.as_slice.result.now c.args.number c.args.nodes
-    (rw c.as_slice.ensures.value c.in_ok-bytes.ensures.text)
-    (c.made_networks_are_taken.ensures.faultless c.args.number c.args.nodes c.requires) c.database_of.ensures.none
+    memory_of_database c.database_of.result c.as_slice.result.now
+    (rw (c.as_slice.ensures.value, c.in_ok-bytes.ensures.text) (c.made_networks_are_taken.ensures.faultless c.args.number c.args.nodes c.requires))
+    c.database_of.ensures.none

@@ -1,5 +1,10 @@
+use Rattle.std.proofs.Common.{subst}
+use Rattle.area_graph.specs.Parts.{AreaParts}
+use Rattle.mrt_island.specs.IslandOf.{IsIsland}
 use Rattle.mrt_survey.specs.MadeLsas.{made_lsas}
 use Rattle.ospf_lsa.specs.LsaText.{lsas_text}
+use Rattle.mrt_answer.specs.Input.{policy}
+use Rattle.mrt_answer.specs.Surveyed.{made_input}
 use Rattle.mrt_answer.proofs.MadeNetworks.{NetworkLaws, made_database, made_has_island, made_is_input}
 use Rattle.mrt_answer.proofs.OneReading.{DatabaseLaws, no_bad_database, one_database}
 use Rattle.mrt_answer.proofs.survey_law.made_networks_are_taken.Goals as goal
@@ -44,5 +49,7 @@ returns-clause-island c = made_has_island (networks c)
 
 pub returns-clause-routers : goal.returns-clause-routers
 returns-clause-routers c = λ number nodes text survey.
-    c.made_islands_hold_all_routers.ensures number nodes survey.size.0 1 survey.graph survey.root survey.island.link_of
-    survey.island.island
+    let island = survey.island in
+    c.made_islands_hold_all_routers.ensures number nodes survey.size.0 1 island.graph island.root island.link_of
+    (subst (λ (a : AreaParts). IsIsland (policy (made_input number nodes)) a 1 island.graph island.root island.link_of)
+    survey.island_is.1.0 survey.island_is.2)

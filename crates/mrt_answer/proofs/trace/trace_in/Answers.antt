@@ -31,12 +31,12 @@ trace_text-requires-clause-served c =
     (is_among (goal.at.trace_text-requires-clause-served c).In_ok-spots)
 
 pub returns : goal.returns
-returns c = λ input is.
+returns c =
     let made = made_for c.deref.ensures.value c.in_ok-tables.ensures in
     if_ok c.trace_text.result _ _ c.trace_text.ensures
     (λ text spelled. (
       whole made,
-      are_whole made input c.args.trace.now.from is,
+      are_whole made,
       c.texts_by_rows_for_destinations.ensures.trace (parts made) (row_of made.file.cert) c.args.trace.now
           (agrees made (spot_of c.args.net.now.area c.args.trace.now.to) (is_among (goal.at.returns c).In_ok-spots)) text.items spelled,
     ))

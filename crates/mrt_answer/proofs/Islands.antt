@@ -1,11 +1,14 @@
--- What is said of the area, the island and the certificate is one.
+-- What is said of an area that is too large is one; and a router whose island there is is there.
 use Rattle.std.proofs.Common.{◌≡◌, ◌∙◌, ◌<◌, ◌⊎◌, ℕ, List, Bool, Option, length, refl, sym, subst, inl, inr, arith}
 use Rattle.std.specs.Prelude.{Contains, Some, slice_get}
 use Rattle.mrt_graph.specs.declared.node_id.NodeId.{NodeId}
+use Rattle.std.specs.List.Sorted.{IsStrictlySortedBy}
 use Rattle.std.proofs.lemmas.Option.{get_or_from_slice_get, slice_get_within}
 use Rattle.std.proofs.lemmas.List.Elements.{Contains-get_or}
 use Rattle.area_graph.specs.AreaInvariant.{IsArea}
 use Rattle.mrt_graph.specs.NodeIds.{router}
+use Rattle.mrt_graph.specs.NodeOrder.{node_id_cmp}
+use Rattle.mrt_island.proofs.Counting.{ascend_flagged}
 use Rattle.area_graph.specs.Parts.{AreaParts}
 use Rattle.mrt_graph.specs.Topology.{Topology}
 use Rattle.mrt_island.specs.IslandOf.{IsIsland}
@@ -45,9 +48,17 @@ inside_is_there policy area number inside those (inr unsupported) =
     let supported = those.supported in
     absurd cc
 
--- the law of the layers below on the island of a router
-pub record IslandLaws : Type 0 where
-  pub one_island : (policy : Policy) (area : AreaParts) (number : ℕ) (g h : Topology) (root node : ℕ)
-      (link_of others : List (Option ℕ)) → IsArea area
-      → IsIsland policy area number g root link_of → IsIsland policy area number h node others
-      → (g ≡ h) × (root ≡ node) × (link_of ≡ others)
+-- the root is a node of the island
+pub root_within : (policy : Policy) (area : AreaParts) (router : ℕ) (graph : Topology) (root : ℕ)
+    (link_of : List (Option ℕ)) → IsIsland policy area router graph root link_of
+    → root < length graph.ids
+root_within policy area router graph root link_of island =
+    slice_get_within graph.ids root island.rooted.id (subst (λ (ids : List NodeId). slice_get ids root ≡ Some
+    island.rooted.id) (sym island.made.same_ids) island.rooted.there)
+
+-- the nodes of an island ascend, as those of the area do
+pub island_ascends : (policy : Policy) (area : AreaParts) → IsArea area → (router : ℕ) (graph : Topology) (root : ℕ)
+    (link_of : List (Option ℕ)) → IsIsland policy area router graph root link_of → IsStrictlySortedBy node_id_cmp graph.ids
+island_ascends policy area kept router graph root link_of island =
+    subst (λ (ids : List NodeId). IsStrictlySortedBy node_id_cmp ids) (sym island.made.same_ids)
+    (ascend_flagged node_id_cmp island.inside area.ids kept.ids_ascend)
