@@ -1,79 +1,74 @@
 -- From what the steps of the top call say to the causes of its exit.
 use Rattle.std.proofs.Common.{◌≡◌, ◌⊎◌, ◌↔◌, ℕ, List, Option, Some, None, Result, Ok, Err, refl, sym, subst, inl, inr}
 use Rattle.std.specs.Prelude.{IfErr, IsNone, IsSome}
-use Rattle.std.specs.Option.{IsSomeAnd}
 use Rattle.mrt_io.specs.Holding.{Files}
 use Rattle.mrt_io.specs.Writing.{Gained}
 use Rattle.mrt_exit.specs.declared.exit.Exit.{Exit}
 use Rattle.mrt_exit.specs.declared.exit.Exit.TheVariants as exits
-use Rattle.mrt_cmd.specs.Causes.{HasCause, HasNoText, IsAnswered, IsOutputCalm, IsShelfCalm, IsTold, ShelfInCall, SinkInCall}
-use Rattle.mrt_cmd.specs.Comes.{Comes, Gives, GivesText, IsRefused, NamesHeld, Refuses}
+use Rattle.mrt_cmd.specs.Causes.{HasCause, HasNoText, IsAnswered, IsOfBytes, IsOutputCalm, IsShelfCalm, IsTold, ShelfInCall, SinkInCall}
+use Rattle.mrt_cmd.specs.Comes.{Comes, FailsAt, GivesText, IsRefused, NamesHeld, of_form, read_as_form}
 use Rattle.mrt_exit.specs.Exits.{line_of}
 use Rattle.mrt_words.specs.Files.{MayFail, files_of}
 use Rattle.mrt_words.specs.declared.form.Form.{Form}
-use Rattle.mrt_words.specs.Form.{AsksVerdict, form_of}
+use Rattle.mrt_words.specs.Form.{form_of}
 use Rattle.mrt_cmd.specs.Headline.{IsPassed}
 use Rattle.mrt_words.specs.Reading.{IsDueOrFault}
+use Rattle.mrt_words.proofs.Readings.{if_err}
 use Rattle.mrt_exit.specs.Telling.{GainedLine, IsCutShort}
 use Rattle.mrt_cmd.specs.Run.{IsHealthyForText, WritesNothing}
-use Rattle.mrt_cmd.proofs.Exactly.{ComesOnce, exactly as exactly_one, exactly_missing, none_missing}
-use Rattle.mrt_cmd.proofs.Held.{given_held, stopped_held}
-use Rattle.mrt_cmd.proofs.NeverSaid.{OfDone, OfOutput, OfUsage, not_of_form}
+use Rattle.mrt_cmd.proofs.Exactly.{ComesOnce, exactly as exactly_one, exactly_missing, none_missing, refusal_comes, text_comes}
+use Rattle.mrt_cmd.proofs.FormSays.{form_says, of_some, only_verdict}
+use Rattle.mrt_cmd.proofs.Held.{given_held, refused_held}
 use Rattle.mrt_cmd.proofs.WrittenPasses.{no_form}
 
--- only a verdict says no
-abbrev pub OnlyAVerdict : Type 0
-OnlyAVerdict = (held : Option Files) (words : List (List ℕ)) (rule a b : ℕ) → IsRefused held words (exits.No rule a b)
-    → IsSomeAnd (form_of words) AsksVerdict
-
-some_form : (form : Form) (o : Option Form) → Some form ≡ o → IsSome o
-some_form form o is = subst (λ (it : Option Form). IsSome it) is refl
-
 -- a refusal of the form of the words says why they give no text
-module _ (only : OnlyAVerdict) (words : List (List ℕ)) (shelf : ShelfInCall) (form : Form) (is : Some form ≡ form_of words) where
-  of_words : (exit : Exit) → Refuses shelf.held form exit → IsRefused shelf.held words exit
-  of_words exit refused = subst (λ (it : Option Form). IsSomeAnd it (λ f. Refuses shelf.held f exit)) is refused
+module _ (words : List (List ℕ)) (shelf : ShelfInCall) (form : Form) (is : Some form ≡ form_of words) where
+  -- a call is refused as the form is, or a fault of the shelf is told
+  abbrev IsDueHere : Exit → Type 0
+  IsDueHere = IsDueOrFault (λ due. of_form shelf.held form (Err due)) shelf.held (files_of form) shelf.faults shelf.faults_now
 
-  pub refused_words : (exit : Exit) → IsDueOrFault (Refuses shelf.held form) shelf.held (files_of form) shelf.faults shelf.faults_now exit
-      → HasNoText words shelf exit
-  refused_words exits.Done said =
-      absurd (not_of_form shelf.held form shelf.faults shelf.faults_now exits.Done OfDone said)
-  refused_words exits.Usage said =
-      absurd (not_of_form shelf.held form shelf.faults shelf.faults_now exits.Usage OfUsage said)
-  refused_words (exits.WriteFault taken) said =
-      absurd (not_of_form shelf.held form shelf.faults shelf.faults_now (exits.WriteFault taken) OfOutput said)
+  refused_words : (exit : Exit) → IsDueHere exit → HasNoText words shelf exit
+  refused_words exits.Done (inl refused) = absurd (form_says shelf.held form exits.Done refused)
+  refused_words exits.Usage (inl refused) = absurd (form_says shelf.held form exits.Usage refused)
+  refused_words (exits.WriteFault taken) (inl refused) = absurd (form_says shelf.held form (exits.WriteFault taken) refused)
   refused_words (exits.ReadFault word) said =
-      (subst (λ (it : Option Form). IsSomeAnd it (λ f. MayFail shelf.held (files_of f) word)) is said.0, said.1)
-  refused_words exits.NoMemory said = some_form form (form_of words) is
+      (of_some (form_of words) (λ f. MayFail shelf.held (files_of f) word) form (sym is) said.0, said.1)
+  refused_words exits.NoMemory said = subst (λ (it : Option Form). IsSome it) is refl
   refused_words (exits.No rule a b) (inl refused) =
-      let of : IsRefused shelf.held words (exits.No rule a b) = of_words (exits.No rule a b) refused in
-      (of, only shelf.held words rule a b of)
-  refused_words exit (inl refused) = of_words exit refused
+      let of : IsRefused shelf.held words (exits.No rule a b) = inr (form, sym is, refused) in
+      (of, only_verdict shelf.held words rule a b of)
+  refused_words exit (inl refused) = inr (form, sym is, refused)
   refused_words exit (inr memory) = absurd cc
 
--- of what came of the form
-pub refused_over_words : {T : Type 0} (result : Result T Exit) → OnlyAVerdict → (words : List (List ℕ)) (shelf : ShelfInCall)
-    (form : Form) → Some form ≡ form_of words
-    → IfErr result (IsDueOrFault (Refuses shelf.held form) shelf.held (files_of form) shelf.faults shelf.faults_now) → IfErr result (HasNoText words shelf)
-refused_over_words (Ok text) only words shelf form is said = tt
-refused_over_words (Err exit) only words shelf form is said = refused_words only words shelf form is exit said
+  pub refused_over_words : {T : Type 0} (result : Result T Exit) → IfErr result IsDueHere → IfErr result (HasNoText words shelf)
+  refused_over_words result said = if_err result IsDueHere (HasNoText words shelf) refused_words said
+
+-- why the words give no text, in short: memory was wanted, a file was not read, or they are refused
+abbrev HasReason : List (List ℕ) → ShelfInCall → Exit → Type 0
+HasReason words shelf exit =
+    ((exit ≡ exits.NoMemory) × IsSome (form_of words))
+    ⊎ ((word : ℕ) × (exit ≡ exits.ReadFault word) × FailsAt shelf.held words word) ⊎ IsRefused shelf.held words exit
+
+stopped_by : (words : List (List ℕ)) (shelf : ShelfInCall) (exit : Exit) → HasNoText words shelf exit → HasReason words shelf exit
+stopped_by words shelf exits.Usage said = inr (inr (inl said.0))
+stopped_by words shelf (exits.ReadFault word) said = inr (inl (word, refl, said.0))
+stopped_by words shelf (exits.No rule a b) said = inr (inr said.0)
+stopped_by words shelf exits.NoMemory said = inl (refl, said)
+stopped_by words shelf exits.Done said = absurd said
+stopped_by words shelf (exits.WriteFault taken) said = absurd said
+stopped_by words shelf exit said = inr (inr said)
 
 -- words of no form are answered with the usage
-none_is_usage : (words : List (List ℕ)) (shelf : ShelfInCall) (exit : Exit) → HasNoText words shelf exit
-    → IsNone (form_of words) → exit ≡ exits.Usage
-none_is_usage words shelf exits.Usage said none = refl
-none_is_usage words shelf exits.Done said none = absurd said
-none_is_usage words shelf (exits.WriteFault taken) said none = absurd said
-none_is_usage words shelf (exits.ReadFault word) said none =
-    absurd (no_form (form_of words) (λ f. MayFail shelf.held (files_of f) word) none said.0)
-none_is_usage words shelf exits.NoMemory said none = absurd (neither (form_of words) said none)
+none_is_usage : (words : List (List ℕ)) (shelf : ShelfInCall) (exit : Exit) → HasReason words shelf exit → IsNone (form_of words)
+    → exit ≡ exits.Usage
+none_is_usage words shelf exit (inl (is, some)) none = absurd cc
+none_is_usage words shelf exit (inr (inl (word, is, fails))) none = absurd (no_form (form_of words) _ none fails)
+none_is_usage words shelf exit (inr (inr (inl usage))) none = is_usage exit usage
   where
-    neither : (form : Option Form) → IsSome form → IsNone form → ⊥
-    neither None some none = cc
-    neither (Some form) some none = cc
-none_is_usage words shelf (exits.No rule a b) said none =
-    absurd (no_form (form_of words) (λ f. Refuses shelf.held f (exits.No rule a b)) none said.0)
-none_is_usage words shelf exit said none = absurd (no_form (form_of words) (λ f. Refuses shelf.held f exit) none said)
+    is_usage : (exit : Exit) → read_as_form words (Err exit) → exit ≡ exits.Usage
+    is_usage exits.Usage usage = refl
+    is_usage exit usage = absurd usage
+none_is_usage words shelf exit (inr (inr (inr (form, is, refused)))) none = absurd cc
 
 cause_of : (words : List (List ℕ)) (shelf : ShelfInCall) (out : SinkInCall) (exit : Exit) → HasNoText words shelf exit
     → out.untouched → HasCause words shelf out exit
@@ -100,16 +95,18 @@ come_exact held words exit once comes told = elim (exactly_one held words exit o
 
 -- whatever the count: the cause says that a refusal comes of the words
 stopped_exact : (once : ComesOnce) (words : List (List ℕ)) (shelf : ShelfInCall) (exit : Exit)
-    → HasNoText words shelf exit → IsSome shelf.held → IsExactOnceRead shelf.held words exit
-stopped_exact once words shelf exits.Done said told = absurd said
-stopped_exact once words shelf (exits.WriteFault taken) said told = absurd said
-stopped_exact once words shelf exits.NoMemory said told = inl refl
-stopped_exact once words shelf (exits.ReadFault word) said told = inr (inl (word, refl))
-stopped_exact once words shelf exits.Usage said told =
-    come_exact shelf.held words exits.Usage once (inl (refl, said.0)) told
-stopped_exact once words shelf (exits.No rule a b) said told =
-    come_exact shelf.held words (exits.No rule a b) once (inr (inr said.0)) told
-stopped_exact once words shelf exit said told = come_exact shelf.held words exit once (inr (inr said)) told
+    → HasReason words shelf exit → IsSome shelf.held → IsExactOnceRead shelf.held words exit
+stopped_exact once words shelf exit (inl (is, some)) told = inl is
+stopped_exact once words shelf exit (inr (inl (word, is, fails))) told = inr (inl (word, is))
+stopped_exact once words shelf exit (inr (inr refused)) told =
+    come_exact shelf.held words exit once (refusal_comes shelf.held words exit refused) told
+
+-- an exit that speaks of bytes is a refusal
+stopped_held : (words : List (List ℕ)) (shelf : ShelfInCall) (exit : Exit) → HasReason words shelf exit
+    → IsSome shelf.held → IsOfBytes exit → NamesHeld shelf.held words
+stopped_held words shelf exit (inl (is, some)) told of = absurd (subst IsOfBytes is of)
+stopped_held words shelf exit (inr (inl (word, is, fails))) told of = absurd (subst IsOfBytes is of)
+stopped_held words shelf exit (inr (inr refused)) told of = refused_held shelf.held words exit refused told of
 
 -- where the words give no text, and the output is left as it was
 pub stopped : (once : ComesOnce) (words : List (List ℕ)) (shelf : ShelfInCall) (out err : SinkInCall) (exit : Exit)
@@ -120,14 +117,14 @@ pub stopped : (once : ComesOnce) (words : List (List ℕ)) (shelf : ShelfInCall)
 stopped once words shelf out err exit said untouched same of comes calm = record {
   cause = cause_of words shelf out exit said untouched;
   told = of;
-  usage = (λ is. (subst (HasNoText words shelf) is said).0, λ none. none_is_usage words shelf exit said none);
-  held = λ told of. stopped_held words shelf exit said told of;
+  usage = (λ is. (subst (HasNoText words shelf) is said).0, none_is_usage words shelf exit (stopped_by words shelf exit said));
+  held = λ told of. stopped_held words shelf exit (stopped_by words shelf exit said) told of;
   missing = λ healthy told. exactly_missing shelf.held words exit once (comes (inr healthy)) told;
   refused = λ spared told. elim (exactly_one shelf.held words exit once (comes spared) told) [
     | inl memory ↦ inl memory
     | inr each ↦ inr (λ refusal nothing. each refusal)
   ];
-  refused_once_read = λ told. stopped_exact once words shelf exit said told;
+  refused_once_read = λ told. stopped_exact once words shelf exit (stopped_by words shelf exit said) told;
   complete = λ spared other. comes spared;
   exactly = λ spared other told. exactly_one shelf.held words exit once (comes spared) told;
   no_read_fault = calm;
@@ -143,7 +140,7 @@ none_refused (Some files) words text result once given told never =
     inr (λ refusal nothing. (
       λ is. absurd (never (subst WritesNothing (sym is) nothing)),
       λ comes. absurd (subst WritesNothing
-          (sym (once files words exits.Done refusal (inr (inl (refl, text, given))) comes)) nothing),
+          (sym (once files words exits.Done refusal (text_comes (Some files) words text given) comes)) nothing),
     ))
 
 none_refused_once_read : (held : Option Files) (words : List (List ℕ)) (text : List ℕ) (result : Exit) → ComesOnce
@@ -171,6 +168,10 @@ pub told_of : (err : SinkInCall) (exit : Exit) → (exit ≡ exits.Done → err.
 told_of err exits.Done silent line = silent refl
 told_of err exit silent line = line (λ is. cc)
 
+-- words that give a text are a form
+text_has_form : (held : Option Files) (words : List (List ℕ)) (text : List ℕ) → GivesText held words text → IsNone (form_of words) → ⊥
+text_has_form held words text (form, is, given) none = absurd cc
+
 -- where the words give a text
 pub written : (once : ComesOnce) (words : List (List ℕ)) (shelf : ShelfInCall) (out err : SinkInCall) (exit : Exit)
     (text : List ℕ) → GivesText shelf.held words text → (WritesNothing exit → ⊥)
@@ -184,13 +185,13 @@ pub written : (once : ComesOnce) (words : List (List ℕ)) (shelf : ShelfInCall)
     → IsAnswered words shelf out err exit
 written once words shelf out err exit text given never done cut told spared calm same =
     let comes : IsOutputCalm words shelf out → Comes shelf.held words exit ⊎ (exit ≡ exits.NoMemory) =
-    λ other. inl (inr (inl (spared other, text, given))) in
+    λ other. inl (Ok text, given, spared other) in
     record {
       cause = written_cause words shelf out exit text given never done cut;
       told = told;
       usage = (
         λ is. absurd (never (subst WritesNothing (sym is) tt)),
-        λ none. absurd (no_form (form_of words) (λ f. Gives shelf.held f text) none given),
+        λ none. absurd (text_has_form shelf.held words text given none),
       );
       held = λ known of. given_held shelf.held words text given known;
       missing = λ healthy known. none_missing shelf.held words text exit once given known never;
@@ -206,19 +207,11 @@ written once words shelf out err exit text given never done cut told spared calm
 pub passed_stopped : (once : ComesOnce) (files : Files) (words : List (List ℕ)) (shelf : ShelfInCall)
     → shelf.held ≡ Some files → (text : List ℕ) → GivesText (Some files) words text → (exit : Exit)
     → HasNoText words shelf exit → IsPassed exit
-passed_stopped once files words shelf told text given exits.Done said = tt
-passed_stopped once files words shelf told text given (exits.ReadFault word) said = tt
-passed_stopped once files words shelf told text given (exits.WriteFault taken) said = tt
-passed_stopped once files words shelf told text given exits.NoMemory said = tt
-passed_stopped once files words shelf told text given exits.Usage said =
-    absurd (no_form (form_of words) (λ f. Gives (Some files) f text) said.0 given)
-passed_stopped once files words shelf told text given (exits.No rule a b) said =
-    absurd (other (once files words exits.Done (exits.No rule a b) (inr (inl (refl, text, given)))
-    (inr (inr (subst (λ (held : Option Files). IsRefused held words (exits.No rule a b)) told said.0)))))
+passed_stopped once files words shelf told text given exit said = go (stopped_by words shelf exit said)
   where
-    other : exits.Done ≡ exits.No rule a b → ⊥
-    other same = cc
-passed_stopped once files words shelf told text given exit said =
-    let same : exits.Done ≡ exit = once files words exits.Done exit (inr (inl (refl, text, given)))
-    (inr (inr (subst (λ (held : Option Files). IsRefused held words exit) told said))) in
-    absurd cc
+    go : HasReason words shelf exit → IsPassed exit
+    go (inl (is, some)) = subst IsPassed (sym is) tt
+    go (inr (inl (word, is, fails))) = subst IsPassed (sym is) tt
+    go (inr (inr refused)) =
+        subst IsPassed (once files words exits.Done exit (text_comes (Some files) words text given)
+        (refusal_comes (Some files) words exit (subst (λ (held : Option Files). IsRefused held words exit) told refused))) tt

@@ -1,19 +1,18 @@
 -- Where one exit comes of the words, each exit comes exactly where it is that.
-use Rattle.std.proofs.Common.{◌≡◌, ◌⊎◌, ◌↔◌, ℕ, List, Option, Some, None, refl, subst, sym, inl, inr}
-use Rattle.std.specs.Prelude.{IsNone, IsSome}
+use Rattle.std.proofs.Common.{◌≡◌, ◌⊎◌, ◌↔◌, ℕ, List, Option, Some, None, Ok, Err, refl, subst, sym, inl, inr}
+use Rattle.std.specs.Prelude.{IsSome}
 use Rattle.std.specs.Option.{IsSomeAnd}
 use Rattle.mrt_io.specs.Holding.{Files}
 use Rattle.mrt_exit.specs.declared.exit.Exit.{Exit}
 use Rattle.mrt_exit.specs.declared.exit.Exit.TheVariants as exits
-use Rattle.mrt_words.specs.FileBytes.{FileBytes}
-use Rattle.mrt_answer.specs.Answers.{IsRefusedOver}
-use Rattle.mrt_answer.proofs.TaskSays.{task_says}
-use Rattle.mrt_cmd.specs.Comes.{Comes, Gives, GivesText, MissesAt, Refuses}
+use Rattle.mrt_answer.proofs.TaskSays.{flooded_says, over_says}
+use Rattle.mrt_cmd.specs.Comes.{Comes, GivesText, IsRefused, MissesAt, of_form}
 use Rattle.mrt_words.specs.Files.{IsFirstMissing, files_of}
 use Rattle.mrt_words.specs.declared.form.Form.{Form}
 use Rattle.mrt_words.specs.declared.form.Form.TheVariants.{OfFiles, Survey, Flood}
-use Rattle.mrt_words.specs.Form.{Task, form_of}
+use Rattle.mrt_words.specs.Form.{AsksVerdictTask, form_of}
 use Rattle.mrt_cmd.specs.Run.{WritesNothing}
+use Rattle.mrt_cmd.proofs.FormSays.{of_some}
 
 -- one exit comes of the words at most
 abbrev pub ComesOnce : Type 0
@@ -28,37 +27,48 @@ exactly (Some files) words result once (inl comes) told =
     inr (λ exit. (λ is. subst (Comes (Some files) words) is comes, λ other. once files words result exit comes other))
 exactly (Some files) words result once (inr memory) told = inl memory
 
--- what is said of the bytes names no file
-never_missing : (task : Task) (bytes : FileBytes) (word : ℕ) → IsRefusedOver task bytes (exits.ReadFault word) → ⊥
-never_missing task bytes word said = task_says task said.0 bytes.last (exits.ReadFault word) said.2
+-- a text, and an exit that refuses the words, come as exits
+pub text_comes : (held : Option Files) (words : List (List ℕ)) (text : List ℕ) → GivesText held words text → Comes held words exits.Done
+text_comes held words text given = (Ok text, given, refl)
 
--- a file that is not held is what comes of the words just where it is the first that is not
-missing_comes : (files : Files) (form : Option Form) (word : ℕ)
-    → ((exits.ReadFault word ≡ exits.Usage) × IsNone form)
-    ⊎ ((exits.ReadFault word ≡ exits.Done) × (text : List ℕ) × IsSomeAnd form (λ it. Gives (Some files) it text))
-    ⊎ IsSomeAnd form (λ it. Refuses (Some files) it (exits.ReadFault word))
-    → IsSomeAnd form (λ it. IsFirstMissing (Some files) (files_of it) word)
-missing_comes files form word (inl usage) =
-    let other = usage.0 in
-    absurd cc
-missing_comes files form word (inr (inl done)) =
-    let other = done.0 in
-    absurd cc
-missing_comes files None word (inr (inr refused)) = absurd refused
-missing_comes files (Some (OfFiles form)) word (inr (inr (inl missing))) = missing
-missing_comes files (Some (OfFiles form)) word (inr (inr (inr said))) =
-    absurd (never_missing form.task said.0 word said.2)
-missing_comes files (Some (Survey number nodes)) word (inr (inr refused)) = absurd refused
-missing_comes files (Some (Flood form)) word (inr (inr (inl missing))) = missing
-missing_comes files (Some (Flood form)) word (inr (inr (inr said))) = absurd said.2
+pub refusal_comes : (held : Option Files) (words : List (List ℕ)) (exit : Exit) → IsRefused held words exit → Comes held words exit
+refusal_comes held words exit refused = (Err exit, refused, refl)
 
-comes_missing : (files : Files) (form : Option Form) (word : ℕ)
-    → IsSomeAnd form (λ it. IsFirstMissing (Some files) (files_of it) word)
-    → IsSomeAnd form (λ it. Refuses (Some files) it (exits.ReadFault word))
-comes_missing files None word missing = absurd missing
-comes_missing files (Some (OfFiles form)) word missing = inl missing
-comes_missing files (Some (Survey number nodes)) word missing = absurd cc
-comes_missing files (Some (Flood form)) word missing = inl missing
+refused_of : (held : Option Files) (words : List (List ℕ)) (exit : Exit) → WritesNothing exit → Comes held words exit
+    → IsRefused held words exit
+refused_of held words exit nothing (Ok text, given, is) = absurd (subst WritesNothing is nothing)
+refused_of held words exit nothing (Err said, refused, is) = subst (λ (e : Exit). IsRefused held words e) (sym is) refused
+
+-- a file that is not held is what comes of a form just where it is the first that is not
+first_missing : (files : Files) (form : Form) (word : ℕ) → of_form (Some files) form (Err (exits.ReadFault word))
+    → IsFirstMissing (Some files) (files_of form) word
+first_missing files (OfFiles form) word (inl missing) = missing
+first_missing files (OfFiles form) word (inr (bytes, read, said)) = absurd (over_says ⊥ form.task bytes (exits.ReadFault word) said)
+first_missing files (Survey number nodes) word said = absurd said
+first_missing files (Flood form) word (inl missing) = missing
+first_missing files (Flood form) word (inr (bytes, read, said)) = absurd (flooded_says ⊥ ⊥ bytes (exits.ReadFault word) said)
+
+comes_missing : (files : Files) (form : Form) (word : ℕ) → IsFirstMissing (Some files) (files_of form) word
+    → of_form (Some files) form (Err (exits.ReadFault word))
+comes_missing files (OfFiles form) word missing = inl missing
+comes_missing files (Survey number nodes) word missing = absurd cc
+comes_missing files (Flood form) word missing = inl missing
+
+-- so of the words
+misses_of : (files : Files) (words : List (List ℕ)) (word : ℕ) → IsRefused (Some files) words (exits.ReadFault word)
+    → MissesAt (Some files) words word
+misses_of files words word (inl usage) = absurd usage
+misses_of files words word (inr (form, is, refused)) =
+    of_some (form_of words) (λ it. IsFirstMissing (Some files) (files_of it) word) form is (first_missing files form word refused)
+
+missing_refused : (files : Files) (words : List (List ℕ)) (word : ℕ) → MissesAt (Some files) words word
+    → IsRefused (Some files) words (exits.ReadFault word)
+missing_refused files words word missing = go (form_of words) refl missing
+  where
+    go : (o : Option Form) → form_of words ≡ o → IsSomeAnd o (λ it. IsFirstMissing (Some files) (files_of it) word)
+        → IsRefused (Some files) words (exits.ReadFault word)
+    go None is missing = absurd missing
+    go (Some form) is missing = inr (form, is, comes_missing files form word missing)
 
 pub exactly_missing : (held : Option Files) (words : List (List ℕ)) (result : Exit) → ComesOnce
     → Comes held words result ⊎ (result ≡ exits.NoMemory) → IsSome held
@@ -66,9 +76,10 @@ pub exactly_missing : (held : Option Files) (words : List (List ℕ)) (result : 
 exactly_missing None words result once comes told = absurd cc
 exactly_missing (Some files) words result once (inl comes) told =
     inr (λ word. (
-      λ is. missing_comes files (form_of words) word (subst (Comes (Some files) words) is comes),
-      λ missing. once files words result (exits.ReadFault word) comes (inr
-          (inr (comes_missing files (form_of words) word missing))),
+      λ is. misses_of files words word
+          (refused_of (Some files) words (exits.ReadFault word) tt (subst (Comes (Some files) words) is comes)),
+      λ missing. once files words result (exits.ReadFault word) comes
+          (refusal_comes (Some files) words (exits.ReadFault word) (missing_refused files words word missing)),
     ))
 exactly_missing (Some files) words result once (inr memory) told = inl memory
 
@@ -80,10 +91,7 @@ none_missing None words text result once given told never = absurd cc
 none_missing (Some files) words text result once given told never =
     inr (λ word. (
       λ is. absurd (never (subst WritesNothing (sym is) tt)),
-      λ missing. absurd (not_done word (once files words exits.Done (exits.ReadFault word)
-          (inr (inl (refl, text, given)))
-          (inr (inr (comes_missing files (form_of words) word missing))))),
+      λ missing. absurd (subst WritesNothing (sym (once files words exits.Done (exits.ReadFault word)
+          (text_comes (Some files) words text given)
+          (refusal_comes (Some files) words (exits.ReadFault word) (missing_refused files words word missing)))) tt),
     ))
-  where
-    not_done : (word : ℕ) → exits.Done ≡ exits.ReadFault word → ⊥
-    not_done word same = cc

@@ -1,12 +1,14 @@
 -- What comes of files that are held is one.
-use Rattle.std.proofs.Common.{◌≡◌, ◌∙◌, ◌++◌, ℕ, List, [], ◌∷◌, Option, Some, None, length, refl, sym, subst, inl, inr}
+use Rattle.std.proofs.Common.{◌≡◌, ◌∙◌, ◌++◌, ℕ, List, [], ◌∷◌, Option, Some, None, Ok, Err, length, refl, sym, subst}
 use Rattle.std.specs.Option.{option_map, option_to_list}
 use Rattle.std.proofs.lemmas.Bool.{le-ltb}
 use Rattle.mrt_io.specs.Holding.{Files}
 use Rattle.mrt_exit.specs.declared.exit.Exit.{Exit}
 use Rattle.mrt_words.specs.FileBytes.{FileBytes}
 use Rattle.mrt_words.specs.FileBytes.{AreRead, IsLastRead, IsProfileRead}
-use Rattle.mrt_cmd.specs.Comes.{GivesFrom, RefusesFrom}
+use Rattle.mrt_exit.specs.Steps.{IsOne}
+use Rattle.mrt_exit.proofs.Stepping.{one_value_or_exit}
+use Rattle.mrt_cmd.specs.Comes.{reading}
 use Rattle.mrt_words.specs.Files.{NamedFile, Names, IsReadAs, files_in, profile_file, refusal_of}
 use Rattle.mrt_answer.proofs.OneReading.{held_once}
 
@@ -58,38 +60,12 @@ module _ (files : Files) where
       bytes.first read.first_read
       ∙ rest_through names.profile names.last bytes.profile bytes.last read.profile_read read.last_read
 
-  module _ (names : Names) where
-    pub one_refusal : (Says : FileBytes → Exit → Type 0)
-        → ((bytes : FileBytes) (exit other : Exit) → Says bytes exit → Says bytes other → exit ≡ other)
-        → (exit other : Exit) → RefusesFrom (Some files) names Says exit → RefusesFrom (Some files) names Says other
-        → exit ≡ other
-    one_refusal Says once exit other (inl one) (inl two) =
-        held_once exit other (refusal_of files (files_in names)) one two
-    one_refusal Says once exit other (inl one) (inr two) =
-        let none = all_read names two.0 two.1 in
-        absurd cc
-    one_refusal Says once exit other (inr one) (inl two) =
-        let none = all_read names one.0 one.1 in
-        absurd cc
-    one_refusal Says once exit other (inr one) (inr two) =
-        once two.0 exit other
-        (subst (λ (b : FileBytes). Says b exit) (files_once names one.0 two.0 one.1 two.1) one.2) two.2
-
-    pub no_refusal : (Gives : FileBytes → List ℕ → Type 0) (Says : FileBytes → Exit → Type 0)
-        → ((bytes : FileBytes) (text : List ℕ) (exit : Exit) → Gives bytes text → Says bytes exit → ⊥)
-        → (text : List ℕ) (exit : Exit) → GivesFrom (Some files) names Gives text
-        → RefusesFrom (Some files) names Says exit → ⊥
-    no_refusal Gives Says never text exit one (inl two) =
-        let none = all_read names one.0 one.1 in
-        absurd cc
-    no_refusal Gives Says never text exit one (inr two) =
-        never two.0 text exit
-        (subst (λ (b : FileBytes). Gives b text) (files_once names one.0 two.0 one.1 two.1) one.2) two.2
-
-    pub one_answer : (Gives : FileBytes → List ℕ → Type 0)
-        → ((bytes : FileBytes) (text other : List ℕ) → Gives bytes text → Gives bytes other → text ≡ other)
-        → (text other : List ℕ) → GivesFrom (Some files) names Gives text → GivesFrom (Some files) names Gives other
-        → text ≡ other
-    one_answer Gives once text other one two =
-        once two.0 text other
-        (subst (λ (b : FileBytes). Gives b text) (files_once names one.0 two.0 one.1 two.1) one.2) two.2
+  -- the bytes of these files, or what comes of reading them, is one
+  pub one_reading : (names : Names) → IsOne (reading (Some files) names)
+  one_reading names = one_value_or_exit (reading (Some files) names) (files_once names)
+      (λ e d one two. held_once e d (refusal_of files (files_in names)) one two) no
+    where
+      no : (bytes : FileBytes) (e : Exit) → reading (Some files) names (Ok bytes) → reading (Some files) names (Err e) → ⊥
+      no bytes e read refused =
+          let none = all_read names bytes read in
+          absurd cc

@@ -1,5 +1,5 @@
 -- An exit that speaks of the bytes of files comes where each file that the words name is held.
-use Rattle.std.proofs.Common.{◌+◌, ◌++◌, ℕ, List, [], ◌∷◌, Option, Some, None, ap, subst, inl, inr}
+use Rattle.std.proofs.Common.{◌+◌, ◌++◌, ℕ, List, [], ◌∷◌, Option, Some, None, Ok, Err, ◌≡◌, ap, subst, sym, inl, inr}
 use Rattle.std.specs.Prelude.{IfSome, IsSome, is_some}
 use Rattle.std.specs.List.{AllByRecursion}
 use Rattle.std.specs.Option.{IsSomeAnd, option_map, option_to_list}
@@ -8,9 +8,9 @@ use Rattle.mrt_exit.specs.declared.exit.Exit.{Exit}
 use Rattle.mrt_exit.specs.declared.exit.Exit.TheVariants as exits
 use Rattle.mrt_exit.specs.declared.exit.What.{What}
 use Rattle.mrt_words.specs.FileBytes.{FileBytes}
-use Rattle.mrt_cmd.specs.Causes.{HasNoText, IsOfBytes, ShelfInCall}
+use Rattle.mrt_cmd.specs.Causes.{IsOfBytes}
 use Rattle.mrt_words.specs.FileBytes.{AreRead, IsLastRead, IsProfileRead}
-use Rattle.mrt_cmd.specs.Comes.{Gives, GivesText, IsRefused, NamesHeld, Refuses}
+use Rattle.mrt_cmd.specs.Comes.{GivesText, IsRefused, NamesHeld, of_form, read_as_form}
 use Rattle.mrt_words.specs.Files.{NamedFile, Names, AreThere, SaysOneOf, files_in, files_of, flood_names, profile_file, task_file, task_names}
 use Rattle.mrt_words.specs.declared.form.FileForm.{FileForm}
 use Rattle.mrt_words.specs.declared.form.FloodForm.{FloodForm}
@@ -18,7 +18,7 @@ use Rattle.mrt_words.specs.declared.form.Form.{Form}
 use Rattle.mrt_words.specs.declared.form.Form.TheVariants.{OfFiles, Survey, Flood}
 use Rattle.mrt_words.specs.declared.task.Task.TheVariants.{Check, Fabric, Upgrade, OfRouter}
 use Rattle.mrt_words.specs.Form.{Task, form_of}
-use Rattle.mrt_cmd.proofs.WrittenPasses.{unread_says_one}
+use Rattle.mrt_cmd.proofs.FormSays.{unread_says_one}
 
 -- files that were read are held
 read_held : (files : Files) (names : Names) (bytes : FileBytes) → AreRead (Some files) names bytes
@@ -34,12 +34,11 @@ read_held files names bytes read =
     go (Some name) profile None last = (ap is_some profile.0, tt)
     go (Some name) profile (Some file) last = (ap is_some profile.0, (ap is_some last.0, tt))
 
-text_held : (files : Files) (form : Option Form) (text : List ℕ) → IsSomeAnd form (λ f. Gives (Some files) f text)
-    → IfSome form (λ f. AreThere (Some files) (files_of f))
-text_held files None text given = absurd given
-text_held files (Some (OfFiles form)) text given = read_held files (task_names form) given.0 given.1
-text_held files (Some (Survey number nodes)) text given = tt
-text_held files (Some (Flood form)) text given = read_held files (flood_names form) given.0 given.1
+-- so are those of a form that gives a text
+text_held : (files : Files) (form : Form) (text : List ℕ) → of_form (Some files) form (Ok text) → AreThere (Some files) (files_of form)
+text_held files (OfFiles form) text given = read_held files (task_names form) given.0 given.1
+text_held files (Survey number nodes) text given = tt
+text_held files (Flood form) text given = read_held files (flood_names form) given.0 given.1
 
 -- that such a thing is too large does not speak of bytes
 abbrev IsOfFile : What → Type 0
@@ -76,38 +75,38 @@ not_of_bytes (file ∷ rest) exit all of (inl said) = subst IsOfBytes said of
 not_of_bytes (file ∷ rest) exit all of (inr (inl said)) = all.0 (file.limit + 1) (subst IsOfBytes said of)
 not_of_bytes (file ∷ rest) exit all of (inr (inr said)) = not_of_bytes rest exit all.1 of said
 
-refused_form : (files : Files) (form : Option Form) (exit : Exit) → IsOfBytes exit
-    → IsSomeAnd form (λ f. Refuses (Some files) f exit) → IfSome form (λ f. AreThere (Some files) (files_of f))
-refused_form files None exit of refused = absurd refused
-refused_form files (Some (OfFiles form)) exit of (inl unread) =
+refused_form : (files : Files) (form : Form) (exit : Exit) → IsOfBytes exit → of_form (Some files) form (Err exit)
+    → AreThere (Some files) (files_of form)
+refused_form files (OfFiles form) exit of (inl unread) =
     absurd (not_of_bytes (files_in (task_names form)) exit (of_files form) of
     (unread_says_one files (files_in (task_names form)) exit unread))
-refused_form files (Some (OfFiles form)) exit of (inr said) = read_held files (task_names form) said.0 said.1
-refused_form files (Some (Survey number nodes)) exit of refused = absurd refused
-refused_form files (Some (Flood form)) exit of (inl unread) =
+refused_form files (OfFiles form) exit of (inr said) = read_held files (task_names form) said.0 said.1
+refused_form files (Survey number nodes) exit of refused = absurd refused
+refused_form files (Flood form) exit of (inl unread) =
     absurd (not_of_bytes (files_in (flood_names form)) exit (of_packets form) of
     (unread_says_one files (files_in (flood_names form)) exit unread))
-refused_form files (Some (Flood form)) exit of (inr said) = read_held files (flood_names form) said.0 said.1
+refused_form files (Flood form) exit of (inr said) = read_held files (flood_names form) said.0 said.1
 
-refused_held : (held : Option Files) (words : List (List ℕ)) (exit : Exit) → IsRefused held words exit
-    → IsSome held → IsOfBytes exit → NamesHeld held words
-refused_held None words exit refused told of = absurd cc
-refused_held (Some files) words exit refused told of = refused_form files (form_of words) exit of refused
+-- so those that the words name
+names_held : (held : Option Files) (words : List (List ℕ)) (form : Form) → form_of words ≡ Some form → AreThere held (files_of form)
+    → NamesHeld held words
+names_held held words form is there = subst (λ (it : Option Form). IfSome it (λ f. AreThere held (files_of f))) (sym is) there
 
 -- of words that give a text
 pub given_held : (held : Option Files) (words : List (List ℕ)) (text : List ℕ) → GivesText held words text
     → IsSome held → NamesHeld held words
 given_held None words text given told = absurd cc
-given_held (Some files) words text given told = text_held files (form_of words) text given
+given_held (Some files) words text (form, is, given) told =
+    names_held (Some files) words form is (text_held files form text given)
 
--- of words that give none
-pub stopped_held : (words : List (List ℕ)) (shelf : ShelfInCall) (exit : Exit) → HasNoText words shelf exit
-    → IsSome shelf.held → IsOfBytes exit → NamesHeld shelf.held words
-stopped_held words shelf exits.Usage said told of = absurd of
-stopped_held words shelf (exits.ReadFault word) said told of = absurd of
-stopped_held words shelf exits.NoMemory said told of = absurd of
-stopped_held words shelf exits.Done said told of = absurd said
-stopped_held words shelf (exits.WriteFault taken) said told of = absurd said
-stopped_held words shelf (exits.No rule a b) said told of =
-    refused_held shelf.held words (exits.No rule a b) said.0 told of
-stopped_held words shelf exit said told of = refused_held shelf.held words exit said told of
+-- of words that are refused
+pub refused_held : (held : Option Files) (words : List (List ℕ)) (exit : Exit) → IsRefused held words exit
+    → IsSome held → IsOfBytes exit → NamesHeld held words
+refused_held None words exit refused told of = absurd cc
+refused_held (Some files) words exit (inl usage) told of = absurd (not_usage exit usage of)
+  where
+    not_usage : (exit : Exit) → read_as_form words (Err exit) → IsOfBytes exit → ⊥
+    not_usage exits.Usage usage of = of
+    not_usage exit usage of = usage
+refused_held (Some files) words exit (inr (form, is, refused)) told of =
+    names_held (Some files) words form is (refused_form files form exit of refused)

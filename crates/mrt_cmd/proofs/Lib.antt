@@ -1,9 +1,9 @@
 pub mod Causes
 pub mod Exactly
 pub mod FormAnswers
+pub mod FormSays
 pub mod FromFiles
 pub mod Held
-pub mod NeverSaid
 pub mod OfWords
 pub mod OneExit
 pub mod SurveyExits

@@ -1,6 +1,6 @@
 -- Routers that have to tell the same are told so.
-use Rattle.std.proofs.Common.{ℕ, List, Option, Some, subst}
-use Rattle.std.specs.Option.{IsSomeAnd}
+use Rattle.std.proofs.Common.{◌∙◌, ℕ, List, Some, Ok, sym, subst}
+use Rattle.std.proofs.lemmas.Option.{same_Some}
 use Rattle.flood_verdict.specs.Alike.{ComparesAlike, IsToldAlike}
 use Rattle.flood_verdict.specs.Says.{Says}
 use Rattle.mrt_io.specs.Holding.{Files}
@@ -8,25 +8,27 @@ use Rattle.mrt_words.specs.FileBytes.{FileBytes}
 use Rattle.mrt_words.specs.Files.{flood_names}
 use Rattle.mrt_words.specs.declared.form.Form.{Form}
 use Rattle.mrt_words.specs.declared.form.Form.TheVariants.{Flood}
-use Rattle.mrt_answer.specs.Flooded.{GivesFlood, HoldsFlood}
-use Rattle.mrt_cmd.specs.Comes.{Gives, GivesText}
+use Rattle.mrt_answer.specs.Flooded.{HoldsFlood}
+use Rattle.mrt_answer.specs.Forms.{flooded}
+use Rattle.mrt_cmd.specs.Comes.{GivesText, of_form}
 use Rattle.mrt_cmd.specs.Headline.{FloodsAlike}
 use Rattle.mrt_cmd.proofs.FromFiles.{files_once}
 
 -- the law of the layer below on the text of such bytes
 abbrev pub AlikeLaw : Type 0
-AlikeLaw = (bytes : FileBytes) (text : List ℕ) → GivesFlood bytes text → (held : HoldsFlood bytes)
+AlikeLaw = (bytes : FileBytes) (text : List ℕ) → flooded bytes (Ok text) → (held : HoldsFlood bytes)
     (compares : ComparesAlike held.updates held.script)
     → IsToldAlike (Says held.settings) held.updates held.script compares text
 
 module _ (law : AlikeLaw) (files : Files) (words : List (List ℕ)) (text : List ℕ)
     (given : GivesText (Some files) words text) (alike : FloodsAlike files words) where
-  given_form : Gives (Some files) (Flood alike.form) text
-  given_form = subst (λ (form : Option Form). IsSomeAnd form (λ it. Gives (Some files) it text)) alike.words_are given
+  given_form : of_form (Some files) (Flood alike.form) (Ok text)
+  given_form = subst (λ (form : Form). of_form (Some files) form (Ok text))
+      (same_Some given.0 (Flood alike.form) (sym given.1 ∙ alike.words_are)) given.2
 
   pub told_alike : IsToldAlike (Says alike.held.settings) alike.held.updates alike.held.script alike.compares text
   told_alike =
       law alike.bytes text
-      (subst (λ (bytes : FileBytes). GivesFlood bytes text)
+      (subst (λ (bytes : FileBytes). flooded bytes (Ok text))
       (files_once files (flood_names alike.form) given_form.0 alike.bytes given_form.1 alike.read) given_form.2)
       alike.held alike.compares

@@ -1,52 +1,55 @@
 -- What comes of the words over the files that they name, where memory suffices and no device fails.
-use Rattle.std.specs.Prelude.{◌≡◌, ◌⊎◌, ℕ, List, Option, IfSome, IsNone}
+use Rattle.std.specs.Prelude.{◌≡◌, ℕ, List, Option, Result, Ok, Err, Some, IfSome, IsNone}
 use Rattle.std.specs.Option.{IsSomeAnd}
 use Rattle.mrt_io.specs.Holding.{Files}
+use Rattle.mrt_exit.specs.Steps.{Step, such, ◌▸◌}
 use Rattle.mrt_exit.specs.declared.exit.Exit.{Exit}
 use Rattle.mrt_exit.specs.declared.exit.Exit.TheVariants.{Done, Usage}
 use Rattle.mrt_words.specs.FileBytes.{FileBytes, AreRead}
-use Rattle.mrt_answer.specs.Answers.{GivesOver, IsRefusedOver}
 use Rattle.mrt_words.specs.Files.{Names, files_in, files_of, flood_names, task_names, IsFirstMissing, IsRefusedBy, MayFail, AreThere}
-use Rattle.mrt_answer.specs.Flooded.{GivesFlood, IsRefusedFlood}
 use Rattle.mrt_words.specs.declared.form.Form.{Form}
 use Rattle.mrt_words.specs.declared.form.Form.TheVariants.{OfFiles, Survey, Flood}
 use Rattle.mrt_words.specs.Form.{form_of}
+use Rattle.mrt_answer.specs.Forms.{flooded, over}
 use Rattle.mrt_answer.specs.Surveyed.{IsSurveyed}
 
--- the text that is said of the bytes of such files
-abbrev pub GivesFrom : Option Files → Names → (FileBytes → List ℕ → Type 0) → List ℕ → Type 0
-GivesFrom held names Says text = (bytes : FileBytes) × AreRead held names bytes × Says bytes text
+-- the form that the words are, or the usage
+abbrev pub read_as_form : List (List ℕ) → Step Form
+read_as_form words (Ok form) = form_of words ≡ Some form
+read_as_form words (Err Usage) = IsNone (form_of words)
+read_as_form words (Err _) = ⊥
 
--- what comes of such files where there is no text: one is not read; else what is said of the bytes
-abbrev pub RefusesFrom : Option Files → Names → (FileBytes → Exit → Type 0) → Exit → Type 0
-RefusesFrom held names Says exit =
-    IsRefusedBy held (files_in names) exit ⊎ ((bytes : FileBytes) × AreRead held names bytes × Says bytes exit)
+-- the bytes of the files of these names, or what comes of reading them, where not all of them are read
+abbrev pub reading : Option Files → Names → Step FileBytes
+reading held names (Ok bytes) = AreRead held names bytes
+reading held names (Err exit) = IsRefusedBy held (files_in names) exit
 
--- the text that a form gives
-abbrev pub Gives : Option Files → Form → List ℕ → Type 0
-Gives held (OfFiles form) text = GivesFrom held (task_names form) (GivesOver form.task) text
-Gives held (Survey number nodes) text = IsSurveyed number nodes text
-Gives held (Flood form) text = GivesFrom held (flood_names form) GivesFlood text
+-- a form: its files, and then what comes of their bytes. A survey reads none, and is never refused
+abbrev pub of_form : Option Files → Form → Step (List ℕ)
+of_form held (OfFiles form) = reading held (task_names form) ▸ over form.task
+of_form held (Survey number nodes) = such (IsSurveyed number nodes)
+of_form held (Flood form) = reading held (flood_names form) ▸ flooded
 
--- what comes of a form that gives no text. A survey is never refused
-abbrev pub Refuses : Option Files → Form → Exit → Type 0
-Refuses held (OfFiles form) exit = RefusesFrom held (task_names form) (IsRefusedOver form.task) exit
-Refuses held (Survey number nodes) exit = ⊥
-Refuses held (Flood form) exit = RefusesFrom held (flood_names form) IsRefusedFlood exit
+-- the words: the form that they are, and then what comes of it
+abbrev pub of_words : Option Files → List (List ℕ) → Step (List ℕ)
+of_words held words = read_as_form words ▸ of_form held
 
 -- the words give this text
 abbrev pub GivesText : Option Files → List (List ℕ) → List ℕ → Type 0
-GivesText held words text = IsSomeAnd (form_of words) (λ form. Gives held form text)
+GivesText held words text = of_words held words (Ok text)
 
--- the words are a form that is refused with this exit
+-- the words are refused with this exit
 abbrev pub IsRefused : Option Files → List (List ℕ) → Exit → Type 0
-IsRefused held words exit = IsSomeAnd (form_of words) (λ form. Refuses held form exit)
+IsRefused held words exit = of_words held words (Err exit)
 
--- what comes of the words: the usage, where they are no form; a text; or a refusal
+-- the exit that tells what came: done, where it is a text
+abbrev pub exit_of : Result (List ℕ) Exit → Exit
+exit_of (Ok text) = Done
+exit_of (Err exit) = exit
+
+-- this exit tells what comes of the words
 abbrev pub Comes : Option Files → List (List ℕ) → Exit → Type 0
-Comes held words exit =
-    ((exit ≡ Usage) × IsNone (form_of words))
-    ⊎ ((exit ≡ Done) × (text : List ℕ) × GivesText held words text) ⊎ IsRefused held words exit
+Comes held words exit = (answer : Result (List ℕ) Exit) × of_words held words answer × (exit ≡ exit_of answer)
 
 -- the words may fail at this one: it names a file, and those before it could be read
 abbrev pub FailsAt : Option Files → List (List ℕ) → ℕ → Type 0

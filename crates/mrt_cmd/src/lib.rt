@@ -5,7 +5,7 @@ mod program;
 mod run_law;
 
 pub use mrt_answer::{
-    made_networks_are_taken, tables_are_of_one_certificate, what_steps_read_fits_together,
+    an_island_has_one_certificate, made_networks_are_taken, what_steps_read_fits_together,
 };
 pub use mrt_exit::{DbKind, Exit, Line, What};
 pub use mrt_words::words_spell_one_form;

@@ -1,6 +1,6 @@
 //! The top call.
 
-ghost use Rattle.std.specs.Prelude.{◌≡◌, ◌≤◌, ◌⊎◌, ◌↔◌, ℕ, List, IfErr, IfOk, IsNone, IsSome, Some, length};
+ghost use Rattle.std.specs.Prelude.{◌≡◌, ◌≤◌, ◌⊎◌, ◌↔◌, ℕ, List, Err, IfErr, IfOk, IsNone, IsSome, Ok, Some, length};
 ghost use Rattle.std.specs.Option.{IsSomeAnd};
 ghost use Rattle.mrt_io.specs.{Counts.Rose, Holding.Files, Writing.Gained};
 ghost use Rattle.cert_format.specs.declared.error.CertKind.{CertKind};
@@ -9,7 +9,7 @@ ghost use Rattle.flood_verdict.specs.{Alike.IsToldAlike, Says.Says};
 ghost use Rattle.mrt_island.specs.declared.profile_error.ProfileKind.{ProfileKind};
 ghost use Rattle.mrt_exit.specs.{declared.exit.DbKind.DbKind, declared.exit.What.What, Exits.line_of, Telling.GainedLine, Telling.IsCutShort};
 ghost use Rattle.mrt_cmd.specs.Causes.{HasNoText, IsAnswered, shelf_over, sink_over};
-ghost use Rattle.mrt_cmd.specs.Comes.{Comes, FailsAt, Gives, GivesText, IsRefused, MissesAt, NamesHeld, Refuses};
+ghost use Rattle.mrt_cmd.specs.Comes.{Comes, FailsAt, GivesText, IsRefused, MissesAt, NamesHeld, of_form};
 ghost use Rattle.mrt_words.specs.Files.{files_in, files_of, flood_names, task_names};
 ghost use Rattle.mrt_words.specs.{declared.form.Form.TheVariants.Flood, declared.form.Form.TheVariants.OfFiles, Reading.ReadsAs};
 ghost use Rattle.mrt_words.specs.Form.{AsksVerdict, IsSurvey, IsWithin, form_of};
@@ -17,9 +17,7 @@ ghost use Rattle.mrt_cmd.specs.Headline.{ChecksWritten, FloodsAlike, IsPassed};
 ghost use Rattle.mrt_answer.specs.TextBytes.{HasText, IsTextOf};
 ghost use Rattle.mrt_cmd.specs.Run.{IsExitOfSurvey, IsHealthyForText, IsUndisturbed, WritesNothing};
 
-use crate::run_law::{
-    alike_routers_are_told_alike, one_exit_comes, only_a_verdict_says_no, what_was_written_passes,
-};
+use crate::run_law::{alike_routers_are_told_alike, one_exit_comes, what_was_written_passes};
 use mrt_answer::{Text, answer_of_files, answer_of_flood, answer_of_survey};
 use mrt_exit::{Exit, tell};
 use mrt_io::{Shelf, Sink, Word};
@@ -159,7 +157,6 @@ fn text_for<F: Shelf>(alloc: Global, words: &[Word], shelf: &mut F) -> Result<Te
     ensures survey { IsSomeAnd (form_of words.now) IsSurvey → IfErr result (λ exit. exit ≡ Exit.NoMemory) }
     ensures survey_reads_nothing { IsSomeAnd (form_of words.now) IsSurvey → shelf.new ≡ shelf.old }
 {
-    only_a_verdict_says_no();
     match read_form(words) {
         None => Err(Exit::Usage),
         Some(form) => text_of(alloc, &form, shelf),
@@ -170,7 +167,7 @@ fn text_for<F: Shelf>(alloc: Global, words: &[Word], shelf: &mut F) -> Result<Te
 fn text_of<F: Shelf>(alloc: Global, form: &Form<'_>, shelf: &mut F) -> Result<Text, Exit>
     requires { IsWithin form.now }
     ensures reads { ReadsAs F.held F.faults F.healthy shelf.old shelf.new (files_of form.now)
-        (λ held exit. Refuses held form.now exit) (λ held text. HasText (Gives held form.now) text) result }
+        (λ held exit. of_form held form.now (Err exit)) (λ held text. HasText (λ bytes. of_form held form.now (Ok bytes)) text) result }
     ensures survey { IsSurvey form.now → IfErr result (λ exit. exit ≡ Exit.NoMemory) }
     ensures survey_reads_nothing { IsSurvey form.now → shelf.new ≡ shelf.old }
 {
@@ -185,7 +182,8 @@ fn text_of<F: Shelf>(alloc: Global, form: &Form<'_>, shelf: &mut F) -> Result<Te
 fn text_of_files<F: Shelf>(alloc: Global, form: &FileForm<'_>, shelf: &mut F) -> Result<Text, Exit>
     requires { IsWithin (OfFiles form.now) }
     ensures { ReadsAs F.held F.faults F.healthy shelf.old shelf.new (files_in (task_names form.now))
-        (λ held exit. Refuses held (OfFiles form.now) exit) (λ held text. HasText (Gives held (OfFiles form.now)) text) result }
+        (λ held exit. of_form held (OfFiles form.now) (Err exit))
+        (λ held text. HasText (λ bytes. of_form held (OfFiles form.now) (Ok bytes)) text) result }
 {
     let files = read_files(alloc, shelf, form)?;
     answer_of_files(alloc, files)
@@ -194,7 +192,8 @@ fn text_of_files<F: Shelf>(alloc: Global, form: &FileForm<'_>, shelf: &mut F) ->
 /// The text that a form over packets gives.
 fn text_of_flood<F: Shelf>(alloc: Global, form: &FloodForm<'_>, shelf: &mut F) -> Result<Text, Exit>
     ensures { ReadsAs F.held F.faults F.healthy shelf.old shelf.new (files_in (flood_names form.now))
-        (λ held exit. Refuses held (Flood form.now) exit) (λ held text. HasText (Gives held (Flood form.now)) text) result }
+        (λ held exit. of_form held (Flood form.now) (Err exit))
+        (λ held text. HasText (λ bytes. of_form held (Flood form.now) (Ok bytes)) text) result }
 {
     let files = read_flood_files(alloc, shelf, form)?;
     answer_of_flood(alloc, &files)

@@ -3,20 +3,20 @@
 ghost use Rattle.std.specs.Prelude.{◌≡◌, ℕ, List, Option, Some};
 ghost use Rattle.std.specs.Option.{IsSomeAnd};
 ghost use Rattle.mrt_io.specs.Holding.{Files};
-ghost use Rattle.mrt_exit.specs.declared.exit.Exit.{Exit};
-ghost use Rattle.mrt_cmd.specs.Comes.{Comes, GivesText, IsRefused};
+ghost use Rattle.mrt_exit.specs.{Steps.IsOne, declared.exit.Exit.Exit};
+ghost use Rattle.mrt_cmd.specs.Comes.{Comes, GivesText, IsRefused, of_words};
 ghost use Rattle.mrt_words.specs.Form.{AsksVerdict, form_of};
 ghost use Rattle.flood_verdict.specs.{Alike.IsToldAlike, Says.Says};
 ghost use Rattle.mrt_cmd.specs.Headline.{ChecksWritten, FloodsAlike};
 
 use mrt_answer::{alike_deliveries_are_told_alike, one_answer_comes, what_is_certified_passes};
 
-/// Laws: over a shelf that tells what it holds, one exit comes of the words at most, and one text.
+/// Laws: over a shelf that tells what it holds, at most one answer comes of the words, a text or an exit and never both, and so one
+/// exit.
 pub fn one_exit_comes()
+    ensures answer { (files : Files) (words : List (List ℕ)) → IsOne (of_words (Some files) words) }
     ensures exit { (files : Files) (words : List (List ℕ)) (exit other : Exit)
         → Comes (Some files) words exit → Comes (Some files) words other → exit ≡ other }
-    ensures text { (files : Files) (words : List (List ℕ)) (text other : List ℕ)
-        → GivesText (Some files) words text → GivesText (Some files) words other → text ≡ other }
 {
     one_answer_comes();
 }

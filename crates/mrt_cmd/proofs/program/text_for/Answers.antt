@@ -1,4 +1,7 @@
-use Rattle.std.proofs.Common.{◌≡◌, inl, inr}
+use Rattle.std.proofs.Common.{◌≡◌, Err, Option, inl, inr, refl, subst}
+use Rattle.std.specs.Prelude.{IsNone}
+use Rattle.mrt_words.specs.declared.form.Form.{Form}
+use Rattle.mrt_exit.specs.declared.exit.Exit.TheVariants.{Usage}
 use Rattle.mrt_cmd.specs.Causes.{shelf_over}
 use Rattle.mrt_cmd.proofs.Causes.{refused_over_words}
 use Rattle.mrt_cmd.proofs.OfWords.{comes_of_words, survey_of_words, text_of_words, there_of_words}
@@ -7,8 +10,9 @@ use Rattle.mrt_cmd.proofs.program.text_for.Goals as goal
 -- A refusal of the form says why the words give no text.
 pub returns-in-Some-clause-cause : goal.returns-in-Some-clause-cause
 returns-in-Some-clause-cause g c =
-    refused_over_words c.text_of.result c.only_a_verdict_says_no.ensures c.args.words.now
-    (shelf_over g.F.Shelf.held g.F.Shelf.healthy g.F.Shelf.faults c.args.shelf.now c.text_of.new.shelf) c.in-Some.form c.in-Some.ensures.form c.text_of.ensures.reads.refused
+    refused_over_words c.args.words.now
+    (shelf_over g.F.Shelf.held g.F.Shelf.healthy g.F.Shelf.faults c.args.shelf.now c.text_of.new.shelf) c.in-Some.form c.in-Some.ensures.form
+    c.text_of.result c.text_of.ensures.reads.refused
 
 pub returns-in-Some-clause-text : goal.returns-in-Some-clause-text
 returns-in-Some-clause-text g c =
@@ -47,3 +51,8 @@ returns-in-Some-clause-count g c = c.text_of.ensures.reads.count
 
 pub returns-in-Some-clause-unchanged : goal.returns-in-Some-clause-unchanged
 returns-in-Some-clause-unchanged g c = c.text_of.ensures.reads.unchanged
+
+-- Words of no form come to the usage.
+pub returns-in-None-clause-comes : goal.returns-in-None-clause-comes
+returns-in-None-clause-comes g c = λ spared.
+    inl (Err Usage, inl (subst (λ (o : Option Form). IsNone o) c.in-None.ensures.form refl), refl)

@@ -1,17 +1,17 @@
-use Rattle.std.proofs.Common.{sym, subst}
+use Rattle.std.proofs.Common.{Ok, Err, sym, subst}
 use Rattle.mrt_answer.specs.TextBytes.{HasText}
 use Rattle.mrt_words.specs.declared.form.Form.{Form}
 use Rattle.mrt_words.specs.Files.{files_of}
 use Rattle.mrt_words.specs.Form.{IsSurvey}
 use Rattle.mrt_words.specs.Reading.{ReadsAs}
-use Rattle.mrt_cmd.specs.Comes.{Gives, Refuses}
+use Rattle.mrt_cmd.specs.Comes.{of_form}
 use Rattle.mrt_cmd.proofs.FormAnswers.{surveys}
 use Rattle.mrt_cmd.proofs.program.text_of.Goals as goal
 
 pub returns-in-OfFiles-clause-reads : goal.returns-in-OfFiles-clause-reads
 returns-in-OfFiles-clause-reads g c =
     subst (λ (f : Form). ReadsAs g.F.Shelf.held g.F.Shelf.faults g.F.Shelf.healthy c.args.shelf.now c.text_of_files.new.shelf (files_of f)
-    (λ told exit. Refuses told f exit) (λ told text. HasText (Gives told f) text) c.text_of_files.result)
+    (λ told exit. of_form told f (Err exit)) (λ told text. HasText (λ bytes. of_form told f (Ok bytes)) text) c.text_of_files.result)
     (sym c.in-OfFiles.is) c.text_of_files.ensures
 
 pub returns-in-OfFiles-clause-survey : goal.returns-in-OfFiles-clause-survey
@@ -23,7 +23,7 @@ returns-in-OfFiles-clause-survey_reads_nothing g c = λ survey. absurd (subst Is
 pub returns-in-Flood-clause-reads : goal.returns-in-Flood-clause-reads
 returns-in-Flood-clause-reads g c =
     subst (λ (f : Form). ReadsAs g.F.Shelf.held g.F.Shelf.faults g.F.Shelf.healthy c.args.shelf.now c.text_of_flood.new.shelf (files_of f)
-    (λ told exit. Refuses told f exit) (λ told text. HasText (Gives told f) text) c.text_of_flood.result)
+    (λ told exit. of_form told f (Err exit)) (λ told text. HasText (λ bytes. of_form told f (Ok bytes)) text) c.text_of_flood.result)
     (sym c.in-Flood.is) c.text_of_flood.ensures
 
 pub returns-in-Flood-clause-survey : goal.returns-in-Flood-clause-survey
