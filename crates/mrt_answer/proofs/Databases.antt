@@ -1,11 +1,7 @@
 -- What a database that was settled, or was not, tells of the LSAs that entered it.
-use Rattle.std.proofs.Common.{◌≡◌, ℕ, List, Option, Some, None, Result, Ok, Err, map, refl, ap}
+use Rattle.std.proofs.Common.{◌≡◌, Option, Some, None, Result, Err}
 use Rattle.lsdb.specs.Conflicts.{settled_by}
-use Rattle.lsdb.specs.Entries.{Entry, entries_in}
-use Rattle.lsdb.specs.Newest.{IsSettled}
 use Rattle.lsdb.specs.declared.change.Conflict.{Conflict}
-use Rattle.ospf_lsa.specs.declared.lsa.Lsa.{Lsa}
-use Rattle.lsdb.specs.Database.{HoldsLsas, IsDatabase, entering}
 
 pub one_there : (conflict : Option Conflict) (answer : Result (Unit {0}) Conflict) (which : Conflict)
     → answer ≡ settled_by conflict → answer ≡ Err which → conflict ≡ Some which

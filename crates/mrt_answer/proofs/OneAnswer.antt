@@ -1,6 +1,5 @@
 -- At most one thing comes of each form: a text, or an exit.
-use Rattle.std.proofs.Common.{◌≡◌, ◌∙◌, ◌⊎◌, ◌<◌, ◌+◌, ◌==◌, ℕ, Bool, true, false, List, [], ◌∷◌, Option, Ok, Err, length, refl, sym, ap, subst, inl, inr}
-use Rattle.std.specs.Prelude.{Contains, Some, slice_get}
+use Rattle.std.proofs.Common.{◌≡◌, ◌∙◌, ◌⊎◌, ◌<◌, ◌+◌, ◌==◌, ℕ, Bool, true, false, List, [], ◌∷◌, Ok, Err, length, refl, sym, ap, subst, inl, inr}
 use Rattle.std.specs.List.{AllByRecursion}
 use Rattle.std.specs.List.Sorted.{IsStrictlySortedBy}
 use Rattle.std.proofs.lemmas.Bool.{eqb-true, or_cases}
@@ -64,7 +63,7 @@ use Rattle.mrt_answer.specs.Reading.{certificate_of, deliveries_of, input_of, pr
 use Rattle.mrt_answer.specs.Certified.{IsComputedFile}
 use Rattle.mrt_answer.specs.Surveyed.{IsSummedUp, IsSurveyed, made_input, summed_up_in}
 use Rattle.mrt_answer.specs.Tabled.{IsTableOf}
-use Rattle.mrt_answer.specs.Upgraded.{IsUpgrade, upgraded}
+use Rattle.mrt_answer.specs.Upgraded.{IsUpgrade}
 use Rattle.mrt_answer.specs.Verdict.{accepted_line, judged}
 use Rattle.mrt_answer.proofs.Islands.{contained, inside_is_there, island_ascends, no_large_area, one_large_area, root_within}
 use Rattle.mrt_answer.proofs.OneProxy.{ProxyLaws, accepted_for, one_proxied_of}

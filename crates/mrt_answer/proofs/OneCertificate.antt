@@ -1,5 +1,5 @@
 -- The routers of an island have one certificate.
-use Rattle.std.proofs.Common.{◌≡◌, ◌∙◌, ℕ, Ok, sym, subst}
+use Rattle.std.proofs.Common.{◌∙◌, ℕ, Ok, sym, subst}
 use Rattle.std.specs.Prelude.{Contains}
 use Rattle.area_graph.specs.AreaInvariant.{IsArea}
 use Rattle.area_graph.specs.Parts.{AreaParts}

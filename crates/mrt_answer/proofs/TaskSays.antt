@@ -1,6 +1,6 @@
 -- Which exits come of the bytes of files: no only of a task that asks for a verdict, and never done, the usage, a fault of a device or
 -- want of memory.
-use Rattle.std.proofs.Common.{ℕ, List, Err, inl, inr}
+use Rattle.std.proofs.Common.{ℕ, List, inl, inr}
 use Rattle.ospf_lsa.specs.declared.lsa.Lsa.{Lsa}
 use Rattle.mrt_graph.specs.Topology.{Topology}
 use Rattle.mrt_graph.specs.declared.cert.CertFile.{CertFile}

@@ -1,5 +1,5 @@
 -- Packets, a profile and a script of deliveries, as the bytes of three files hold them.
-use Rattle.std.specs.Prelude.{ℕ, List, []}
+use Rattle.std.specs.Prelude.{List, []}
 use Rattle.flood_core.specs.declared.update.Update.{Update}
 use Rattle.flood_core.specs.Updates.{AreUpdates}
 use Rattle.flood_script.specs.declared.script.FloodScript.{FloodScript}

@@ -1,5 +1,5 @@
 -- What a form is given.
-use Rattle.std.specs.Prelude.{◌≡◌, ◌⊎◌, ℕ, false, List, Option, Contains, length, map}
+use Rattle.std.specs.Prelude.{◌≡◌, ◌⊎◌, ℕ, false, List, Contains, map}
 use Rattle.area_graph.specs.AreaOf.{area_of}
 use Rattle.mrt_graph.specs.NodeIds.{router}
 use Rattle.area_graph.specs.Parts.{AreaParts}

@@ -1,5 +1,5 @@
 -- The area of an input, the island of a router in it, and routers of these; or why there is none.
-use Rattle.std.specs.Prelude.{◌≡◌, ◌⊎◌, ◌<◌, ◌≤◌, ◌-◌, ◌^◌, ℕ, false, List, Ok, Err, Some, Contains, length, min, slice_get}
+use Rattle.std.specs.Prelude.{◌≡◌, ◌<◌, ◌≤◌, ◌-◌, ◌^◌, ℕ, List, Ok, Err, Some, Contains, length, min, slice_get}
 use Rattle.area_graph.specs.AreaOf.{area_of as area_of_newest}
 use Rattle.area_graph.specs.AreaSize.{IsTooLarge}
 use Rattle.area_graph.specs.Parts.{AreaParts}

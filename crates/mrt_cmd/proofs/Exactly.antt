@@ -10,7 +10,7 @@ use Rattle.mrt_cmd.specs.Comes.{Comes, GivesText, IsRefused, MissesAt, of_form}
 use Rattle.mrt_words.specs.Files.{IsFirstMissing, files_of}
 use Rattle.mrt_words.specs.declared.form.Form.{Form}
 use Rattle.mrt_words.specs.declared.form.Form.TheVariants.{OfFiles, Survey, Flood}
-use Rattle.mrt_words.specs.Form.{AsksVerdictTask, form_of}
+use Rattle.mrt_words.specs.Form.{form_of}
 use Rattle.mrt_cmd.specs.Run.{WritesNothing}
 use Rattle.mrt_cmd.proofs.FormSays.{of_some}
 

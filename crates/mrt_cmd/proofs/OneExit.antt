@@ -1,5 +1,5 @@
 -- Over a shelf that tells what it holds, at most one thing comes of the words, and so one exit.
-use Rattle.std.proofs.Common.{◌≡◌, ◌∙◌, ◌⊎◌, ℕ, List, Option, Some, Ok, Err, refl, sym, ap}
+use Rattle.std.proofs.Common.{◌≡◌, ◌∙◌, ℕ, List, Some, Ok, Err, refl, sym, ap}
 use Rattle.mrt_io.specs.Holding.{Files}
 use Rattle.mrt_exit.specs.Steps.{IsOne}
 use Rattle.mrt_exit.specs.declared.exit.Exit.{Exit}

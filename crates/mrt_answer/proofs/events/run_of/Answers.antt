@@ -1,4 +1,4 @@
-use Rattle.std.proofs.Common.{ℕ, List, subst}
+use Rattle.std.proofs.Common.{subst}
 use Rattle.std.specs.Prelude.{IfOk}
 use Rattle.area_graph.specs.Parts.{AreaParts}
 use Rattle.mrt_exit.specs.Steps.{such}

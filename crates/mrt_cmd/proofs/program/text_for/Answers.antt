@@ -1,4 +1,4 @@
-use Rattle.std.proofs.Common.{◌≡◌, Err, Option, inl, inr, refl, subst}
+use Rattle.std.proofs.Common.{Err, Option, inl, inr, refl, subst}
 use Rattle.std.specs.Prelude.{IsNone}
 use Rattle.mrt_words.specs.declared.form.Form.{Form}
 use Rattle.mrt_exit.specs.declared.exit.Exit.TheVariants.{Usage}
