@@ -16,7 +16,7 @@ USE = re.compile(r"^use Rattle\.(\w+)\.specs(?:\.([\w.]+?))?(?:\.\{([^}]*)\}| as
 MEMBER = re.compile(r"^  (?:pub )?([^\s:]+) :")
 TYPE = re.compile(r"^(?:pub(?:\(crate\))? )?(?:struct|enum) (\w+)")
 Used = Dict[str, Tuple[str, str, str]]
-WORD = re.compile(r"(?:([A-Za-z_][\w']*)\.)?([A-Za-z_][\w']*)")
+WORD = re.compile(r"(?:([A-Za-z_][\w']*)\.)?([A-Za-z_][\w']*)|(?<= )([^\w\s◌]+)(?= )")
 
 
 class Name(NamedTuple):
@@ -94,7 +94,7 @@ def read_specs(text: str) -> Module:
             name = head[1]
             module.lines[name], module.first[name], module.owner[name] = [line], number, name
             module.about[name], module.whole[name] = comment_over(lines, number, "--"), [line]
-        elif name and line.strip() and not line.startswith(("--", "use ")):
+        elif name and line.strip() and not line.startswith(("--", "use ", "infix")):
             module.whole[name].append(line)
             if not line.lstrip().startswith("--"):
                 module.lines[name].append(line)
@@ -158,8 +158,9 @@ class Library:
         return Name(crate, module, owner) if owner is not None else None
 
     def given(self, used: Used, text: str) -> Iterator[tuple[str, Name | None]]:
-        """The words of a text, each with what it names by a `use`, also as a member of a module that is named."""
-        for before, word in WORD.findall(text):
+        """The words and signs of a text, each with what it names by a `use`, also as a member of a module that is named."""
+        for before, word, sign in WORD.findall(text):
+            word = word or f"◌{sign}◌"
             crate, place, there = used.get(before, ("", "", "none"))
             if not there:
                 yield "", self.sure(crate, place, word)

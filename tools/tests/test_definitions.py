@@ -25,14 +25,20 @@ pub record Pair (n : ℕ) : Type 0 where
   -- a comment
   pub shape : Shape
 
+infixr 20 ◌▸◌
+
+-- a comment
+abbrev pub ◌▸◌ : ℕ → ℕ → ℕ
+n ▸ m = n
+
 abbrev pub unused : ℕ
 unused = shapes.Round
 """
-TOP = """use Rattle.one.specs.Ground.{low as lowest, first}
+TOP = """use Rattle.one.specs.Ground.{low as lowest, first, ◌▸◌}
 abbrev pub top : ℕ
 top = lowest first
 abbrev pub lost : ℕ
-lost = top
+lost = top ▸ top
 """
 SHAPE = """/// A shape.
 #[derive(Clone)]
@@ -85,6 +91,10 @@ class Chains(unittest.TestCase):
         self.assertEqual(self.chain({Name("one", "Ground", "Pair")}), [("low", 3), ("top", 2)])
         chain = self.chain(set(), Name("one", "src/shape", "Shape"))
         self.assertEqual(chain, [("low", 3), ("Pair", 3), ("top", 2)])
+
+    def test_a_sign_between_words(self) -> None:
+        found = self.library.chain([Name("two", "Top", "lost")], {Name("two", "Top", "top")}, set())
+        self.assertEqual([(name.name, self.library.length(name)) for name in found], [("◌▸◌", 2), ("lost", 2)])
 
     def test_places(self) -> None:
         self.assertEqual(self.library.place(Name("one", "Ground", "Pair")), "crates/one/specs/Ground.antt:13")

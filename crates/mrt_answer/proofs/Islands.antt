@@ -16,8 +16,7 @@ use Rattle.mrt_island.specs.Members.{IsInside}
 use Rattle.mrt_island.specs.Policy.{Policy}
 use Rattle.mrt_exit.specs.declared.exit.What.{What}
 use Rattle.mrt_exit.specs.declared.exit.What.TheVariants as whats
-use Rattle.mrt_answer.specs.Input.{IsMissing}
-use Rattle.mrt_answer.specs.Islands.{IsLargeArea}
+use Rattle.mrt_answer.specs.Islands.{IsLargeArea, IsMissing}
 
 pub one_large_area : (area : AreaParts) (what other : What) (size count : ℕ) → IsLargeArea area what size
     → IsLargeArea area other count → (what ≡ other) × (size ≡ count)

@@ -1,12 +1,12 @@
 -- What a network that is made from a number comes to.
 use Rattle.std.proofs.Common.{◌≡◌, ◌∙◌, ◌≤◌, ℕ, true, List, [], ◌∷◌, None, Result, Ok, Err, length, map, refl, sym, ap, subst, inl, inr}
-use Rattle.std.specs.Prelude.{Contains, IfErr, IfOk}
+use Rattle.std.specs.Prelude.{Contains, IfErr}
 use Rattle.std.specs.List.{AllByRecursion}
 use Rattle.area_graph.specs.AreaOf.{area_of as area_of_lsas}
 use Rattle.area_graph.specs.AreaSize.{IsTooLarge}
 use Rattle.mrt_graph.specs.NodeIds.{router as router_node}
 use Rattle.lsdb.specs.Conflicts.{least_conflict}
-use Rattle.lsdb.specs.Entries.{Database, Entry, entries_in}
+use Rattle.lsdb.specs.Entries.{Entry, entries_in}
 use Rattle.lsdb.specs.Installing.{IsKept}
 use Rattle.lsdb.specs.Installs.{all_installed}
 use Rattle.lsdb.specs.Newest.{IsSettled}
@@ -15,10 +15,7 @@ use Rattle.mrt_island.specs.declared.setting.Setting.{Setting}
 use Rattle.ospf_lsa.specs.LsaText.{lsas_text}
 use Rattle.ospf_lsa.specs.Lsas.{AreLsas}
 use Rattle.ospf_lsa.specs.declared.lsa.Lsa.{Lsa}
-use Rattle.mrt_graph.specs.declared.cert.CertFile.{CertFile}
-use Rattle.mrt_graph.specs.Topology.{Topology}
 use Rattle.mrt_survey.specs.MadeLsas.{made_lsas}
-use Rattle.mrt_survey.specs.SurveyText.{IsSurveyText}
 use Rattle.mrt_exit.specs.declared.exit.DbKind.{DbKind}
 use Rattle.mrt_exit.specs.declared.exit.Exit.{Exit}
 use Rattle.mrt_exit.specs.declared.exit.Exit.TheVariants as exits
@@ -29,11 +26,10 @@ use Rattle.mrt_words.specs.Form.{IsNetworkSize}
 use Rattle.mrt_answer.specs.Input.{Input, area, input_with, policy}
 use Rattle.mrt_answer.specs.Islands.{area_of, island_in, island_of}
 use Rattle.mrt_answer.specs.Reading.{database_of, input_of}
-use Rattle.mrt_answer.specs.Surveyed.{IsSummedUp, made_input, summed_up_in}
+use Rattle.mrt_answer.specs.Surveyed.{made_input, summed_up_in}
 use Rattle.mrt_answer.specs.TextBytes.{IsTextAnswer}
 use Rattle.mrt_answer.specs.declared.text.Text.{Text}
 use Rattle.mrt_words.proofs.Readings.{if_err}
-use Rattle.mrt_answer.specs.Certified.{IsComputedFile}
 use Rattle.mrt_answer.proofs.Islands.{no_large_area}
 use Rattle.mrt_exit.specs.Due.{IsDue}
 
@@ -122,28 +118,8 @@ memory_of_survey (Err exit) number input has (inl (inl none)) = absurd (has exit
 memory_of_survey (Err exit) number input has (inl (inr (island, is, none))) = absurd none
 memory_of_survey (Err exit) number input has (inr memory) = memory
 
--- what the database of a network's bytes holds
-pub newest_of_made : {E : Type 0} (answer : Result Database E) (bytes : List ℕ) (number nodes : ℕ)
-    → bytes ≡ lsas_text (made_lsas number nodes)
-    → ((newest : List Lsa) → IsDatabase (lsas_text (made_lsas number nodes)) newest → newest ≡ made_lsas number nodes)
-    → IfOk answer (λ database. IsDatabase bytes (map (λ entry. entry.lsa) database.entries))
-    → IfOk answer (λ database. map (λ entry. entry.lsa) database.entries ≡ made_lsas number nodes)
-newest_of_made (Ok database) bytes number nodes is only held =
-    only (map (λ (entry : Entry). entry.lsa) database.entries)
-    (subst (λ (text : List ℕ). IsDatabase text (map (λ (entry : Entry). entry.lsa) database.entries)) is held)
-newest_of_made (Err error) bytes number nodes is only held = tt
-
 -- where a database holds the LSAs of a network, and a profile nothing, they hold what is surveyed
 pub made_input_is : (entries : List Entry) (settings : List Setting) (number nodes : ℕ)
     → map (λ entry. entry.lsa) entries ≡ made_lsas number nodes → settings ≡ []
     → input_with entries settings ≡ made_input number nodes
 made_input_is entries settings number nodes newest none = λ i. record { newest = newest i; settings = none i }
-
--- what was written of a graph and its certificate is the survey
-pub summed_up_text : {T E : Type 0} (bytes : T → List ℕ) (answer : Result T E) (number : ℕ) (graph : Topology) (root : ℕ)
-    (file : CertFile) → IsComputedFile graph root file
-    → IfOk answer (λ text. IsSurveyText number graph root file.cert (bytes text))
-    → IfOk answer (λ text. IsSummedUp number graph root (bytes text))
-summed_up_text bytes (Ok text) number graph root file certificate spelled =
-    record { file = file; certificate = certificate; spelled = spelled }
-summed_up_text bytes (Err error) number graph root file certificate spelled = tt

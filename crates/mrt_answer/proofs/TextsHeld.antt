@@ -1,8 +1,6 @@
 -- What holds of the bytes of a text.
-use Rattle.std.proofs.Common.{◌≡◌, ℕ, List, Option, Result, Ok, Err, length, refl, sym, ap, subst}
-use Rattle.std.specs.Prelude.{IfErr, IfOk}
-use Rattle.std.specs.declared.alloc.Global.{Global}
-use Rattle.std.specs.declared.vec.Vec.{Vec}
+use Rattle.std.proofs.Common.{◌≡◌, ℕ, List, Option, Result, Ok, Err, length, refl, ap, subst}
+use Rattle.std.specs.Prelude.{IfOk}
 use Rattle.cert_format.specs.CertText.{cert_text}
 use Rattle.mrt_io.specs.Counts.{Rose}
 use Rattle.mrt_io.specs.Writing.{GainedPart}
@@ -27,18 +25,6 @@ pub answer_has_also : (P Q : List ℕ → Type 0) → ((bytes : List ℕ) → P 
     → IfOk answer (HasText P) → IfOk answer (HasText Q)
 answer_has_also P Q then (Ok text) held = has_also P Q then text held
 answer_has_also P Q then (Err exit) held = tt
-
--- bytes as an answer, or want of memory for them
-module _ {E : Type 0} (answer : Result Text Exit) where
-  pub bytes_given : (P : List ℕ → Type 0) (bytes : Result (Vec ℕ Global) E) → IfOk bytes (λ it. answer ≡ Ok (Bytes it))
-      → IfErr bytes (λ _. answer ≡ Err exits.NoMemory) → IfOk bytes (λ it. P it.items) → IfOk answer (HasText P)
-  bytes_given P (Ok it) is none held = subst (λ (a : Result Text Exit). IfOk a (HasText P)) (sym is) held
-  bytes_given P (Err error) is none held = subst (λ (a : Result Text Exit). IfOk a (HasText P)) (sym none) tt
-
-  pub bytes_refused : (Q : Exit → Type 0) (bytes : Result (Vec ℕ Global) E) → IfOk bytes (λ it. answer ≡ Ok (Bytes it))
-      → IfErr bytes (λ _. answer ≡ Err exits.NoMemory) → Q exits.NoMemory → IfErr answer Q
-  bytes_refused Q (Ok it) is none memory = subst (λ (a : Result Text Exit). IfErr a Q) (sym is) tt
-  bytes_refused Q (Err error) is none memory = subst (λ (a : Result Text Exit). IfErr a Q) (sym none) memory
 
 -- bytes of a text of which something holds
 pub record BytesOf (P : List ℕ → Type 0) (text : Text) : Type 0 where

@@ -19,15 +19,3 @@ module _ (g : Topology) (root : ℕ) (file : CertFile) where
   upgraded_accepted accepted ClosedRule = accepted ClosedRule
   upgraded_accepted accepted (TagRule tag) = accepted (TagRule tag)
   upgraded_accepted accepted BlockRule = accepted BlockRule
-
-  pub read_accepted : Accepted g root (upgraded file) → Accepted g root file
-  read_accepted accepted GraphRule = accepted GraphRule
-  read_accepted accepted OrderRule =
-      let order : RootAndOrders g root (upgraded file) = accepted OrderRule in
-      record { root_first = order.root_first; orders = order.orders }
-  read_accepted accepted HeadRule = accepted HeadRule
-  read_accepted accepted LinkRule = accepted LinkRule
-  read_accepted accepted LoneRule = accepted LoneRule
-  read_accepted accepted ClosedRule = accepted ClosedRule
-  read_accepted accepted (TagRule tag) = accepted (TagRule tag)
-  read_accepted accepted BlockRule = accepted BlockRule

@@ -1,7 +1,6 @@
 -- What a form is given.
-use Rattle.std.specs.Prelude.{◌≡◌, ◌⊎◌, ℕ, false, List, Contains, map}
+use Rattle.std.specs.Prelude.{ℕ, List, map}
 use Rattle.area_graph.specs.AreaOf.{area_of}
-use Rattle.mrt_graph.specs.NodeIds.{router}
 use Rattle.area_graph.specs.Parts.{AreaParts}
 use Rattle.lsdb.specs.Entries.{Entry}
 use Rattle.mrt_graph.specs.TextLines.{text_lines}
@@ -30,11 +29,3 @@ area input = area_of input.newest
 -- what the profile says
 abbrev pub policy : Input → Policy
 policy input = policy_of input.settings
-
--- a router is not in an area
-abbrev pub IsAbsent : AreaParts → ℕ → Type 0
-IsAbsent area number = Contains area.ids (router number) → ⊥
-
--- a router is not in an area, or does not support the Default MRT Profile
-abbrev pub IsMissing : Policy → AreaParts → ℕ → Type 0
-IsMissing policy area number = IsAbsent area number ⊎ (policy.supports number ≡ false)

@@ -1,5 +1,5 @@
 -- The area of an input, the island of a router in it, and routers of these; or why there is none.
-use Rattle.std.specs.Prelude.{◌≡◌, ◌<◌, ◌≤◌, ◌-◌, ◌^◌, ℕ, List, Ok, Err, Some, Contains, length, min, slice_get}
+use Rattle.std.specs.Prelude.{◌≡◌, ◌⊎◌, ◌<◌, ◌≤◌, ◌-◌, ◌^◌, ℕ, false, List, Ok, Err, Some, Contains, length, min, slice_get}
 use Rattle.area_graph.specs.AreaOf.{area_of as area_of_newest}
 use Rattle.area_graph.specs.AreaSize.{IsTooLarge}
 use Rattle.area_graph.specs.Parts.{AreaParts}
@@ -13,7 +13,7 @@ use Rattle.mrt_island.specs.IslandOf.{IsIsland}
 use Rattle.mrt_island.specs.Policy.{Policy}
 use Rattle.mrt_island.specs.declared.island.Island.{Island}
 use Rattle.ospf_lsa.specs.declared.lsa.Lsa.{Lsa}
-use Rattle.mrt_answer.specs.Input.{Input, policy, IsMissing}
+use Rattle.mrt_answer.specs.Input.{Input, policy}
 
 -- so many are told as a number of 32 bits, the greatest one where they are more
 abbrev pub told : ℕ → ℕ
@@ -24,6 +24,14 @@ abbrev pub IsLargeArea : AreaParts → What → ℕ → Type 0
 IsLargeArea area whats.AreaNodes size = (4096 < length area.ids) × (size ≡ told (length area.ids))
 IsLargeArea area whats.AreaArcs size = (length area.ids ≤ 4096) × (32768 < length area.arcs) × (size ≡ told (length area.arcs))
 IsLargeArea area _ size = ⊥
+
+-- a router is none of these nodes
+abbrev pub IsAbsent : List NodeId → ℕ → Type 0
+IsAbsent ids number = Contains ids (router_node number) → ⊥
+
+-- a router is not in an area, or does not support the Default MRT Profile
+abbrev pub IsMissing : Policy → AreaParts → ℕ → Type 0
+IsMissing policy area number = IsAbsent area.ids number ⊎ (policy.supports number ≡ false)
 
 -- the area of the newest LSAs, where it is within its limits
 abbrev pub area_of : List Lsa → Step AreaParts
@@ -40,7 +48,7 @@ island_of policy area number (Err _) = ⊥
 -- the place of a router among nodes; where it is none of them, that is said
 abbrev pub place_of : List NodeId → ℕ → Step ℕ
 place_of ids number (Ok place) = slice_get ids place ≡ Some (router_node number)
-place_of ids number (Err (NotThere missing)) = (missing ≡ number) × (Contains ids (router_node number) → ⊥)
+place_of ids number (Err (NotThere missing)) = (missing ≡ number) × IsAbsent ids number
 place_of ids number (Err _) = ⊥
 
 -- the area, and then the island of a router in it

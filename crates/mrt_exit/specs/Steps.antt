@@ -7,8 +7,8 @@ use Rattle.mrt_exit.specs.declared.exit.Exit.{Exit}
 abbrev pub Step : Type 0 → Type 1
 Step A = Result A Exit → Type 0
 
--- one step, and then another one by the value that came of it; where an exit comes of the first, it is what comes of both
 infixr 20 ◌▸◌
+-- one step, and then another one by the value that came of it; where an exit comes of the first, it is what comes of both
 abbrev pub ◌▸◌ : {A B : Type 0} → Step A → (A → Step B) → Step B
 ◌▸◌ first next (Ok y) = (x : _) × first (Ok x) × next x (Ok y)
 ◌▸◌ first next (Err exit) = first (Err exit) ⊎ ((x : _) × first (Ok x) × next x (Err exit))

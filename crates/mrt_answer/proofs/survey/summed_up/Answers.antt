@@ -1,7 +1,7 @@
 use Rattle.mrt_graph.proofs.ListTests.{there}
 use Rattle.mrt_rows.specs.CertOf.{file_of}
 use Rattle.mrt_answer.specs.Certified.{IsComputedFile}
-use Rattle.mrt_answer.proofs.MadeNetworks.{summed_up_text}
+use Rattle.mrt_words.proofs.HandedOn.{if_ok}
 use Rattle.mrt_answer.proofs.survey.summed_up.Goals as goal
 
 pub survey_text-requires : goal.survey_text-requires
@@ -20,5 +20,4 @@ returns c =
       accepted = accepted;
       sound = c.accepted_implies_sound.ensures c.args.graph.now c.args.root file accepted;
     } in
-    summed_up_text (λ text. text.items) c.survey_text.result c.args.number c.args.graph.now c.args.root file certificate
-    c.survey_text.ensures
+    if_ok c.survey_text.result _ _ c.survey_text.ensures (λ text spelled. record { file = file; certificate = certificate; spelled = spelled })
