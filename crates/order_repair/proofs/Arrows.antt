@@ -1,11 +1,9 @@
 -- The two nodes of a link by its mark are those that its direction tells.
-use Rattle.std.proofs.Common.{sym, ◌≡◌, ◌≢◌, ◌∙◌, ◌<◌, ℕ, Option, Some, slice_get, refl, ap, subst, arith, length}
+use Rattle.std.proofs.Common.{◌≡◌, ◌≢◌, ◌∙◌, ◌<◌, ℕ, Some, slice_get, refl, ap, arith, length}
 use Rattle.std.proofs.lemmas.Bool.{eq-eqb, ne_eqb}
 use Rattle.std.proofs.lemmas.Option.{same_Some, slice_get_within}
-use Rattle.mrt_graph.specs.declared.cert.Color.{Color}
 use Rattle.mrt_graph.specs.declared.cert.Role.{Role}
 use Rattle.mrt_graph.specs.declared.cert.Role.TheVariants.{Closing, Plain, Sole}
-use Rattle.mrt_graph.specs.declared.cert.Tag.{Tag}
 use Rattle.mrt_graph.specs.declared.gadag.Mark.{Mark}
 use Rattle.mrt_graph.specs.declared.gadag.Way.{Way}
 use Rattle.mrt_graph.specs.declared.gadag.Way.TheVariants.{AToB, BToA, Unset}
@@ -14,11 +12,10 @@ use Rattle.mrt_graph.specs.DirectedLists.{DirectedLists}
 use Rattle.mrt_graph.specs.Leads.{far_node, leads}
 use Rattle.mrt_graph.specs.Tails.{tail_of}
 use Rattle.mrt_graph.specs.Topology.{Topology}
-use Rattle.std.specs.Option.{option_and_then, option_map}
+use Rattle.std.specs.Option.{option_and_then}
 use Rattle.link_direction.specs.Directions.{Directions, Says}
-use Rattle.order_repair.specs.declared.link_line.Arrow.{Arrow}
+use Rattle.order_repair.specs.declared.arrow.Arrow.{Arrow}
 use Rattle.order_repair.specs.Arrow.{arrow_of}
-use Rattle.order_repair.specs.OrderChoice.{IsPlain, LinkLine, PlainLine}
 
 -- it leads from the tail
 pub record IsArrow (g : Topology) (w : Directions) (e : ℕ) (arrow : Arrow) : Type 0 where
@@ -45,22 +42,8 @@ arrow_is g d w e link mark says up at marked =
       onward = ap (option_and_then (far_node (arrow_of link mark.way).from)) at ∙ it.1;
     }
 
--- so the line of a plain link is that of its arrow
-plain_role : (role : Role) → role ≢ Closing → role ≢ Sole → role ≡ Plain
+-- what is neither closing nor sole is plain
+pub plain_role : (role : Role) → role ≢ Closing → role ≢ Sole → role ≡ Plain
 plain_role Plain not_closing not_sole = refl
 plain_role Sole not_closing not_sole = absurd (not_sole refl)
 plain_role Closing not_closing not_sole = absurd (not_closing refl)
-
-pub plain_line : (g : Topology) (w : Directions) (tag : Tag) (s t e : ℕ) (arrow : Arrow) (color : Color) → w.role e ≢ Closing
-    → w.role e ≢ Sole → IsArrow g w e arrow → PlainLine tag g w s t arrow.from arrow.to color → LinkLine tag g w s t e color
-plain_line g w tag s t e arrow color not_closing not_sole is line =
-    IsPlain arrow.to (plain_role (w.role e) not_closing not_sole)
-    (subst (λ (x : ℕ). leads g.links e x ≡ Some arrow.to) is.from is.onward)
-    (subst (λ (x : ℕ). PlainLine tag g w s t x arrow.to color) is.from line)
-
--- the block of a link by its mark
-pub mark_block : (g : Topology) (d : DirectedLists) (w : Directions) (e : ℕ) (mark : Mark) → Says g d w → e < length g.links
-    → slice_get d.marks e ≡ Some mark → mark.block ≡ w.lies_in e
-mark_block g d w e mark says inside is =
-    same_Some mark.block (w.lies_in e)
-    (sym (ap (λ (o : Option Mark). option_map (λ m. m.block) o) is) ∙ says.link_blocks e inside)

@@ -56,10 +56,11 @@ module _ (og : OrderedGraph) (file : CertFile) (tells : Tells og.g og.root og.w 
       → (row : Row) → RowWays og it.m s t row.blue row.red row.tag → LineFor row.tag og.g og.w s t x color
       → IsRound og rows s t x color
   lines_round (elements.Link e) color k h it lies neither row ways line =
-      link_round og it.m it.ring rows s t tabled it.sharing.two e (lies.in_block ∙ it.block) row.blue row.red ways color line
+      link_round og it.m it.ring rows s t tabled e (lies.in_block ∙ it.block) row.blue row.red ways color line
   lines_round (elements.Node f) color k h it lies neither row ways line =
-      node_round og it.m it.ring rows s t tabled it.sharing.two f (node_lies og s t k h f it lies) neither.0 neither.1
-      row.blue row.red ways color line
+      subst (λ (c : Color). IsRound og rows s t (elements.Node f) c) (sym line.color_is)
+      (node_round og it.m it.ring rows s t tabled s_within t_within f (node_lies og s t k h f it lies) neither.0 neither.1 row.blue row.red
+      ways line.tests line.mean)
 
   pub goes_round : (x : Element) (color : Color) → IsOrderChoice og.g og.root og.w s t x color → IsRound og rows s t x color
   goes_round x color choice =

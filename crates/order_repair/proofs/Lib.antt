@@ -2,7 +2,6 @@ pub mod Arrows
 pub mod Avoiding
 pub mod Chained
 pub mod ChosenBy
-pub mod ColorLines
 pub mod GoesRound
 pub mod HoldTogether
 pub mod HopsTell
@@ -12,13 +11,12 @@ pub mod MayMeet
 pub mod Moving
 pub mod OneChoice
 pub mod OneText
-pub mod Pairs
 pub mod PartsPassed
 pub mod Round
+pub mod RoundFailed
 pub mod RoundLinks
 pub mod RoundNodes
 pub mod RowWays
-pub mod SameWords
 pub mod SharedBlock
 pub mod Steps
 pub mod TagFound

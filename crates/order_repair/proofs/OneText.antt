@@ -1,5 +1,5 @@
 -- There is exactly one text on the repairs by order of a router.
-use Rattle.std.proofs.Common.{◌≡◌, ◌≢◌, ◌⊎◌, ◌∙◌, ◌++◌, ◌<◌, ℕ, List, [], Option, None, codes, length, refl, sym, ap, subst, inl, inr}
+use Rattle.std.proofs.Common.{◌≡◌, ◌≢◌, ◌⊎◌, ◌∙◌, ◌++◌, ◌<◌, ℕ, List, [], Option, Some, None, codes, length, refl, sym, ap, subst, inl, inr}
 use Rattle.std.proofs.lemmas.Bool.{cases_eq}
 use Rattle.std.proofs.lemmas.Option.{slice_get_within}
 use Rattle.mrt_graph.specs.declared.cert.Color.{Color}
@@ -11,20 +11,17 @@ use Rattle.mrt_graph.specs.Separates.{IsNeitherEnd}
 use Rattle.mrt_graph.specs.Spelling.{node_text}
 use Rattle.mrt_graph.proofs.ListTests.{there}
 use Rattle.inc_dec_spf.specs.declared.reach.Dir.TheVariants.{Down, Up}
-use Rattle.inc_dec_spf.specs.declared.reach.Hop.{Hop}
-use Rattle.inc_dec_spf.specs.LeastPath.{HaveCommonBlockOfMoreLinks, IsHop}
+use Rattle.inc_dec_spf.specs.LeastPath.{HaveCommonBlockOfMoreLinks}
 use Rattle.mrt_rows.proofs.HopsExist.{has_hop}
 use Rattle.mrt_rows.proofs.OrderedGraphs.{OrderedGraph, one_common}
 use Rattle.text_parts.specs.Parts.{AreParts}
 use Rattle.text_parts.proofs.Adding.{one_headed_text, one_id, one_text_of_parts, some_headed_text, some_text_of_parts}
 use Rattle.order_repair.specs.Failed.{IsWithin, LiesIn}
 use Rattle.order_repair.specs.OrderText.{AtEnd, Colored, IsHead, IsLetter, IsLine, IsOrderText, IsPartOn, Line, NoLine, NotOfIt, letter_of}
-use Rattle.order_repair.specs.Tagging.{IsTagFor, NotShared, Tagged}
+use Rattle.order_repair.specs.Tagging.{IsTagFor, tag_by}
 use Rattle.order_repair.proofs.OneChoice.{choice_for, one_choice}
-use Rattle.order_repair.proofs.TagFound.{head_found, none_found, peer_found, top_found}
-use Rattle.mrt_graph.specs.declared.related.Relation.{Relation}
-use Rattle.mrt_graph.specs.declared.related.Relation.TheVariants as relations
-use Rattle.link_direction.proofs.TwoNodes.{Relates, of_two}
+use Rattle.order_repair.proofs.TagFound.{found}
+use Rattle.link_direction.proofs.TwoNodes.{of_two}
 
 module _ (og : OrderedGraph) (s : ℕ) (s_within : s < length og.g.ids) where
   abbrev n : ℕ
@@ -143,32 +140,20 @@ module _ (og : OrderedGraph) (s : ℕ) (s_within : s < length og.g.ids) where
   -- they share a block of more than one link, or they do not
   some_tag : (t : ℕ) → t < n → (tag : Option Tag) × IsTagFor og.g og.root og.w s t tag
   some_tag t t_within = elim (cases_eq s t) [
-    | inl same ↦ (None, NotShared (λ k h shares. shares.two same))
-    | inr two ↦ let is = of_two og.w s t in by two is.0 is.1
+    | inl same ↦ (None, λ k h shares. shares.two same)
+    | inr two ↦
+        let is = of_two og.w s t in
+        let up = has_hop og Up s t s_within t_within in
+        let down = has_hop og Down s t s_within t_within in
+        (tag_by is.0 up.0 down.0, found og s t s_within t_within two is.0 up.0 down.0 is.1 up.1 down.1)
   ]
-    where
-      up : (hop : Option Hop) × IsHop og.g og.w Up s t hop
-      up = has_hop og Up s t s_within t_within
-
-      down : (hop : Option Hop) × IsHop og.g og.w Down s t hop
-      down = has_hop og Down s t s_within t_within
-
-      by : s ≢ t → (r : Relation) → Relates og.w s t r → (tag : Option Tag) × IsTagFor og.g og.root og.w s t tag
-      by two relations.OneBlock same = (_, peer_found og s t s_within t_within two same up.0 down.0 up.1 down.1)
-      by two relations.ToHead head = (_, head_found og s t s_within t_within two up.0 up.1 head)
-      by two relations.FromHead top = (_, top_found og s t s_within t_within two up.0 up.1 top)
-      by two relations.Apart none = (None, none_found og s t s_within t_within two none)
 
   some_part : (t : ℕ) → t < n → (text : List ℕ) × IsPartOn og.g og.root og.w s t text
-  some_part t t_within = go (some_tag t t_within)
+  some_part t t_within = let it = some_tag t t_within in go it.0 it.1
     where
-      by_tag : (tag : Option Tag) → IsTagFor og.g og.root og.w s t tag → (text : List ℕ) × IsPartOn og.g og.root og.w s t text
-      by_tag _ (NotShared none) = ([], NoLine none)
-      by_tag _ (Tagged k h row shares its_row) =
-          let line = some_line t k h t_within shares in (line.0, Line line.0 line.1)
-
-      go : (tag : Option Tag) × IsTagFor og.g og.root og.w s t tag → (text : List ℕ) × IsPartOn og.g og.root og.w s t text
-      go it = by_tag it.0 it.1
+      go : (tag : Option Tag) → IsTagFor og.g og.root og.w s t tag → (text : List ℕ) × IsPartOn og.g og.root og.w s t text
+      go None none = ([], NoLine none)
+      go (Some tag) it = let line = some_line t it.0 it.1 t_within it.2.share in (line.0, Line line.0 line.1)
 
   pub one_text : (text other : List ℕ) → IsOrderText og.g og.root og.w s text → IsOrderText og.g og.root og.w s other → text ≡ other
   one_text text other is is' = one_headed_text (IsHead og.g og.root s) (IsPartOn og.g og.root og.w s) one_head one_part n text other is is'

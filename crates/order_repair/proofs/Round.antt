@@ -1,11 +1,14 @@
 -- What a walk on a color goes round: what it may neither meet nor cross.
 use Rattle.std.specs.Prelude.{⊤}
-use Rattle.std.proofs.Common.{◌≡◌, ◌≢◌, ◌⊎◌, ◌∙◌, ◌<◌, ℕ, [], ◌∷◌, List, Option, Some, None, length, refl, sym, ap, subst, inl, inr, arith}
+use Rattle.std.specs.Prelude.{if◌then◌else◌}
+use Rattle.std.proofs.Common.{◌≡◌, ◌≢◌, ◌⊎◌, ◌∙◌, ◌<◌, ◌≤◌, ◌&&◌, ℕ, [], ◌∷◌, List, Option, Some, None, leb, length, refl, sym, ap, subst, inl, inr, arith}
+use Rattle.std.proofs.lemmas.Bool.{and_from, and_parts, both_ways, cond_both, le-leb, leb-false, leb-true}
 use Rattle.std.proofs.lemmas.Option.{same_Some}
 use Rattle.mrt_graph.specs.declared.cert.Color.{Color}
 use Rattle.mrt_graph.specs.declared.cert.Color.TheVariants.{Blue, Red}
 use Rattle.mrt_graph.specs.declared.cert.Role.TheVariants.{Closing, Plain}
 use Rattle.mrt_graph.specs.declared.link.Element.{Element}
+use Rattle.mrt_graph.specs.declared.link.Element.TheVariants as elements
 use Rattle.mrt_graph.specs.declared.link.End.{End}
 use Rattle.mrt_graph.specs.Alternate.{UsesOn}
 use Rattle.mrt_graph.specs.Hop.{Hop, color_hop}
@@ -18,6 +21,7 @@ use Rattle.mrt_graph.proofs.Hops.{lead_back}
 use Rattle.inc_dec_spf.specs.declared.reach.Dir.{Dir}
 use Rattle.inc_dec_spf.specs.declared.reach.Dir.TheVariants.{Down, Up}
 use Rattle.inc_dec_spf.specs.declared.reach.Hop.{Hop as Least}
+use Rattle.inc_dec_spf.specs.Against.{against}
 use Rattle.inc_dec_spf.specs.LeastPath.{IsHop, Reached}
 use Rattle.inc_dec_spf.specs.Path.{Path}
 use Rattle.mrt_rows.specs.RowsOf.{HasRow}
@@ -25,9 +29,9 @@ use Rattle.mrt_rows.proofs.HopsExist.{has_hop}
 use Rattle.mrt_rows.proofs.OrderedGraphs.{OrderedGraph}
 use Rattle.mrt_rows.proofs.Ways.{Inside, Ring, Way, head_lower, not_head, put_before}
 use Rattle.mrt_rows.proofs.WaysBegun.{no_way, peers, share, way_over}
-use Rattle.order_repair.specs.OrderChoice.{Else, Holds, Is, LeadsTo, Where}
+use Rattle.order_repair.specs.OrderChoice.{LeadsTo}
 use Rattle.order_repair.proofs.Avoiding.{Never, not_used}
-use Rattle.order_repair.proofs.MayMeet.{Closingly, Crossed, CrossedAside, MayAfter, MayAside, MayHead, MayPast, MayPeer, Plainly, goes_after, goes_aside, goes_head, goes_past, goes_peer}
+use Rattle.order_repair.proofs.MayMeet.{Back, Closingly, Crossed, CrossedAside, IsAside, MayAfter, MayAside, MayHead, MayPast, MayPeer, On, Plainly, goes_after, goes_aside, goes_head, goes_past, goes_peer}
 use Rattle.order_repair.proofs.Moving.{dir_of}
 use Rattle.order_repair.proofs.RowWays.{way_of}
 use Rattle.order_repair.proofs.Steps.{IsOver, beyond_on}
@@ -36,35 +40,51 @@ use Rattle.order_repair.proofs.Steps.{IsOver, beyond_on}
 abbrev pub IsRound : OrderedGraph → Rows → ℕ → ℕ → Element → Color → Type 0
 IsRound og rows s t x color = UsesOn og.g.links (length og.g.ids) rows s t x color → ⊥
 
--- by a line: where its condition holds, and where it does not
-pub by_where : (og : OrderedGraph) (rows : Rows) (s t : ℕ) (x : Element) (P : Type 0) (this : Color) (Rest : Color → Type 0)
-    (color : Color) → Where P this Rest color → (P → IsRound og rows s t x this)
-    → ((P → ⊥) → Rest color → IsRound og rows s t x color) → IsRound og rows s t x color
-by_where og rows s t x P this Rest color (Holds p is) holds else = subst (λ (c : Color). IsRound og rows s t x c) (sym is) (holds p)
-by_where og rows s t x P this Rest color (Else none rest) holds else = else none rest
+-- by a test of two numbers, and by one of two such tests
+pub by_most : (og : OrderedGraph) (rows : Rows) (s t : ℕ) (x : Element) (i j : ℕ) (this that : Color) → (i ≤ j → IsRound og rows s t x this)
+    → (j < i → IsRound og rows s t x that) → IsRound og rows s t x (if leb i j then this else that)
+by_most og rows s t x i j this that holds fails =
+    cond_both (leb i j) this that (IsRound og rows s t x) (λ yes. holds (leb-true i j yes)) (λ no. fails (leb-false i j no))
 
-pub by_other : (og : OrderedGraph) (rows : Rows) (s t : ℕ) (x : Element) (this color : Color) → Is this color
-    → IsRound og rows s t x this → IsRound og rows s t x color
-by_other og rows s t x this color is round = subst (λ (c : Color). IsRound og rows s t x c) (sym is) round
+pub by_both : (og : OrderedGraph) (rows : Rows) (s t : ℕ) (x : Element) (i j k l : ℕ) (this that : Color)
+    → (i ≤ j → k ≤ l → IsRound og rows s t x this) → ((i ≤ j → k ≤ l → ⊥) → IsRound og rows s t x that)
+    → IsRound og rows s t x (if leb i j && leb k l then this else that)
+by_both og rows s t x i j k l this that holds fails =
+    cond_both (leb i j && leb k l) this that (IsRound og rows s t x)
+    (λ yes. let both = and_parts (leb i j) (leb k l) yes in holds (leb-true i j both.0) (leb-true k l both.1))
+    (λ no. fails (λ first second. both_ways (leb i j && leb k l) no (and_from (leb i j) (leb k l) (le-leb i j first) (le-leb k l second))))
 
--- the two nodes of a link that is crossed up, and of one that is crossed down
-pub ends_up : (og : OrderedGraph) (m e u y v : ℕ) → IsOver og m Up e u y → leads og.g.links e (og.w.tail e) ≡ Some v
-    → (og.w.tail e ≡ u) × (v ≡ y)
-ends_up og m e u y v over is = (
+-- what has failed lies between two nodes: a node is both, and a plain link leads from the one to the other
+pub data Lies (og : OrderedGraph) (t : ℕ) : Element → ℕ → ℕ → Type 0 where
+  AsNode : (f : ℕ) → f ≢ t → Lies og t (elements.Node f) f f
+  AsLink : (e v : ℕ) → og.w.role e ≡ Plain → leads og.g.links e (og.w.tail e) ≡ Some v → Lies og t (elements.Link e) (og.w.tail e) v
+
+-- from which of the two it is passed in a direction, and to which
+abbrev pub near : Dir → ℕ → ℕ → ℕ
+near Up a v = a
+near Down a v = v
+
+abbrev pub far : Dir → ℕ → ℕ → ℕ
+far dir a v = near dir v a
+
+ends_of : (og : OrderedGraph) (m : ℕ) (dir : Dir) (e u y v : ℕ) → leads og.g.links e (og.w.tail e) ≡ Some v → IsOver og m dir e u y
+    → (near dir (og.w.tail e) v ≡ u) × (far dir (og.w.tail e) v ≡ y)
+ends_of og m Up e u y v is over = (
   over.tail,
   same_Some v y (sym is ∙ subst (λ (x : ℕ). leads og.g.links e x ≡ Some y) (sym over.tail) over.onward),
 )
-
-pub ends_down : (og : OrderedGraph) (m e u y v : ℕ) → IsOver og m Down e u y → leads og.g.links e (og.w.tail e) ≡ Some v
-    → (og.w.tail e ≡ y) × (v ≡ u)
-ends_down og m e u y v over is = (
-  over.tail,
+ends_of og m Down e u y v is over = (
   same_Some v u (sym is ∙ subst (λ (x : ℕ). leads og.g.links e x ≡ Some u) (sym over.tail)
       (lead_back og.g.links e u y over.onward)),
+  over.tail,
 )
 
+same_end : (dir : Dir) (f : ℕ) → near dir f f ≡ f
+same_end Up f = refl
+same_end Down f = refl
+
 -- a plain link is crossed as one, and a closing link as one
-pub plainly : (Closes : Type 0) (og : OrderedGraph) (m : ℕ) (dir : Dir) (e u y : ℕ) → og.w.role e ≡ Plain
+plainly : (Closes : Type 0) (og : OrderedGraph) (m : ℕ) (dir : Dir) (e u y : ℕ) → og.w.role e ≡ Plain
     → Crossed Closes og m dir e u y → IsOver og m dir e u y
 plainly Closes og m dir e u y plain (Plainly over is) = over
 plainly Closes og m dir e u y plain (Closingly closing closes) = absurd (cc (plain, closing))
@@ -73,6 +93,17 @@ pub closingly : (Closes : Type 0) (og : OrderedGraph) (m : ℕ) (dir : Dir) (e u
     → Crossed Closes og m dir e u y → Closes
 closingly Closes og m dir e u y closing (Plainly over plain) = absurd (cc (plain, closing))
 closingly Closes og m dir e u y closing (Closingly is closes) = closes
+
+-- so it is passed in no other way
+pub never_passed : (og : OrderedGraph) (m : ℕ) (Closes : Type 0) (May : ℕ → Type 0) (dir : Dir) (t : ℕ) (x : Element) (a v : ℕ) → Lies og t x a v
+    → (May (near dir a v) → (far dir a v ≡ t) ⊎ May (far dir a v) → ⊥) → Never May (Crossed Closes og m dir) t x
+never_passed og m Closes May dir t _ _ _ (AsNode f not_t) never = (
+  not_t,
+  λ may. let here = subst May (sym (same_end dir f)) may in never here (inr here),
+)
+never_passed og m Closes May dir t _ _ _ (AsLink e v plain onward) never = λ u y may other next crossed.
+    let ends = ends_of og m dir e u y v onward (plainly Closes og m dir e u y plain crossed) in
+    never (subst May (sym ends.0) may) (subst (λ (z : ℕ). (z ≡ t) ⊎ May z) (sym ends.1) next)
 
 module _ (og : OrderedGraph) (m : ℕ) (ring : Ring og m) (rows : Rows) (t : ℕ)
     (tabled : (u : ℕ) → u < length og.g.ids → u ≢ t → HasRow og.g og.root og.w u (rows u) t) where
@@ -129,6 +160,37 @@ module _ (og : OrderedGraph) (m : ℕ) (ring : Ring og m) (rows : Rows) (t : ℕ
           (CrossedAside og m ring rows t tabled color target s) t (goes_aside og m ring rows t tabled color target s) x never
           (length og.g.ids) s may uses
 
+  -- with the steps against the color's direction
+  pub never_aside : (color : Color) (target : Inside og m t) (s : ℕ) (x : Element) (a v : ℕ) → Lies og t x a v
+      → (IsAside og m ring rows t tabled color target s (near (against (dir_of color)) a v) → ⊥)
+      → (MayAfter og m ring rows t tabled color target (dir_of color ≡ Up) (near (dir_of color) a v)
+      → (far (dir_of color) a v ≡ t) ⊎ MayAside og m ring rows t tabled color target s (far (dir_of color) a v) → ⊥)
+      → Never (MayAside og m ring rows t tabled color target s) (CrossedAside og m ring rows t tabled color target s) t x
+  never_aside color target s _ _ _ (AsNode f not_t) not_back not_on = (
+    not_t,
+    λ may. elim may [
+      | inl aside ↦
+          not_back (subst (λ (u : ℕ). IsAside og m ring rows t tabled color target s u) (sym (same_end (against (dir_of color)) f)) aside)
+      | inr after ↦
+          let here =
+          subst (λ (u : ℕ). MayAfter og m ring rows t tabled color target (dir_of color ≡ Up) u) (sym (same_end (dir_of color) f)) after in
+          not_on here (inr (inr here))
+    ],
+  )
+  never_aside color target s _ _ _ (AsLink e v plain onward) not_back not_on = λ u y may other next crossed. go u y next crossed
+    where
+      go : (u y : ℕ) → (y ≡ t) ⊎ MayAside og m ring rows t tabled color target s y
+          → CrossedAside og m ring rows t tabled color target s e u y → ⊥
+      go u y next (Back aside over is) =
+          let ends = ends_of og m (against (dir_of color)) e u y v onward over in
+          not_back (subst (λ (z : ℕ). IsAside og m ring rows t tabled color target s z) (sym ends.0) aside)
+      go u y next (On after crossed) =
+          let ends =
+          ends_of og m (dir_of color) e u y v onward (plainly (dir_of color ≡ Down) og m (dir_of color) e u y plain crossed) in
+          not_on
+          (subst (λ (z : ℕ). MayAfter og m ring rows t tabled color target (dir_of color ≡ Up) z) (sym ends.0) after)
+          (subst (λ (z : ℕ). (z ≡ t) ⊎ MayAside og m ring rows t tabled color target s z) (sym ends.1) next)
+
   -- after the head blue keeps below t, and red above it
   pub after_low : (target : Inside og m t) (P : Type 0) (u : ℕ) → MayAfter og m ring rows t tabled Blue target P u
       → og.w.order u < og.w.order t
@@ -143,13 +205,6 @@ module _ (og : OrderedGraph) (m : ℕ) (ring : Ring og m) (rows : Rows) (t : ℕ
     | inl home ↦ inl home
     | inr on ↦ inr (beyond_on og m ring Down u t on.0 target on.1)
   ]
-
--- no path is asked for to the source itself
-pub not_itself : (g : Topology) (w : Directions) (dir : Dir) (s x : ℕ) → LeadsTo g w dir s x → s ≢ x
-not_itself g w dir s x it = go it.hop it.reached
-  where
-    go : (hop : Least) → IsHop g w dir s x (Some hop) → s ≢ x
-    go hop (Reached k h hop' shares least) = shares.two
 
 module _ (og : OrderedGraph) (m : ℕ) (ring : Ring og m) where
   -- two ways, one after the other
@@ -166,14 +221,17 @@ module _ (og : OrderedGraph) (m : ℕ) (ring : Ring og m) where
       record { path = end ∷ rest.path; is = put_before og m d s end rest.path t path.0 path.1 rest.is }
 
   pub join : (dir : Dir) (s f t : ℕ) → Way og m dir s f → Inside og m f → Way og m dir f t → Way og m dir s t
-  join dir s f t first inside then = joined dir s first.path f t first.is (not_head og m ring f inside) then
+  join dir s f t first inside on = joined dir s first.path f t first.is (not_head og m ring f inside) on
 
   -- a hop is known exactly where there is a way
-  pub way_to : (dir : Dir) (s f : ℕ) → Inside og m s → Inside og m f → s ≢ f → LeadsTo og.g og.w dir s f → Way og m dir s f
-  way_to dir s f source inside two it =
+  pub way_to : (dir : Dir) (s f : ℕ) → Inside og m s → Inside og m f → LeadsTo og.g og.w dir s f → Way og m dir s f
+  way_to dir s f source inside it =
       way_of og m dir s f it.hop.link
-      (way_over og m dir s f it.hop.link (peers og m s f ring source inside two)
+      (way_over og m dir s f it.hop.link (peers og m s f ring source inside (two it.hop it.reached))
       (record { hop = it.hop; reached = it.reached; over = refl }))
+    where
+      two : (hop : Least) → IsHop og.g og.w dir s f (Some hop) → s ≢ f
+      two hop (Reached k h hop' shares least) = shares.two
 
   pub leads_to : (dir : Dir) (s f : ℕ) → Inside og m s → Inside og m f → s ≢ f → Way og m dir s f → LeadsTo og.g og.w dir s f
   leads_to dir s f source inside two way = go (has_hop og dir s f source.within inside.within)

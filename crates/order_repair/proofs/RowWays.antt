@@ -13,6 +13,7 @@ pub use Rattle.mrt_rows.proofs.RowTags.{way_of}
 use Rattle.mrt_rows.proofs.Sharing.{none_of_share}
 use Rattle.mrt_rows.proofs.Ways.{Inside, Ring, Way, not_head}
 use Rattle.mrt_rows.proofs.WaysBegun.{Sharing, WayOver, no_way, share, way_over}
+use Rattle.order_repair.specs.ColorTable.{IsOfTable}
 
 -- of two nodes with m's block in common, both are of it, or the one or the other is its head
 pub data Standing (og : OrderedGraph) (m u t : ℕ) : Type 0 where
@@ -110,3 +111,13 @@ module _ (og : OrderedGraph) (m : ℕ) (ring : Ring og m) (u t : ℕ) (sharing :
       (to_home Down line.block line.head row.blue line.members both.0 line.blue)
       (to_home Up line.block line.head row.red line.members both.0 line.red)
   row_ways tags.Carried rows row line = absurd (line.apart (og.w.block m) (og.w.head m) sharing.common)
+
+  -- so its tag is one of the table of colors
+  pub row_of_table : (tag : Tag) (rows : ℕ → Option Row) (row : Row) → LineOf tag og.g og.root og.w u rows t row → IsOfTable tag
+  row_of_table tags.Sole rows row line = not_sole row line
+  row_of_table tags.Carried rows row line = line.apart (og.w.block m) (og.w.head m) sharing.common
+  row_of_table tags.Head rows row line = tt
+  row_of_table tags.Top rows row line = tt
+  row_of_table tags.Below rows row line = tt
+  row_of_table tags.Above rows row line = tt
+  row_of_table tags.Unordered rows row line = tt

@@ -10,17 +10,15 @@ use Rattle.gadag_ears.specs.Gadag.{IsGadag}
 use Rattle.gadag_ears.proofs.FromSearch.{facts_of}
 use Rattle.gadag_ears.proofs.OneGadag.{one_gadag}
 use Rattle.link_direction.specs.Directed.{IsDirected}
-use Rattle.link_direction.specs.Directions.{Says}
 use Rattle.link_direction.specs.FromEars.{IsFromEars}
 use Rattle.link_direction.proofs.FromEarsFacts.{gadag_facts}
 use Rattle.link_direction.proofs.Laws.{says_ordered}
 use Rattle.link_direction.proofs.OneAnswer.{one_answer}
-use Rattle.link_direction.proofs.SameDirections.{ordered_too, said_alike}
 use Rattle.mrt_rows.specs.DirectedFrom.{IsDirectedFrom}
-use Rattle.mrt_rows.proofs.OrderedGraphs.{OrderedGraph}
-use Rattle.order_repair.specs.OrderText.{IsTextFrom}
+use Rattle.mrt_rows.specs.Said.{directions_of}
+use Rattle.mrt_rows.proofs.Rooting.{og_of, rooted_by}
+use Rattle.order_repair.specs.OrderText.{IsOrderText, IsTextFrom}
 use Rattle.order_repair.proofs.OneText.{one_text}
-use Rattle.order_repair.proofs.SameWords.{text_too}
 
 -- a graph has one list of directions from a root
 one_directed : (g : Topology) (root : ℕ) (d other : DirectedLists) → IsTopology g → root < length g.ids → IsDirectedFrom g root d
@@ -35,19 +33,11 @@ one_directed g root d other kept within is is' =
     record { tree = is'.tree; search = is'.searched; is_gadag = is'.by_ears } in
     one_answer g root is'.gadag d other (gadag_facts g root is'.gadag kept within from) in_order is'.in_order
 
-pub one_text_of : (g : Topology) (root s : ℕ) (text other : List ℕ) → IsTopology g → root < length g.ids → s < length g.ids
-    → IsTextFrom g root s text → IsTextFrom g root s other → text ≡ other
-one_text_of g root s text other kept within s_within is is' =
-    let w = is.words in
-    let v = is'.words in
-    let d = is'.directed in
-    let says = subst (λ (x : DirectedLists). Says g x w)
-    (one_directed g root is.directed d kept within is.from_root is'.from_root) is.says in
-    let from : IsFromEars g root is'.from_root.gadag =
-    record { tree = is'.from_root.tree; search = is'.from_root.searched; is_gadag = is'.from_root.by_ears } in
-    let laid = says_ordered g root is'.from_root.gadag d kept within from is'.from_root.in_order in
-    let ordered = ordered_too g root laid.directions w kept (said_alike g d laid.directions w laid.says says) laid.ordered in
-    let ordered' = ordered_too g root laid.directions v kept (said_alike g d laid.directions v laid.says is'.says) laid.ordered in
-    let one : OrderedGraph = record { g = g; root = root; w = w; kept = kept; ordered = ordered } in
-    let there : OrderedGraph = record { g = g; root = root; w = v; kept = kept; ordered = ordered' } in
-    one_text there s s_within text other (text_too one v ordered' (said_alike g d w v says is'.says) s text s_within is.is) is'.is
+module _ (g : Topology) (root s : ℕ) (kept : IsTopology g) (within : root < length g.ids) (s_within : s < length g.ids) where
+  pub one_text_of : (text other : List ℕ) → IsTextFrom g root s text → IsTextFrom g root s other → text ≡ other
+  one_text_of text other is is' =
+      let from : IsFromEars g root is'.from_root.gadag =
+      record { tree = is'.from_root.tree; search = is'.from_root.searched; is_gadag = is'.from_root.by_ears } in
+      let rooted = rooted_by g root is'.directed kept (says_ordered g root is'.from_root.gadag is'.directed kept within from is'.from_root.in_order) in
+      one_text (og_of rooted) s s_within text other
+      (subst (λ (d : DirectedLists). IsOrderText g root (directions_of g d) s text) (one_directed g root is.directed is'.directed kept within is.from_root is'.from_root) is.is) is'.is

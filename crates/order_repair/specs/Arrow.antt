@@ -2,7 +2,7 @@
 use Rattle.mrt_graph.specs.declared.gadag.Way.{Way}
 use Rattle.mrt_graph.specs.declared.gadag.Way.TheVariants.{AToB, BToA, Unset}
 use Rattle.mrt_graph.specs.declared.link.Link.{Link}
-use Rattle.order_repair.specs.declared.link_line.Arrow.{Arrow}
+use Rattle.order_repair.specs.declared.arrow.Arrow.{Arrow}
 
 -- the one that it leads from first
 abbrev pub arrow_of : Link → Way → Arrow

@@ -1,23 +1,12 @@
 -- The block of a source and a destination, as it is held.
-use Rattle.std.specs.Prelude.{◌≡◌, ℕ, List}
-use Rattle.mrt_graph.specs.declared.cert.Tag.{Tag}
-use Rattle.mrt_graph.specs.declared.cert.Row.{Row}
+use Rattle.std.specs.Prelude.{ℕ, List}
 use Rattle.mrt_graph.specs.declared.gadag.Place.{Place}
 use Rattle.mrt_graph.specs.declared.link.Element.TheVariants as elements
 use Rattle.mrt_graph.specs.Topology.{Topology}
 use Rattle.link_direction.specs.Directions.{Directions}
-use Rattle.inc_dec_spf.specs.LeastPath.{HaveCommonBlockOfMoreLinks}
 use Rattle.text_parts.specs.Parts.{AreParts}
 use Rattle.order_repair.specs.declared.pair.Pair.{Pair}
-use Rattle.order_repair.specs.OrderChoice.{IsRowFor}
 use Rattle.order_repair.specs.OrderText.{IsLetter}
-
--- this is the tag of the row of s for t, and the two have this block of more than one link in common
-pub record IsPair (g : Topology) (root : ℕ) (w : Directions) (s t : ℕ) (tag : Tag) (place : Place) : Type 0 where
-  pub row : Row
-  pub its_row : IsRowFor g root w s t row
-  pub tag_is : row.tag ≡ tag
-  pub share : HaveCommonBlockOfMoreLinks g w s t place.block place.head
 
 -- a letter of the pair's line: for a node, and for a link
 abbrev pub NodeLetter : Topology → ℕ → Directions → Pair → Place → ℕ → List ℕ → Type 0

@@ -1,6 +1,5 @@
 -- What has failed.
-use Rattle.std.specs.Prelude.{◌≡◌, ◌≢◌, ◌<◌, ◌⊎◌, ℕ, length, ⊤}
-use Rattle.mrt_graph.specs.declared.cert.Role.TheVariants.{Sole}
+use Rattle.std.specs.Prelude.{◌≡◌, ◌<◌, ◌⊎◌, ℕ, length}
 use Rattle.mrt_graph.specs.declared.link.Element.{Element}
 use Rattle.mrt_graph.specs.declared.link.Element.TheVariants as elements
 use Rattle.mrt_graph.specs.Separates.{IsNeitherEnd}
@@ -37,8 +36,3 @@ pub record IsBetween (g : Topology) (w : Directions) (s t : ℕ) (x : Element) :
 abbrev pub IsWithin : Topology → Element → Type 0
 IsWithin g (elements.Link e) = e < length g.links
 IsWithin g (elements.Node x) = x < length g.ids
-
--- x is no sole link
-abbrev pub IsNotSole : Directions → Element → Type 0
-IsNotSole w (elements.Link e) = w.role e ≢ Sole
-IsNotSole w (elements.Node x) = ⊤

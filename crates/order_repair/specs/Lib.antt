@@ -2,7 +2,7 @@ pub mod Arrow
 pub mod BlockLists
 pub mod Blocks
 pub mod Chains
-pub mod Colors
+pub mod ColorTable
 pub mod Failed
 pub mod OrderChoice
 pub mod OrderText

@@ -10,9 +10,10 @@ use Rattle.mrt_graph.specs.Separates.{IsNeitherEnd}
 use Rattle.mrt_graph.specs.Spelling.{node_text}
 use Rattle.mrt_graph.specs.Topology.{Topology}
 use Rattle.text_parts.specs.Parts.{AreParts, IsHeaded}
-use Rattle.link_direction.specs.Directions.{Directions, Says}
+use Rattle.link_direction.specs.Directions.{Directions}
 use Rattle.inc_dec_spf.specs.LeastPath.{HaveCommonBlockOfMoreLinks}
 use Rattle.mrt_rows.specs.DirectedFrom.{IsDirectedFrom}
+use Rattle.mrt_rows.specs.Said.{directions_of}
 use Rattle.order_repair.specs.Failed.{LiesIn}
 use Rattle.order_repair.specs.OrderChoice.{IsOrderChoice}
 
@@ -64,6 +65,4 @@ IsOrderText g root w s text = IsHeaded (IsHead g root s) (IsPartOn g root w s) (
 pub record IsTextFrom (g : Topology) (root s : ℕ) (text : List ℕ) : Type 0 where
   pub directed : DirectedLists
   pub from_root : IsDirectedFrom g root directed
-  pub words : Directions
-  pub says : Says g directed words
-  pub is : IsOrderText g root words s text
+  pub is : IsOrderText g root (directions_of g directed) s text

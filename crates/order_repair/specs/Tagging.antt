@@ -1,32 +1,37 @@
 -- The tag by which a color is chosen.
-use Rattle.std.specs.Prelude.{ℕ, Option, Some, None, ⊤}
-use Rattle.std.specs.Option.{option_map}
+use Rattle.std.specs.Prelude.{◌≡◌, ℕ, Option, Some, None}
 use Rattle.mrt_graph.specs.declared.cert.Row.{Row}
 use Rattle.mrt_graph.specs.declared.cert.Tag.{Tag}
-use Rattle.mrt_graph.specs.declared.cert.Tag.TheVariants.{Above, Below, Carried, Sole, Unordered}
+use Rattle.mrt_graph.specs.declared.cert.Tag.TheVariants.{Above, Below, Head, Top, Unordered}
+use Rattle.mrt_graph.specs.declared.related.Relation.{Relation}
+use Rattle.mrt_graph.specs.declared.related.Relation.TheVariants.{Apart, FromHead, OneBlock, ToHead}
 use Rattle.mrt_graph.specs.Topology.{Topology}
 use Rattle.link_direction.specs.Directions.{Directions}
 use Rattle.inc_dec_spf.specs.declared.reach.Hop.{Hop}
 use Rattle.inc_dec_spf.specs.LeastPath.{HaveCommonBlockOfMoreLinks}
+use Rattle.order_repair.specs.ColorTable.{IsOfTable}
 use Rattle.order_repair.specs.OrderChoice.{IsRowFor}
 
--- a tag of a row for a node with which the source has a block of more than one link in common
-abbrev pub IsTagOfMoreLinks : Tag → Type 0
-IsTagOfMoreLinks Sole = ⊥
-IsTagOfMoreLinks Carried = ⊥
-IsTagOfMoreLinks tag = ⊤
+-- s and t have block k of more than one link in common, whose head is h, and this is the tag of the row of s for t
+pub record IsPair (g : Topology) (root : ℕ) (w : Directions) (s t : ℕ) (tag : Tag) (k h : ℕ) : Type 0 where
+  pub share : HaveCommonBlockOfMoreLinks g w s t k h
+  pub row : Row
+  pub its_row : IsRowFor g root w s t row
+  pub tag_is : row.tag ≡ tag
+  pub of_table : IsOfTable tag
 
--- s and t have a block of more than one link in common, and this is the tag of the row of s for t; or they have none
-pub data IsTagFor (g : Topology) (root : ℕ) (w : Directions) (s t : ℕ) : Option Tag → Type 0 where
-  Tagged : (k h : ℕ) (row : Row) → HaveCommonBlockOfMoreLinks g w s t k h → IsRowFor g root w s t row → IsTagFor g root w s t (Some row.tag)
-  NotShared : ((k h : ℕ) → ¬ HaveCommonBlockOfMoreLinks g w s t k h) → IsTagFor g root w s t None
+-- this is that tag; or they have no such block in common
+abbrev pub IsTagFor : Topology → ℕ → Directions → ℕ → ℕ → Option Tag → Type 0
+IsTagFor g root w s t (Some tag) = (k : ℕ) × (h : ℕ) × IsPair g root w s t tag k h
+IsTagFor g root w s t None = (k h : ℕ) → ¬ HaveCommonBlockOfMoreLinks g w s t k h
 
--- this tag where there is a hop, else none
-abbrev pub tag_where : Option Hop → Tag → Option Tag
-tag_where hop tag = option_map (λ _. tag) hop
-
--- the tag of a row for another node of the source's own block, by the hops up and down to it
-abbrev pub peer_tag : Option Hop → Option Hop → Tag
-peer_tag (Some up) down = Below
-peer_tag None (Some down) = Above
-peer_tag None None = Unordered
+-- that tag by what s is to t, and by the hops of s up and down to t
+abbrev pub tag_by : Relation → Option Hop → Option Hop → Option Tag
+tag_by OneBlock (Some up) down = Some Below
+tag_by OneBlock None (Some down) = Some Above
+tag_by OneBlock None None = Some Unordered
+tag_by ToHead (Some up) down = Some Head
+tag_by ToHead None down = None
+tag_by FromHead (Some up) down = Some Top
+tag_by FromHead None down = None
+tag_by Apart up down = None

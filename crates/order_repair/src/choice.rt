@@ -1,20 +1,21 @@
 //! The color that goes round a failure.
 
-ghost use Rattle.std.specs.Prelude.{◌≡◌, ◌<◌, ℕ, length};
-ghost use Rattle.mrt_graph.specs.{declared.cert.CertFile.CertFile, Alternate.UsesOn, Certificate.row_of, Reaches.Reaches};
+ghost use Rattle.std.specs.Prelude.{◌≡◌, ◌≢◌, ◌<◌, ℕ, length};
+ghost use Rattle.mrt_graph.specs.{declared.cert.CertFile.CertFile, declared.cert.Role.TheVariants.Sole, Alternate.UsesOn, Certificate.row_of, Reaches.Reaches};
 ghost use Rattle.link_direction.specs.Directions.{Directions};
 ghost use Rattle.inc_dec_spf.specs.HasDirections.{HasDirections};
 ghost use Rattle.mrt_rows.specs.{CertOf.IsCertOf, DirectedFrom.IsDirectedFrom};
-ghost use Rattle.order_repair.specs.{Source.AreHops, SourceView.AreHopsIn, SourceView.IsSourceIn, OrderChoice.IsOrderChoice, OrderChoice.LineFor, Tagging.IsTagOfMoreLinks};
-ghost use Rattle.order_repair.specs.Failed.{IsBetween, IsNotSole, IsWithin};
+ghost use Rattle.order_repair.specs.{Source.AreHops, SourceView.AreHopsIn, SourceView.IsSourceIn, OrderChoice.IsOrderChoice, OrderChoice.LinkLine};
+ghost use Rattle.order_repair.specs.{Failed.IsBetween, Failed.IsWithin, Tagging.IsPair};
 
-use crate::link_line::link_color;
-use crate::node_line::node_color;
+use crate::arrow::arrow_of;
+use crate::color_table::{closing_color, node_color, plain_color};
+use crate::order_tests::{link_tests, node_tests};
 use crate::pair::Pair;
 use crate::source_view::SourceView;
 use crate::tagging::tag_for;
 use inc_dec_spf::Reach;
-use mrt_graph::{Color, Directed, Element, Graph, NodeNo};
+use mrt_graph::{Color, Directed, Element, Graph, LinkNo, NodeNo, Role};
 
 /// The color of `source` for `to` where an element of their common block has failed: a node of it other than the two, its
 /// head included, or a link of it. The block has more than one link, and `up` and `down` are the hops of `source`. Where
@@ -69,12 +70,31 @@ pub fn color_for(view: &SourceView, pair: &Pair, failed: Element) -> Color
     requires source { IsSourceIn view.now pair.now.source }
     requires to { pair.now.to < length view.now.graph.now.ids }
     requires failed { IsWithin view.now.graph.now failed }
-    requires more { IsTagOfMoreLinks pair.now.tag }
-    ensures { (root : ℕ) (w : Directions) → AreHopsIn view.now root w pair.now.source → IsNotSole w failed
-        → LineFor pair.now.tag view.now.graph.now w pair.now.source pair.now.to failed result }
+    ensures { (root : ℕ) (w : Directions) (k h : ℕ) → AreHopsIn view.now root w pair.now.source
+        → IsPair view.now.graph.now root w pair.now.source pair.now.to pair.now.tag k h
+        → IsBetween view.now.graph.now w pair.now.source pair.now.to failed
+        → IsOrderChoice view.now.graph.now root w pair.now.source pair.now.to failed result }
 {
     match failed {
-        Element::Node(failed) => node_color(view, pair, failed),
+        Element::Node(failed) => node_color(pair.tag, &node_tests(view, pair, failed)),
         Element::Link(failed) => link_color(view, pair, failed),
+    }
+}
+
+/// The color for a pair where a link of their block has failed.
+fn link_color(view: &SourceView, pair: &Pair, failed: LinkNo) -> Color
+    requires source { IsSourceIn view.now pair.now.source }
+    requires to { pair.now.to < length view.now.graph.now.ids }
+    requires failed { failed < length view.now.graph.now.links }
+    ensures { (root : ℕ) (w : Directions) → AreHopsIn view.now root w pair.now.source
+        → w.role failed ≢ Sole → LinkLine pair.now.tag view.now.graph.now w pair.now.source pair.now.to failed result }
+{
+    let mark = view.directed.mark(failed);
+    match mark.role {
+        Role::Closing => closing_color(pair.tag),
+        _ => {
+            let arrow = arrow_of(view.graph.link(failed), mark.way);
+            plain_color(pair.tag, &link_tests(view, pair, arrow))
+        }
     }
 }

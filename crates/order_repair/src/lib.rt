@@ -1,14 +1,14 @@
 //! Repairs by order: which color goes round a failure, told without following a walk.
 #![tactic(auto)]
 
+mod arrow;
 mod block_lists;
 mod chains;
 mod choice;
-mod colors;
+mod color_table;
 mod line;
-mod link_line;
-mod node_line;
 mod order_law;
+mod order_tests;
 mod pair;
 mod reached;
 mod source_view;

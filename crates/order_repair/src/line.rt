@@ -1,21 +1,19 @@
 //! The line on a node with which the router has a block of more than one link in common.
 
-ghost use Rattle.std.specs.Prelude.{◌≡◌, ◌≢◌, ◌<◌, ◌≤◌, ◌↔◌, ℕ, List, IfOk, IsTrue, Some, length, slice_get};
-ghost use Rattle.mrt_graph.specs.{declared.gadag.Place.Place, declared.cert.Tag.TheVariants.Top, Separates.IsNeitherEnd};
+ghost use Rattle.std.specs.Prelude.{◌≡◌, ◌<◌, ◌≤◌, ◌↔◌, ℕ, List, IfOk, IsTrue, length};
+ghost use Rattle.mrt_graph.specs.{declared.gadag.Place.Place, Separates.IsNeitherEnd};
 ghost use Rattle.link_direction.specs.Directions.{Directions};
-ghost use Rattle.inc_dec_spf.specs.HasDirections.{HasDirections};
+ghost use Rattle.inc_dec_spf.specs.{HasDirections.AreDirections, HasDirections.HasDirections, LeastPath.HaveCommonBlockOfMoreLinks};
 ghost use Rattle.text_parts.specs.Adds.{Adds};
 ghost use Rattle.order_repair.specs.{BlockLists.AreBlockLists, BlockLists.node_blocks, Chains.IsNext, Failed.IsWithin, Failed.LiesIn};
-ghost use Rattle.order_repair.specs.{OrderText.IsLetter, OrderText.IsLine, SourceView.AreHopsIn, SourceView.IsSourceIn};
-ghost use Rattle.order_repair.specs.Tagging.{IsTagOfMoreLinks, IsTagFor};
-ghost use Rattle.order_repair.specs.Blocks.{IsPair, LinkLetters, NodeLetters};
+ghost use Rattle.order_repair.specs.{OrderText.IsLetter, OrderText.IsLine, OrderText.letter_of, SourceView.AreHopsIn, SourceView.IsSourceIn};
+ghost use Rattle.order_repair.specs.{Tagging.IsPair, Blocks.LinkLetters, Blocks.NodeLetters};
 
 use crate::block_lists::BlockLists;
 use crate::choice::color_for;
-use crate::colors::letter;
 use crate::pair::Pair;
 use crate::source_view::SourceView;
-use mrt_graph::{Directed, Element, Graph, LinkNo, NoMemory, NodeNo, Place, Tag};
+use mrt_graph::{Color, Directed, Element, Graph, LinkNo, NoMemory, NodeNo, Place};
 use text_parts::{push, push_node};
 
 /// Puts the line on a pair's destination at the end of a text.
@@ -28,9 +26,8 @@ pub fn push_line(
     requires source { IsSourceIn view.now pair.now.source }
     requires lists { AreBlockLists view.now.directed.now lists.now }
     requires to { pair.now.to < length view.now.graph.now.ids }
-    requires more { IsTagOfMoreLinks pair.now.tag }
     ensures { (root : ℕ) (w : Directions) → AreHopsIn view.now root w pair.now.source
-        → IsTagFor view.now.graph.now root w pair.now.source pair.now.to (Some pair.now.tag)
+        → (k h : ℕ) → IsPair view.now.graph.now root w pair.now.source pair.now.to pair.now.tag k h
         → IfOk result (λ _. Adds (IsLine view.now.graph.now root w pair.now.source pair.now.to)
         text.old.items text.new.items) }
 {
@@ -49,14 +46,15 @@ fn block_of(g: &Graph, d: &Directed, pair: &Pair) -> Place
     requires directed { HasDirections g.now d.now }
     requires source { pair.now.source < length g.now.ids }
     requires to { pair.now.to < length g.now.ids }
-    ensures top { pair.now.tag ≡ Top → slice_get d.now.places pair.now.to ≡ Some result }
-    ensures other { pair.now.tag ≢ Top → slice_get d.now.places pair.now.source ≡ Some result }
+    ensures block { (root : ℕ) (w : Directions) → AreDirections g.now d.now root w → (k h : ℕ)
+        → HaveCommonBlockOfMoreLinks g.now w pair.now.source pair.now.to k h → (result.block ≡ k) × (result.head ≡ h) }
     ensures within { result.block < length g.now.ids }
 {
-    match pair.tag {
-        Tag::Top => d.place(pair.to),
-        _ => d.place(pair.source),
+    let there = d.place(pair.to);
+    if there.head == pair.source {
+        return there;
     }
+    d.place(pair.source)
 }
 
 /// Puts the letters of the block's nodes at the end of a text.
@@ -70,10 +68,9 @@ fn push_node_letters(
     requires source { IsSourceIn view.now pair.now.source }
     requires lists { AreBlockLists view.now.directed.now lists.now }
     requires to { pair.now.to < length view.now.graph.now.ids }
-    requires more { IsTagOfMoreLinks pair.now.tag }
     requires block { place.now.block < length view.now.graph.now.ids }
     ensures { (root : ℕ) (w : Directions) → AreHopsIn view.now root w pair.now.source
-        → IsPair view.now.graph.now root w pair.now.source pair.now.to pair.now.tag place.now
+        → IsPair view.now.graph.now root w pair.now.source pair.now.to pair.now.tag place.now.block place.now.head
         → IfOk result (λ _. Adds
         (NodeLetters view.now.graph.now root w pair.now place.now (length view.now.graph.now.ids))
         text.old.items text.new.items) }
@@ -102,10 +99,9 @@ fn push_head_letter(
 ) -> Result<(), NoMemory>
     requires source { IsSourceIn view.now pair.now.source }
     requires to { pair.now.to < length view.now.graph.now.ids }
-    requires more { IsTagOfMoreLinks pair.now.tag }
     requires none { IsNext (node_blocks view.now.directed.now) place.now.block from until }
     ensures { (root : ℕ) (w : Directions) (before : List ℕ) → AreHopsIn view.now root w pair.now.source
-        → IsPair view.now.graph.now root w pair.now.source pair.now.to pair.now.tag place.now
+        → IsPair view.now.graph.now root w pair.now.source pair.now.to pair.now.tag place.now.block place.now.head
         → Adds (NodeLetters view.now.graph.now root w pair.now place.now from) before text.old.items
         → IfOk result (λ _. Adds (NodeLetters view.now.graph.now root w pair.now place.now until)
         before text.new.items) }
@@ -134,10 +130,9 @@ fn push_link_letters(
     requires source { IsSourceIn view.now pair.now.source }
     requires lists { AreBlockLists view.now.directed.now lists.now }
     requires to { pair.now.to < length view.now.graph.now.ids }
-    requires more { IsTagOfMoreLinks pair.now.tag }
     requires block { place.now.block < length view.now.graph.now.ids }
     ensures { (root : ℕ) (w : Directions) → AreHopsIn view.now root w pair.now.source
-        → IsPair view.now.graph.now root w pair.now.source pair.now.to pair.now.tag place.now
+        → IsPair view.now.graph.now root w pair.now.source pair.now.to pair.now.tag place.now.block place.now.head
         → IfOk result (λ _. Adds
         (LinkLetters view.now.graph.now root w pair.now place.now (length view.now.graph.now.links))
         text.old.items text.new.items) }
@@ -160,10 +155,9 @@ fn push_letter(
 ) -> Result<(), NoMemory>
     requires source { IsSourceIn view.now pair.now.source }
     requires to { pair.now.to < length view.now.graph.now.ids }
-    requires more { IsTagOfMoreLinks pair.now.tag }
     requires within { IsWithin view.now.graph.now x.now }
     ensures { (root : ℕ) (w : Directions) (place : Place) → AreHopsIn view.now root w pair.now.source
-        → IsPair view.now.graph.now root w pair.now.source pair.now.to pair.now.tag place
+        → IsPair view.now.graph.now root w pair.now.source pair.now.to pair.now.tag place.block place.head
         → LiesIn view.now.graph.now w place.block place.head x.now
         → IfOk result (λ _. Adds
         (IsLetter view.now.graph.now root w pair.now.source pair.now.to place.block place.head x.now)
@@ -183,5 +177,15 @@ fn is_neither_end(pair: &Pair, x: &Element) -> bool
     match x {
         Element::Node(f) => *f != pair.source && *f != pair.to,
         Element::Link(_) => true,
+    }
+}
+
+/// The letter of a color.
+fn letter(color: Color) -> &'static [u8]
+    ensures { result.now ≡ letter_of color }
+{
+    match color {
+        Color::Blue => b"b",
+        Color::Red => b"r",
     }
 }

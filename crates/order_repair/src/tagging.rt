@@ -1,9 +1,9 @@
 //! The tag of the row for a node with which the source has a block of more than one link in common.
 
-ghost use Rattle.std.specs.Prelude.{◌≡◌, ◌<◌, ℕ, IfSome, length};
+ghost use Rattle.std.specs.Prelude.{◌≡◌, ◌<◌, ℕ, length};
 ghost use Rattle.link_direction.specs.Directions.{Directions};
 ghost use Rattle.order_repair.specs.SourceView.{AreHopsIn, IsSourceIn};
-ghost use Rattle.order_repair.specs.Tagging.{IsTagOfMoreLinks, IsTagFor, peer_tag, tag_where};
+ghost use Rattle.order_repair.specs.Tagging.{IsTagFor, tag_by};
 
 use crate::source_view::SourceView;
 use inc_dec_spf::Hop;
@@ -13,38 +13,28 @@ use mrt_graph::{NodeNo, Relation, Tag, relation_of};
 pub fn tag_for(view: &SourceView, s: NodeNo, t: NodeNo) -> Option<Tag>
     requires source { IsSourceIn view.now s }
     requires to { t < length view.now.graph.now.ids }
-    ensures tag { (root : ℕ) (w : Directions) → AreHopsIn view.now root w s
+    ensures { (root : ℕ) (w : Directions) → AreHopsIn view.now root w s
         → IsTagFor view.now.graph.now root w s t result }
-    ensures more { IfSome result IsTagOfMoreLinks }
 {
     if s == t {
         return None;
     }
     let here = view.directed.place(s);
     let there = view.directed.place(t);
-    match relation_of(s, &here, t, &there) {
-        Relation::OneBlock => Some(peer_tag(view.up.hop(t), view.down.hop(t))),
-        Relation::ToHead => tag_where(view.up.hop(t), Tag::Head),
-        Relation::FromHead => tag_where(view.up.hop(t), Tag::Top),
-        Relation::Apart => None,
-    }
+    let relation = relation_of(s, &here, t, &there);
+    tag_by(relation, view.up.hop(t), view.down.hop(t))
 }
 
-/// This tag, where there is a hop.
-fn tag_where(hop: Option<Hop>, tag: Tag) -> Option<Tag>
-    ensures { result ≡ tag_where hop tag }
+/// That tag by what the source is to the other node, and by its hops up and down to it.
+fn tag_by(relation: Relation, up: Option<Hop>, down: Option<Hop>) -> Option<Tag>
+    ensures { result ≡ tag_by relation up down }
 {
-    let _hop = hop?;
-    Some(tag)
-}
-
-/// The tag of the row for another node of the source's own block, by the hops up and down to it.
-fn peer_tag(up: Option<Hop>, down: Option<Hop>) -> Tag
-    ensures { result ≡ peer_tag up down }
-{
-    match (up, down) {
-        (Some(_), _) => Tag::Below,
-        (None, Some(_)) => Tag::Above,
-        (None, None) => Tag::Unordered,
+    match (relation, up, down) {
+        (Relation::OneBlock, Some(_), _) => Some(Tag::Below),
+        (Relation::OneBlock, None, Some(_)) => Some(Tag::Above),
+        (Relation::OneBlock, None, None) => Some(Tag::Unordered),
+        (Relation::ToHead, Some(_), _) => Some(Tag::Head),
+        (Relation::FromHead, Some(_), _) => Some(Tag::Top),
+        (Relation::ToHead | Relation::FromHead, None, _) | (Relation::Apart, _, _) => None,
     }
 }

@@ -1,15 +1,16 @@
-use Rattle.std.proofs.Common.{refl}
-use Rattle.mrt_rows.proofs.OrderedGraphs.{graph_of}
+use Rattle.std.proofs.Common.{ℕ, refl, sym, subst}
 use Rattle.text_parts.proofs.Adding.{joined}
-use Rattle.order_repair.proofs.Pairs.{pair_is}
+use Rattle.order_repair.specs.Tagging.{IsPair}
 use Rattle.order_repair.proofs.line.push_line.Goals as goal
 
 pub returns : goal.returns
-returns c = λ root w hops tagged.
+returns c = λ root w hops k h of_pair.
     let g = c.args.view.now.graph.now in
-    let og = graph_of g root w c.args.view.now.directed.now c.requires.source.kept hops.are in
-    let pair = pair_is og c.args.view.now.directed.now hops.are.says c.args.pair.now.source c.args.pair.now.to c.requires.source.within c.requires.to
-    c.args.pair.now.tag c.block_of-place.result c.block_of-place.ensures.top c.block_of-place.ensures.other _ tagged refl in
+    let place = c.block_of-place.result in
+    let same = c.block_of-place.ensures.block root w hops.are k h of_pair.share in
+    let pair =
+    subst (λ (x : ℕ). IsPair g root w c.args.pair.now.source c.args.pair.now.to c.args.pair.now.tag place.block x) (sym same.1)
+    (subst (λ (x : ℕ). IsPair g root w c.args.pair.now.source c.args.pair.now.to c.args.pair.now.tag x h) (sym same.0) of_pair) in
     let nodes = c.in_ok-push_node_letters.ensures root w hops pair in
     let links = c.in_ok-push_link_letters.ensures root w hops pair in
     record {

@@ -4,6 +4,8 @@ use Rattle.mrt_graph.specs.Topology.{Topology}
 use Rattle.link_direction.specs.OrderedGadag.{SaysOrdered}
 use Rattle.inc_dec_spf.specs.HasDirections.{HasDirections}
 use Rattle.inc_dec_spf.proofs.SameDirections.{directions_are}
+use Rattle.mrt_rows.specs.Said.{directions_of}
+use Rattle.mrt_rows.proofs.Rooting.{rooted_by}
 use Rattle.order_repair.specs.Source.{AreHops}
 use Rattle.order_repair.proofs.text.order_text.Goals as goal
 
@@ -43,6 +45,7 @@ returns-clause-by_words c = λ w says.
 
 pub returns-clause-of_graph : goal.returns-clause-of_graph
 returns-clause-of_graph c = λ from_root.
-    let w = c.requires.directed.directions in
-    let says = c.requires.directed.says in
-    record { directed = c.args.d.now; from_root = from_root; words = w; says = says; is = returns-clause-by_words c w says }
+    let g = c.args.g.now in
+    let d = c.args.d.now in
+    let rooted = rooted_by g c.args.root d c.node_count-count.ensures.kept c.requires.directed in
+    record { directed = d; from_root = from_root; is = returns-clause-by_words c (directions_of g d) rooted.says }
