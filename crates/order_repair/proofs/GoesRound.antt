@@ -84,54 +84,43 @@ module _ (og : OrderedGraph) (file : CertFile) (tells : Tells og.g og.root og.w 
           (accepted_sound og.g og.root file (accepted og.g og.root og.w file og.kept og.ordered tells) s t s_within t_within
           two).red
 
--- a graph with what its directions say, and its certificate, which tells the same
-pub record Certified (g : Topology) (root : ℕ) (w : Directions) (file : CertFile) : Type 0 where
-  pub ordered : IsOrderedGadag g root w
-  pub tells : Tells g root w file
-
-pub certified : (g : Topology) (root : ℕ) (d : DirectedLists) (w : Directions) (file : CertFile) → IsTopology g
-    → root < length g.ids → IsDirectedFrom g root d → Says g d w → IsCertOf g root file → Certified g root w file
-certified g root d w file kept within from says is =
-    let ears : IsFromEars g root from.gadag =
-    record { tree = from.tree; search = from.searched; is_gadag = from.by_ears } in
-    let laid = says_ordered g root from.gadag d kept within ears from.in_order in
-    let ordered =
-    ordered_too g root laid.directions w kept (said_alike g d laid.directions w laid.says says) laid.ordered in
-    let og : OrderedGraph = record { g = g; root = root; w = w; kept = kept; ordered = ordered } in
-    let made : IsCertOf g root (whole_file og) =
-    record {
-      tree = from.tree;
-      searched = from.searched;
-      gadag = from.gadag;
-      by_ears = from.by_ears;
-      directed = d;
-      in_order = from.in_order;
-      words = w;
-      says = says;
-      tells = whole_tells og;
-    } in
-    record {
-      ordered = ordered;
-      tells = subst (λ (f : CertFile). Tells g root w f)
-          (one_cert_of g root (whole_file og) file kept within made is) (whole_tells og);
-    }
+abbrev pub graph_with : (g : Topology) (root : ℕ) (w : Directions) → IsTopology g → IsOrderedGadag g root w → OrderedGraph
+graph_with g root w kept ordered = record { g = g; root = root; w = w; kept = kept; ordered = ordered }
 
 -- so in the graph's certificate, for a color that is chosen by its directions
 module _ (g : Topology) (root : ℕ) (d : DirectedLists) (w : Directions) (file : CertFile) (kept : IsTopology g)
     (within : root < length g.ids) (from : IsDirectedFrom g root d) (says : Says g d w) (is : IsCertOf g root file)
     (s t : ℕ) (x : Element) (color : Color) (choice : IsOrderChoice g root w s t x color) where
-  it : Certified g root w file
-  it = certified g root d w file kept within from says is
+  ears : IsFromEars g root from.gadag
+  ears = record { tree = from.tree; search = from.searched; is_gadag = from.by_ears }
+
+  ordered : IsOrderedGadag g root w
+  ordered =
+      let laid = says_ordered g root from.gadag d kept within ears from.in_order in
+      ordered_too g root laid.directions w kept (said_alike g d laid.directions w laid.says says) laid.ordered
+
+  abbrev og : OrderedGraph
+  og = graph_with g root w kept ordered
+
+  -- the certificate tells the same
+  tells : Tells g root w file
+  tells = subst (λ (f : CertFile). Tells g root w f) (one_cert_of g root (whole_file og) file kept within made is) (whole_tells og)
+    where
+      made : IsCertOf g root (whole_file og)
+      made = record {
+        tree = from.tree;
+        searched = from.searched;
+        gadag = from.gadag;
+        by_ears = from.by_ears;
+        directed = d;
+        in_order = from.in_order;
+        words = w;
+        says = says;
+        tells = whole_tells og;
+      }
 
   pub reaches_in_certificate : Reaches g.links (length g.ids) (row_of file.cert) color s t
-  reaches_in_certificate =
-      arrives (record { g = g; root = root; w = w; kept = kept; ordered = it.ordered }) file it.tells s t
-      choice.between.source choice.between.target choice.between.share.two color
+  reaches_in_certificate = arrives og file tells s t choice.between.source choice.between.target choice.between.share.two color
 
   pub round_in_certificate : ¬ UsesOn g.links (length g.ids) (row_of file.cert) s t x color
-  round_in_certificate =
-      goes_round (record { g = g; root = root; w = w; kept = kept; ordered = it.ordered }) file it.tells s t
-      choice.between.source choice.between.target x color choice
-
-abbrev pub graph_with : (g : Topology) (root : ℕ) (w : Directions) → IsTopology g → IsOrderedGadag g root w → OrderedGraph
-graph_with g root w kept ordered = record { g = g; root = root; w = w; kept = kept; ordered = ordered }
+  round_in_certificate = goes_round og file tells s t choice.between.source choice.between.target x color choice

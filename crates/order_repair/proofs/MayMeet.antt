@@ -17,7 +17,7 @@ use Rattle.mrt_rows.proofs.WaysBegun.{Sharing, peers}
 use Rattle.order_repair.proofs.Avoiding.{Goes, hop_is}
 use Rattle.order_repair.proofs.Moving.{aside_way, dir_of, head_way, out_way, over, past_way, peer_way, under, way_or_not}
 use Rattle.order_repair.proofs.RowWays.{RowWays, row_ways}
-use Rattle.order_repair.proofs.Steps.{IsFrom, IsHome, IsInner, IsOut, IsOver, first_step, from_on, one_step, out_step, peer_step, way_back, way_on}
+use Rattle.order_repair.proofs.Steps.{IsFrom, IsHome, IsInner, IsOut, IsOver, first_step, from_itself, from_on, one_step, out_step, peer_step, way_back, way_on}
 
 -- a link that is crossed in this direction: a plain one, or a closing one, where that may be
 pub data Crossed (Closes : Type 0) (og : OrderedGraph) (m : ℕ) (dir : Dir) (e u y : ℕ) : Type 0 where
@@ -78,6 +78,21 @@ module _ (og : OrderedGraph) (m : ℕ) (ring : Ring og m) (rows : Rows) (t : ℕ
       → next u ≡ Some (record { link = link_at u at; to = y })
   takes d u y at over = hop_is og.g.links rows color t u at.row y at.is over.onward
 
+  -- the hop of a row, and what keeps more where less is kept
+  goes : (May : ℕ → Type 0) (Crosses : ℕ → ℕ → ℕ → Type 0) (d : Dir) (u y : ℕ) (at : RowAt u) → IsOver og m d (link_at u at) u y → (y ≡ t) ⊎ May y
+      → Crosses (link_at u at) u y → Goes next May Crosses t u
+  goes May Crosses d u y at over keeps crosses =
+      record { hop = record { link = link_at u at; to = y }; takes = takes d u y at over; keeps = keeps; crosses = crosses }
+
+  onward : (May Too : ℕ → Type 0) (Crosses Also : ℕ → ℕ → ℕ → Type 0) (u : ℕ) → ((y : ℕ) → May y → Too y)
+      → ((e y : ℕ) → Crosses e u y → Also e u y) → Goes next May Crosses t u → Goes next Too Also t u
+  onward May Too Crosses Also u keep cross go = record {
+    hop = go.hop;
+    takes = go.takes;
+    keeps = elim go.keeps [ inl there ↦ inl there | inr on ↦ inr (keep go.hop.to on) ];
+    crosses = cross go.hop.link go.hop.to go.crosses;
+  }
+
   -- to the head
   abbrev pub MayHead : ℕ → ℕ → Type 0
   MayHead s u = Inside og m u × IsFrom og dir s u
@@ -87,18 +102,12 @@ module _ (og : OrderedGraph) (m : ℕ) (ring : Ring og m) (rows : Rows) (t : ℕ
       let at = row_at u (under og m ring t u may.0 home) in
       let way = head_way og m ring t at.row u color at.ways may.0 home in
       elim (first_step og m ring dir u h (link_at u at) may.0 way) [
-        | inl inner ↦ record {
-          hop = record { link = link_at u at; to = way.end.to };
-          takes = takes dir u way.end.to at inner.over;
-          keeps = inr (inner.inside, from_on og dir s u way.end.to may.1 inner.beyond);
-          crosses = Plainly inner.over inner.plain;
-        }
-        | inr last ↦ record {
-          hop = record { link = link_at u at; to = way.end.to };
-          takes = takes dir u way.end.to at last.over;
-          keeps = inl (last.there ∙ sym home);
-          crosses = crossed_home og m ring.closed.greatest dir (link_at u at) u way.end.to last;
-        }
+        | inl inner ↦
+            goes (MayHead s) (Crossed (dir ≡ Up) og m dir) dir u way.end.to at inner.over
+            (inr (inner.inside, from_on og dir s u way.end.to may.1 inner.beyond)) (Plainly inner.over inner.plain)
+        | inr last ↦
+            goes (MayHead s) (Crossed (dir ≡ Up) og m dir) dir u way.end.to at last.over (inl (last.there ∙ sym home))
+            (crossed_home og m ring.closed.greatest dir (link_at u at) u way.end.to last)
       ]
 
   module _ (target : Inside og m t) where
@@ -114,15 +123,9 @@ module _ (og : OrderedGraph) (m : ℕ) (ring : Ring og m) (rows : Rows) (t : ℕ
         let at = row_at u (beside u may.0 other) in
         let way = peer_way og m ring t at.row u may.0 target color at.ways may.1 in
         let step = peer_step og m ring dir u t (link_at u at) may.0 target way in
-        record {
-          hop = record { link = link_at u at; to = way.end.to };
-          takes = takes dir u way.end.to at step.inner.over;
-          keeps = elim step.rest [
-            | inl there ↦ inl there
-            | inr rest ↦ inr (step.inner.inside, rest, from_on og dir s u way.end.to may.2 step.inner.beyond)
-          ];
-          crosses = Plainly step.inner.over step.inner.plain;
-        }
+        goes (MayPeer s) (Crossed ⊥ og m dir) dir u way.end.to at step.inner.over
+        (elim step.rest [ inl there ↦ inl there | inr rest ↦ inr (step.inner.inside, rest, from_on og dir s u way.end.to may.2 step.inner.beyond) ])
+        (Plainly step.inner.over step.inner.plain)
 
     -- from the head on, where that may be met
     abbrev pub MayAfter : Type 0 → ℕ → Type 0
@@ -136,28 +139,12 @@ module _ (og : OrderedGraph) (m : ℕ) (ring : Ring og m) (rows : Rows) (t : ℕ
           let way = out_way og m ring t at.row u color at.ways home.1 target in
           let step = out_step og m ring dir t (link_at u at) target way in
           let out = subst (λ (x : ℕ). IsOut og m dir (link_at u at) x way.end.to) (sym home.1) step.out in
-          record {
-            hop = record { link = link_at u at; to = way.end.to };
-            takes = takes dir u way.end.to at out.over;
-            keeps = elim step.rest [
-              | inl there ↦ inl there
-              | inr rest ↦ inr (inr (out.inside, rest))
-            ];
-            crosses = crossed_out og m dir (link_at u at) u way.end.to out;
-          }
+          goes (MayAfter AtHead) (Crossed (dir ≡ Down) og m dir) dir u way.end.to at out.over
+          (elim step.rest [ inl there ↦ inl there | inr rest ↦ inr (inr (out.inside, rest)) ]) (crossed_out og m dir (link_at u at) u way.end.to out)
       | inr on ↦
-          let at = row_at u (beside u on.0 other) in
-          let way = peer_way og m ring t at.row u on.0 target color at.ways on.1 in
-          let step = peer_step og m ring dir u t (link_at u at) on.0 target way in
-          record {
-            hop = record { link = link_at u at; to = way.end.to };
-            takes = takes dir u way.end.to at step.inner.over;
-            keeps = elim step.rest [
-              | inl there ↦ inl there
-              | inr rest ↦ inr (inr (step.inner.inside, rest))
-            ];
-            crosses = Plainly step.inner.over step.inner.plain;
-          }
+          onward (MayPeer u) (MayAfter AtHead) (Crossed ⊥ og m dir) (Crossed (dir ≡ Down) og m dir) u (λ y keeps. inr (keeps.0, keeps.1))
+          (λ e y crossed. crossed_too ⊥ (dir ≡ Down) (λ none. absurd none) og m dir e u y crossed)
+          (goes_peer u u (on.0, on.1, from_itself og dir u) other)
     ]
 
     -- home to the head, from a node from which a way leads to t against the color's direction
@@ -170,32 +157,17 @@ module _ (og : OrderedGraph) (m : ℕ) (ring : Ring og m) (rows : Rows) (t : ℕ
           let at = row_at u (beside u back.0 other) in
           let way = past_way og m ring t at.row u back.0 target color at.ways back.1 in
           elim (first_step og m ring dir u h (link_at u at) back.0 way) [
-            | inl inner ↦ record {
-              hop = record { link = link_at u at; to = way.end.to };
-              takes = takes dir u way.end.to at inner.over;
-              keeps = inr (inl (
-                inner.inside,
-                way_back og m ring dir (link_at u at) u way.end.to t back.0 inner.over back.1,
-                from_on og dir s u way.end.to back.2 inner.beyond,
-              ));
-              crosses = Plainly inner.over inner.plain;
-            }
-            | inr last ↦ record {
-              hop = record { link = link_at u at; to = way.end.to };
-              takes = takes dir u way.end.to at last.over;
-              keeps = inr (inr (inl (tt, last.there)));
-              crosses = crossed_too (dir ≡ Up) ⊤ (λ p. tt) og m dir (link_at u at) u way.end.to
-                  (crossed_home og m ring.closed.greatest dir (link_at u at) u way.end.to last);
-            }
+            | inl inner ↦
+                goes (MayPast s) (Crossed ⊤ og m dir) dir u way.end.to at inner.over
+                (inr (inl (inner.inside, way_back og m ring dir (link_at u at) u way.end.to t back.0 inner.over back.1, from_on og dir s u way.end.to back.2 inner.beyond)))
+                (Plainly inner.over inner.plain)
+            | inr last ↦
+                goes (MayPast s) (Crossed ⊤ og m dir) dir u way.end.to at last.over (inr (inr (inl (tt, last.there))))
+                (crossed_too (dir ≡ Up) ⊤ (λ p. tt) og m dir (link_at u at) u way.end.to (crossed_home og m ring.closed.greatest dir (link_at u at) u way.end.to last))
           ]
       | inr after ↦
-          let go = goes_after ⊤ u after other in
-          record {
-            hop = go.hop;
-            takes = go.takes;
-            keeps = elim go.keeps [ inl there ↦ inl there | inr on ↦ inr (inr on) ];
-            crosses = crossed_too (dir ≡ Down) ⊤ (λ p. tt) og m dir go.hop.link u go.hop.to go.crosses;
-          }
+          onward (MayAfter ⊤) (MayPast s) (Crossed (dir ≡ Down) og m dir) (Crossed ⊤ og m dir) u (λ y on. inr on)
+          (λ e y crossed. crossed_too (dir ≡ Down) ⊤ (λ p. tt) og m dir e u y crossed) (goes_after ⊤ u after other)
     ]
 
     -- a node to which a way leads from s against the color's direction, and from which none leads to t
@@ -264,27 +236,15 @@ module _ (og : OrderedGraph) (m : ℕ) (ring : Ring og m) (rows : Rows) (t : ℕ
           let at = row_at u (beside u aside.inside other) in
           let way = aside_way og m ring t at.row u aside.inside target color at.ways aside.none_up aside.none_down in
           elim (first_step og m ring (against dir) u h (link_at u at) aside.inside way) [
-            | inl inner ↦ record {
-              hop = record { link = link_at u at; to = way.end.to };
-              takes = takes (against dir) u way.end.to at inner.over;
-              keeps = aside_on s u way.end.to (link_at u at) aside inner;
-              crosses = Back aside inner.over inner.plain;
-            }
+            | inl inner ↦
+                goes (MayAside s) (CrossedAside s) (against dir) u way.end.to at inner.over (aside_on s u way.end.to (link_at u at) aside inner)
+                (Back aside inner.over inner.plain)
             | inr last ↦
                 let home = aside_home color refl s u way.end.to (link_at u at) aside other last in
-                record {
-                  hop = record { link = link_at u at; to = way.end.to };
-                  takes = takes (against dir) u way.end.to at last.over;
-                  keeps = inr (inr (inl (home.0, home.1)));
-                  crosses = Back aside last.over home.2;
-                }
+                goes (MayAside s) (CrossedAside s) (against dir) u way.end.to at last.over (inr (inr (inl (home.0, home.1))))
+                (Back aside last.over home.2)
           ]
       | inr after ↦
-          let go = goes_after (dir ≡ Up) u after other in
-          record {
-            hop = go.hop;
-            takes = go.takes;
-            keeps = elim go.keeps [ inl there ↦ inl there | inr on ↦ inr (inr on) ];
-            crosses = On after go.crosses;
-          }
+          onward (MayAfter (dir ≡ Up)) (MayAside s) (Crossed (dir ≡ Down) og m dir) (CrossedAside s) u (λ y on. inr on)
+          (λ e y crossed. On after crossed) (goes_after (dir ≡ Up) u after other)
     ]

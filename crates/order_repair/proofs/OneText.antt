@@ -107,15 +107,8 @@ module _ (og : OrderedGraph) (s : ℕ) (s_within : s < length og.g.ids) where
       let t_within = slice_get_within og.g.ids t is.id is.id_is in
       let same =
       one_common og s t is.block is.head is'.block is'.head s_within t_within is.share.two is.share.common is'.share.common in
-      let nodes_are =
-      subst (λ (x : ℕ). AreParts (λ f. IsLetter og.g og.root og.w s t is'.block x (elements.Node f)) n is.nodes) same.1
-      (subst (λ (x : ℕ). AreParts (λ f. IsLetter og.g og.root og.w s t x is.head (elements.Node f)) n is.nodes) same.0
-      is.nodes_are) in
-      let links_are =
-      subst (λ (x : ℕ). AreParts (λ e. IsLetter og.g og.root og.w s t is'.block x (elements.Link e)) (length og.g.links) is.links)
-      same.1
-      (subst (λ (x : ℕ). AreParts (λ e. IsLetter og.g og.root og.w s t x is.head (elements.Link e)) (length og.g.links) is.links)
-      same.0 is.links_are) in
+      let nodes_are = rw (same.0, same.1) at is.nodes_are in
+      let links_are = rw (same.0, same.1) at is.links_are in
       let nodes : is.nodes ≡ is'.nodes =
       one_text_of_parts (λ f. IsLetter og.g og.root og.w s t is'.block is'.head (elements.Node f))
       (λ f. one_letter t is'.block is'.head t_within is'.share (elements.Node f)) n is.nodes is'.nodes nodes_are is'.nodes_are in
