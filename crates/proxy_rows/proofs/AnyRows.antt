@@ -18,9 +18,11 @@ use Rattle.proxy_rows.specs.declared.side.Side.{Side}
 use Rattle.proxy_rows.specs.declared.side.Side.TheVariants.{Low, High}
 use Rattle.proxy_rows.specs.declared.words.Words.{Words}
 use Rattle.proxy_rows.specs.Attachment.{IsAttachment}
-use Rattle.proxy_rows.specs.Ends.{HasNoEnd}
+use Rattle.proxy_rows.specs.declared.ends.Wanted.{Wanted}
+use Rattle.proxy_rows.specs.declared.ends.Wanted.TheVariants.{NotPlain, Onward as Along, PlainToLow}
+use Rattle.proxy_rows.specs.Ends.{HasNoEnd, IsWanted}
 use Rattle.proxy_rows.specs.Ground.{IsGround}
-use Rattle.proxy_rows.specs.ProxyRows.{IsHeadRed, Closing, OneLink, IsOnward, IsPlainToLow}
+use Rattle.proxy_rows.specs.ProxyRows.{IsHeadRed, Closing, OneLink}
 use Rattle.proxy_rows.specs.ReadFrom.{ReadFrom}
 use Rattle.proxy_rows.specs.Sides.{IsIn, Router, Onward, goes_on}
 use Rattle.proxy_rows.specs.Words.{AreAccepted, AreReadWith, with_rows}
@@ -37,13 +39,12 @@ module _ (words : Words) (at : Attachment) (one other : List Row) where
   on_side side s (Onward _ e v is of onward on rest) = Onward s e v is of onward (goes side s v on) (on_side side v rest)
 
   -- the ends that are asked for
-  pub onward_end : (side : Side) (s : ℕ) (end : End) → IsOnward words.graph.now (with_rows words one) at side s end
-      → IsOnward words.graph.now (with_rows words other) at side s end
-  onward_end side s end is =
-      record { of_block = is.of_block; within = on_side side end.to is.within; onward = goes side s end.to is.onward }
-
-  pub plain_end : (end : End) → IsPlainToLow words.graph.now (with_rows words one) at end → IsPlainToLow words.graph.now (with_rows words other) at end
-  plain_end end is = record { of_block = is.of_block; plain = is.plain; low = on_side Low end.to is.low }
+  pub wanted_end : (wanted : Wanted) (v : ℕ) (end : End) → IsWanted words.graph.now (with_rows words one) at wanted v end
+      → IsWanted words.graph.now (with_rows words other) at wanted v end
+  wanted_end PlainToLow v end is = record { of_block = is.of_block; plain = is.plain; low = on_side Low end.to is.low }
+  wanted_end NotPlain v end is = record { of_block = is.of_block; not_plain = is.not_plain }
+  wanted_end (Along side) v end is =
+      record { of_block = is.of_block; within = on_side side end.to is.within; onward = goes side v end.to is.onward }
 
   -- red at the head
   pub red_too : (out : Out) → IsHeadRed (with_rows words one) at out → IsHeadRed (with_rows words other) at out

@@ -31,13 +31,16 @@ use Rattle.proxy_rows.specs.declared.proxy_row.ProxyRow.{ProxyRow}
 use Rattle.proxy_rows.specs.declared.side.Side.TheVariants.{Low, High}
 use Rattle.proxy_rows.specs.GraphWith.{AreRowsWith, link_out, links_with, new_node}
 use Rattle.proxy_rows.specs.Ground.{IsGround}
-use Rattle.proxy_rows.specs.ProxyRows.{IsHeadBlue, Itself, ToLow, IsHeadRed, IsOnward, IsPlainToLow, IsProxyRow, OfHead, OfLow, OfHigh, OfOther, OfOutside, IsSideOut, Here, Over}
+use Rattle.proxy_rows.specs.declared.standing.Standing.{Standing}
+use Rattle.proxy_rows.specs.declared.standing.Standing.TheVariants as places
+use Rattle.proxy_rows.specs.ProxyRows.{IsBlue, IsHeadBlue, IsHeadRed, IsLinkFor, IsOnward, IsPlainToLow, IsProxyRow, IsRed, IsSideOut, Here, Over}
 use Rattle.proxy_rows.specs.Sides.{IsIn, IsMember, IsOfBlock}
 use Rattle.proxy_rows.proofs.Attaching.{words}
 use Rattle.proxy_rows.proofs.BlockRows.{HeadHops, head_hops, high_member, high_more, link_is, low_member, low_more, low_not_high, stays, to_high}
 use Rattle.proxy_rows.proofs.Grounds.{apart, b, counts, head_is, head_no_member, is_higher, is_lower, is_member, member_at, upper_member}
 use Rattle.proxy_rows.proofs.HeadLinks.{red_link, same_as_red}
 use Rattle.proxy_rows.proofs.NewLinks.{lower_leads, old_leads, upper_leads}
+use Rattle.proxy_rows.proofs.Stands.{Tells, head_stands, high_stands, low_stands, tells}
 
 -- a color takes a link that leads on
 pub takes : (links : List Link) (all : Rows) (color : Color) (t s e v : ℕ) (row : Row) → all s t ≡ Some row → link_of_color color row ≡ e
@@ -47,20 +50,20 @@ takes links all color t s e v row at is onward =
     ∙ ap (hop_over links s) is
     ∙ ap (option_map (λ v. record { link = e; to = v })) onward
 
--- the tag that a proxy row has among the moves
-abbrev pub kind_of : (g : Topology) (c : Certificate) (at : Attachment) (s : ℕ) (entry : ProxyRow) → IsProxyRow g c at s entry → Tag
-kind_of g c at s _ (OfHead blue red is blue_is red_is) = tags.Top
-kind_of g c at s _ (OfLow blue row low out row_is) = tags.Below
-kind_of g c at s _ (OfHigh red row high out row_is) = tags.Above
-kind_of g c at s _ (OfOther row is not_low not_high row_is) = tags.Unordered
-kind_of g c at s _ (OfOutside entry row not_in is row_is) = tags.Carried
+-- the tag that a node has among the moves
+abbrev pub kind_of : Standing → Tag
+kind_of places.Head = tags.Top
+kind_of places.OnLow = tags.Below
+kind_of places.OnHigh = tags.Above
+kind_of places.Other = tags.Unordered
+kind_of places.Outside = tags.Carried
 
--- a node with its proxy row, and the row's tag
+-- a node with its proxy row, and its tag
 pub record Known (g : Topology) (c : Certificate) (at : Attachment) (entries : List ProxyRow) (s : ℕ) (T : Tag) : Type 0 where
   pub entry : ProxyRow
   pub there : slice_get entries s ≡ Some entry
   pub row : IsProxyRow g c at s entry
-  pub tag : T ≡ kind_of g c at s entry row
+  pub tag : T ≡ kind_of row.standing
 
 module _ (g : Topology) (c : Certificate) (at : Attachment) (ground : IsGround g c at) (entries : List ProxyRow)
     (one_each : length entries ≡ length g.ids) (each : (s : ℕ) (row : ProxyRow) → slice_get entries s ≡ Some row → IsProxyRow g c at s row)
@@ -83,7 +86,7 @@ module _ (g : Topology) (c : Certificate) (at : Attachment) (ground : IsGround g
   -- each node's tag
   tag_by : (s : ℕ) (o : Option ProxyRow) → slice_get entries s ≡ o → Tag
   tag_by s None is = tags.Carried
-  tag_by s (Some entry) is = kind_of g c at s entry (each s entry is)
+  tag_by s (Some entry) is = kind_of (each s entry is).standing
 
   abbrev tag : ℕ → Tag
   tag s = tag_by s (slice_get entries s) refl
@@ -99,56 +102,40 @@ module _ (g : Topology) (c : Certificate) (at : Attachment) (ground : IsGround g
 
   -- what is on Low, on High, the head, or another member, by its tag
   low_is : (s : ℕ) → IsIn g.links c at Low s → tag s ≡ tags.Below
-  low_is s low = let k = known s (member_at g c at ground s (low_member g c at ground s low)) in k.tag ∙ go k.entry k.row
-    where
-      go : (entry : ProxyRow) (row : IsProxyRow g c at s entry) → kind_of g c at s entry row ≡ tags.Below
-      go _ (OfHead blue red is blue_is red_is) = absurd (head_no_member g c at ground (subst (IsMember c at) is (low_member g c at ground s low)))
-      go _ (OfLow blue row _ out row_is) = refl
-      go _ (OfHigh red row high out row_is) = absurd (low_not_high g c at ground s low high)
-      go _ (OfOther row is not_low not_high row_is) = absurd (not_low low)
-      go _ (OfOutside entry row not_in is row_is) = absurd (not_in (inl (low_member g c at ground s low)))
+  low_is s low =
+      let k = known s (member_at g c at ground s (low_member g c at ground s low)) in
+      k.tag ∙ ap kind_of (low_stands g c at ground s k.row.standing k.row.stands low)
 
   high_is : (s : ℕ) → IsIn g.links c at High s → tag s ≡ tags.Above
-  high_is s high = let k = known s (member_at g c at ground s (high_member g c at ground s high)) in k.tag ∙ go k.entry k.row
-    where
-      go : (entry : ProxyRow) (row : IsProxyRow g c at s entry) → kind_of g c at s entry row ≡ tags.Above
-      go _ (OfHead blue red is blue_is red_is) = absurd (head_no_member g c at ground (subst (IsMember c at) is (high_member g c at ground s high)))
-      go _ (OfLow blue row low out row_is) = absurd (low_not_high g c at ground s low high)
-      go _ (OfHigh red row _ out row_is) = refl
-      go _ (OfOther row is not_low not_high row_is) = absurd (not_high high)
-      go _ (OfOutside entry row not_in is row_is) = absurd (not_in (inl (high_member g c at ground s high)))
+  high_is s high =
+      let k = known s (member_at g c at ground s (high_member g c at ground s high)) in
+      k.tag ∙ ap kind_of (high_stands g c at ground s k.row.standing k.row.stands high)
 
   head_at : N at.head
   head_at = Top (head_is g c at ground)
 
   top_is : (s : ℕ) → s ≡ at.head → tag s ≡ tags.Top
-  top_is s same = let k = known s (subst N (sym same) head_at) in k.tag ∙ go k.entry k.row
-    where
-      no_member : IsMember c at s → ⊥
-      no_member is = head_no_member g c at ground (subst (IsMember c at) same is)
-
-      go : (entry : ProxyRow) (row : IsProxyRow g c at s entry) → kind_of g c at s entry row ≡ tags.Top
-      go _ (OfHead blue red is blue_is red_is) = refl
-      go _ (OfLow blue row low out row_is) = absurd (no_member (low_member g c at ground s low))
-      go _ (OfHigh red row high out row_is) = absurd (no_member (high_member g c at ground s high))
-      go _ (OfOther row is not_low not_high row_is) = absurd (no_member is)
-      go _ (OfOutside entry row not_in is row_is) = absurd (not_in (inr same))
+  top_is s same =
+      let k = known s (subst N (sym same) head_at) in
+      k.tag ∙ ap kind_of (head_stands g.links c at s k.row.standing k.row.stands same)
 
   -- a member is on Low, on High, or on neither
   data Place (s : ℕ) : Type 0 where
-    OnLow : IsIn g.links c at Low s → tag s ≡ tags.Below → Place s
-    OnHigh : IsIn g.links c at High s → tag s ≡ tags.Above → Place s
-    OnNeither : tag s ≡ tags.Unordered → Place s
+    IsLow : IsIn g.links c at Low s → Place s
+    IsHigh : IsIn g.links c at High s → Place s
+    IsNeither : tag s ≡ tags.Unordered → Place s
 
   place : (s : ℕ) → IsMember c at s → Place s
-  place s is = let k = known s (member_at g c at ground s is) in go k.entry k.row k.tag
+  place s is =
+      let k = known s (member_at g c at ground s is) in
+      go k.row.standing (tells g.links c at s k.row.standing k.row.stands) k.tag
     where
-      go : (entry : ProxyRow) (row : IsProxyRow g c at s entry) → tag s ≡ kind_of g c at s entry row → Place s
-      go _ (OfHead blue red same blue_is red_is) known = absurd (head_no_member g c at ground (subst (IsMember c at) same is))
-      go _ (OfLow blue row low out row_is) known = OnLow low known
-      go _ (OfHigh red row high out row_is) known = OnHigh high known
-      go _ (OfOther row _ not_low not_high row_is) known = OnNeither known
-      go _ (OfOutside entry row not_in _ row_is) known = absurd (not_in (inl is))
+      go : (p : Standing) → Tells g.links c at s p → tag s ≡ kind_of p → Place s
+      go places.Head same known_as = absurd (head_no_member g c at ground (subst (IsMember c at) same is))
+      go places.OnLow low known_as = IsLow low
+      go places.OnHigh high known_as = IsHigh high
+      go places.Other other known_as = IsNeither known_as
+      go places.Outside outside known_as = absurd (outside (inl is))
 
   -- a color goes over a link of the graph, by a move
   over : (color : Color) (s e v : ℕ) (T U : Tag) → N s → next color s ≡ Some (record { link = e; to = v }) → IsOfBlock c at e → leads g.links e s ≡ Some v
@@ -203,63 +190,63 @@ module _ (g : Topology) (c : Certificate) (at : Attachment) (ground : IsGround g
   abbrev StepOf : Color → ℕ → Type 0
   StepOf color s = Step next N tag w.order (λ _. roles.Plain) (new_node g) s color
 
+  -- blue from the router with the lower order
+  lower_home : (s : ℕ) (T : Tag) (entry : ProxyRow) → slice_get entries s ≡ Some entry → entry.blue ≡ outs.Attached → s ≡ at.lower → tag s ≡ T → Ends Blue T roles.Plain
+      → StepOf Blue s
+  lower_home s T entry at_s blue low tag_s may =
+      let r = are s entry at_s in
+      let out = lower_out s low in
+      home Blue s (length g.links) T
+      (takes links all Blue (new_node g) s (length g.links) (new_node g) r.row r.there (r.blue ∙ ap (link_out g at s) blue ∙ out.0) out.1) tag_s may
+
   -- at the head
-  head_blue : (s : ℕ) (blue red : Out) → s ≡ at.head → slice_get entries s ≡ Some (record { blue = blue; red = red }) → IsHeadBlue g c at blue → StepOf Blue s
-  head_blue s _ red same at_s (Itself low) =
-      let r = are s _ at_s in
-      let out = lower_out s (same ∙ low) in
-      home Blue s (length g.links) tags.Top
-      (takes links all Blue (new_node g) s (length g.links) (new_node g) r.row r.there (r.blue ∙ out.0) out.1) (top_is s same) tt
-  head_blue s _ red same at_s (ToLow end other first) =
+  head_blue : (s : ℕ) (entry : ProxyRow) (out : Out) → s ≡ at.head → slice_get entries s ≡ Some entry → entry.blue ≡ out → IsHeadBlue g c at out → StepOf Blue s
+  head_blue s entry _ same at_s blue (Here low) = lower_home s tags.Top entry at_s blue (same ∙ low) (top_is s same) tt
+  head_blue s entry _ same at_s blue (Over end other first) =
       let on : leads g.links end.link s ≡ Some end.to = subst (λ (x : ℕ). leads g.links end.link x ≡ Some end.to) (sym same) (end_on (IsPlainToLow g c at) at.head end first) in
-      over Blue s end.link end.to tags.Top tags.Below (subst N (sym same) head_at) (blue_over s end.link end.to _ at_s refl on) first.asked.of_block on
+      over Blue s end.link end.to tags.Top tags.Below (subst N (sym same) head_at) (blue_over s end.link end.to entry at_s blue on) first.asked.of_block on
       (top_is s same) (low_is end.to first.asked.low) (BlueTop _ _)
 
-  head_red : (s : ℕ) (blue red : Out) → s ≡ at.head → slice_get entries s ≡ Some (record { blue = blue; red = red }) → IsHeadRed c at red → StepOf Red s
-  head_red s blue red same at_s is =
+  head_red : (s : ℕ) (entry : ProxyRow) → s ≡ at.head → slice_get entries s ≡ Some entry → IsHeadRed c at entry.red → StepOf Red s
+  head_red s entry same at_s is =
       let t = to_high g c at ground in
       let on : leads g.links t.hop.link s ≡ Some t.hop.to = subst (λ (x : ℕ). leads g.links t.hop.link x ≡ Some t.hop.to) (sym same) t.leads_on in
-      over Red s t.hop.link t.hop.to tags.Top tags.Above (subst N (sym same) head_at) (red_over s t.hop.link t.hop.to _ at_s (red_link g c at ground red is) on) t.of on
+      over Red s t.hop.link t.hop.to tags.Top tags.Above (subst N (sym same) head_at) (red_over s t.hop.link t.hop.to entry at_s (red_link g c at ground entry.red is) on) t.of on
       (top_is s same) (high_is t.hop.to t.high) (RedTop _ _)
 
   -- on the two sides, away from the head
-  low_blue : (s : ℕ) (blue red : Out) → IsIn g.links c at Low s → slice_get entries s ≡ Some (record { blue = blue; red = red }) → IsSideOut g c at Low s blue → StepOf Blue s
-  low_blue s _ red low at_s (Here same) =
-      let r = are s _ at_s in
-      let out = lower_out s same in
-      home Blue s (length g.links) tags.Below
-      (takes links all Blue (new_node g) s (length g.links) (new_node g) r.row r.there (r.blue ∙ out.0) out.1) (low_is s low) tt
-  low_blue s _ red low at_s (Over end other first) =
+  low_blue : (s : ℕ) (entry : ProxyRow) (out : Out) → IsIn g.links c at Low s → slice_get entries s ≡ Some entry → entry.blue ≡ out → IsSideOut g c at Low s out → StepOf Blue s
+  low_blue s entry _ low at_s blue (Here same) = lower_home s tags.Below entry at_s blue same (low_is s low) tt
+  low_blue s entry _ low at_s blue (Over end other first) =
       let on = end_on (IsOnward g c at Low s) s end first in
-      over Blue s end.link end.to tags.Below tags.Below (member_at g c at ground s (low_member g c at ground s low)) (blue_over s end.link end.to _ at_s refl on)
+      over Blue s end.link end.to tags.Below tags.Below (member_at g c at ground s (low_member g c at ground s low)) (blue_over s end.link end.to entry at_s blue on)
       first.asked.of_block on (low_is s low) (low_is end.to first.asked.within) (BlueBelow _ _ (is_lower g c at ground s end.to first.asked.onward))
 
-  high_red : (s : ℕ) (blue red : Out) → IsIn g.links c at High s → slice_get entries s ≡ Some (record { blue = blue; red = red }) → IsSideOut g c at High s red → StepOf Red s
-  high_red s blue _ high at_s (Here same) =
-      let r = are s _ at_s in
+  high_red : (s : ℕ) (entry : ProxyRow) (out : Out) → IsIn g.links c at High s → slice_get entries s ≡ Some entry → entry.red ≡ out → IsSideOut g c at High s out → StepOf Red s
+  high_red s entry _ high at_s red (Here same) =
+      let r = are s entry at_s in
       let out = upper_out s same in
       home Red s (length g.links + 1) tags.Above
-      (takes links all Red (new_node g) s (length g.links + 1) (new_node g) r.row r.there (r.red ∙ out.0) out.1) (high_is s high) tt
-  high_red s blue _ high at_s (Over end other first) =
+      (takes links all Red (new_node g) s (length g.links + 1) (new_node g) r.row r.there (r.red ∙ ap (link_out g at s) red ∙ out.0) out.1) (high_is s high) tt
+  high_red s entry _ high at_s red (Over end other first) =
       let on = end_on (IsOnward g c at High s) s end first in
-      over Red s end.link end.to tags.Above tags.Above (member_at g c at ground s (high_member g c at ground s high)) (red_over s end.link end.to _ at_s refl on)
+      over Red s end.link end.to tags.Above tags.Above (member_at g c at ground s (high_member g c at ground s high)) (red_over s end.link end.to entry at_s red on)
       first.asked.of_block on (high_is s high) (high_is end.to first.asked.within) (RedAbove _ _ (is_higher g c at ground s end.to first.asked.onward))
 
   -- the links of a member's row for the head
-  blue_link : (s : ℕ) (row : Row) (h : HeadHops g c at ground s) → row_of c s at.head ≡ Some row → outs.Link row.blue ≡ outs.Link h.blue.link
-  blue_link s row h is = ap (λ (k : ℕ). outs.Link k) (link_is g.links (row_of c) Blue at.head s row h.blue is h.blue_is)
+  blue_link : (s : ℕ) (out : Out) (h : HeadHops g c at ground s) → IsLinkFor c Blue s at.head out → out ≡ outs.Link h.blue.link
+  blue_link s out h is = is.out_is ∙ ap (λ (k : ℕ). outs.Link k) (link_is g.links (row_of c) Blue at.head s is.row h.blue is.row_is h.blue_is)
 
-  red_link_of : (s : ℕ) (row : Row) (h : HeadHops g c at ground s) → row_of c s at.head ≡ Some row → outs.Link row.red ≡ outs.Link h.red.link
-  red_link_of s row h is = ap (λ (k : ℕ). outs.Link k) (link_is g.links (row_of c) Red at.head s row h.red is h.red_is)
+  red_link_of : (s : ℕ) (out : Out) (h : HeadHops g c at ground s) → IsLinkFor c Red s at.head out → out ≡ outs.Link h.red.link
+  red_link_of s out h is = is.out_is ∙ ap (λ (k : ℕ). outs.Link k) (link_is g.links (row_of c) Red at.head s is.row h.red is.row_is h.red_is)
 
   -- on the two sides, towards the head
-  low_red : (s : ℕ) (blue : Out) (row : Row) → IsIn g.links c at Low s → slice_get entries s ≡ Some (record { blue = blue; red = outs.Link row.red })
-      → row_of c s at.head ≡ Some row → StepOf Red s
-  low_red s blue row low at_s is =
+  low_red : (s : ℕ) (entry : ProxyRow) → IsIn g.links c at Low s → slice_get entries s ≡ Some entry → IsLinkFor c Red s at.head entry.red → StepOf Red s
+  low_red s entry low at_s is =
       let member = low_member g c at ground s low in
       let h = head_hops g c at ground s member in
       let at_n = member_at g c at ground s member in
-      let on = red_over s h.red.link h.red.to _ at_s (red_link_of s row h is) h.red_leads in
+      let on = red_over s h.red.link h.red.to entry at_s (red_link_of s entry.red h is) h.red_leads in
       elim h.red_goes [
         | inl lower ↦ over Red s h.red.link h.red.to tags.Below tags.Below at_n on h.red_of h.red_leads (low_is s low)
             (low_is h.red.to (low_more g c at ground h.red.to h.red.link s lower.0 h.red_of (lead_back g.links h.red.link s h.red.to h.red_leads) lower.1 low))
@@ -267,13 +254,12 @@ module _ (g : Topology) (c : Certificate) (at : Attachment) (ground : IsGround g
         | inr top ↦ over Red s h.red.link h.red.to tags.Below tags.Top at_n on h.red_of h.red_leads (low_is s low) (top_is h.red.to top) (RedBelowHome _ _)
       ]
 
-  high_blue : (s : ℕ) (red : Out) (row : Row) → IsIn g.links c at High s → slice_get entries s ≡ Some (record { blue = outs.Link row.blue; red = red })
-      → row_of c s at.head ≡ Some row → StepOf Blue s
-  high_blue s red row high at_s is =
+  high_blue : (s : ℕ) (entry : ProxyRow) → IsIn g.links c at High s → slice_get entries s ≡ Some entry → IsLinkFor c Blue s at.head entry.blue → StepOf Blue s
+  high_blue s entry high at_s is =
       let member = high_member g c at ground s high in
       let h = head_hops g c at ground s member in
       let at_n = member_at g c at ground s member in
-      let on = blue_over s h.blue.link h.blue.to _ at_s (blue_link s row h is) h.blue_leads in
+      let on = blue_over s h.blue.link h.blue.to entry at_s (blue_link s entry.blue h is) h.blue_leads in
       elim h.blue_goes [
         | inl higher ↦ over Blue s h.blue.link h.blue.to tags.Above tags.Above at_n on h.blue_of h.blue_leads (high_is s high)
             (high_is h.blue.to (high_more g c at ground h.blue.to h.blue.link s higher.0 h.blue_of (lead_back g.links h.blue.link s h.blue.to h.blue_leads) higher.1 high))
@@ -282,32 +268,32 @@ module _ (g : Topology) (c : Certificate) (at : Attachment) (ground : IsGround g
       ]
 
   -- at the other members
-  other_blue : (s : ℕ) (row : Row) → IsMember c at s → ¬ IsIn g.links c at High s → tag s ≡ tags.Unordered
-      → slice_get entries s ≡ Some (record { blue = outs.Link row.red; red = outs.Link row.blue }) → row_of c s at.head ≡ Some row → StepOf Blue s
-  other_blue s row member not_high known_as at_s is =
+  other_blue : (s : ℕ) (entry : ProxyRow) → IsMember c at s → ¬ IsIn g.links c at High s → tag s ≡ tags.Unordered → slice_get entries s ≡ Some entry
+      → IsLinkFor c Red s at.head entry.blue → StepOf Blue s
+  other_blue s entry member not_high known_as at_s is =
       let h = head_hops g c at ground s member in
       let at_n = member_at g c at ground s member in
-      let on = blue_over s h.red.link h.red.to _ at_s (red_link_of s row h is) h.red_leads in
+      let on = blue_over s h.red.link h.red.to entry at_s (red_link_of s entry.blue h is) h.red_leads in
       elim h.red_goes [
         | inl lower ↦ elim (place h.red.to lower.0) [
-          | OnLow low below ↦ over Blue s h.red.link h.red.to tags.Unordered tags.Below at_n on h.red_of h.red_leads known_as below (BlueUnorderedIn _ _)
-          | OnHigh high above ↦ absurd (not_high (high_more g c at ground s h.red.link h.red.to member h.red_of h.red_leads lower.1 high))
-          | OnNeither also ↦ over Blue s h.red.link h.red.to tags.Unordered tags.Unordered at_n on h.red_of h.red_leads known_as also (BlueUnordered _ _ lower.1)
+          | IsLow low ↦ over Blue s h.red.link h.red.to tags.Unordered tags.Below at_n on h.red_of h.red_leads known_as (low_is h.red.to low) (BlueUnorderedIn _ _)
+          | IsHigh high ↦ absurd (not_high (high_more g c at ground s h.red.link h.red.to member h.red_of h.red_leads lower.1 high))
+          | IsNeither also ↦ over Blue s h.red.link h.red.to tags.Unordered tags.Unordered at_n on h.red_of h.red_leads known_as also (BlueUnordered _ _ lower.1)
         ]
         | inr top ↦ over Blue s h.red.link h.red.to tags.Unordered tags.Top at_n on h.red_of h.red_leads known_as (top_is h.red.to top) (BlueUnorderedHome _ _)
       ]
 
-  other_red : (s : ℕ) (row : Row) → IsMember c at s → ¬ IsIn g.links c at Low s → ¬ IsIn g.links c at High s → tag s ≡ tags.Unordered
-      → slice_get entries s ≡ Some (record { blue = outs.Link row.red; red = outs.Link row.blue }) → row_of c s at.head ≡ Some row → StepOf Red s
-  other_red s row member not_low not_high known_as at_s is =
+  other_red : (s : ℕ) (entry : ProxyRow) → IsMember c at s → ¬ IsIn g.links c at Low s → ¬ IsIn g.links c at High s → tag s ≡ tags.Unordered
+      → slice_get entries s ≡ Some entry → IsLinkFor c Blue s at.head entry.red → StepOf Red s
+  other_red s entry member not_low not_high known_as at_s is =
       let h = head_hops g c at ground s member in
       let at_n = member_at g c at ground s member in
-      let on = red_over s h.blue.link h.blue.to _ at_s (blue_link s row h is) h.blue_leads in
+      let on = red_over s h.blue.link h.blue.to entry at_s (blue_link s entry.red h is) h.blue_leads in
       elim h.blue_goes [
         | inl higher ↦ elim (place h.blue.to higher.0) [
-          | OnLow low below ↦ absurd (not_low (low_more g c at ground s h.blue.link h.blue.to member h.blue_of h.blue_leads higher.1 low))
-          | OnHigh high above ↦ over Red s h.blue.link h.blue.to tags.Unordered tags.Above at_n on h.blue_of h.blue_leads known_as above (RedUnorderedIn _ _)
-          | OnNeither also ↦ over Red s h.blue.link h.blue.to tags.Unordered tags.Unordered at_n on h.blue_of h.blue_leads known_as also (RedUnordered _ _ higher.1)
+          | IsLow low ↦ absurd (not_low (low_more g c at ground s h.blue.link h.blue.to member h.blue_of h.blue_leads higher.1 low))
+          | IsHigh high ↦ over Red s h.blue.link h.blue.to tags.Unordered tags.Above at_n on h.blue_of h.blue_leads known_as (high_is h.blue.to high) (RedUnorderedIn _ _)
+          | IsNeither also ↦ over Red s h.blue.link h.blue.to tags.Unordered tags.Unordered at_n on h.blue_of h.blue_leads known_as also (RedUnordered _ _ higher.1)
         ]
         | inr top ↦
             let t = to_high g c at ground in
@@ -326,34 +312,32 @@ module _ (g : Topology) (c : Certificate) (at : Attachment) (ground : IsGround g
 
   -- the step of each color
   step : (color : Color) (s : ℕ) → N s → StepOf color s
-  step Blue s at_n = let k = known s at_n in go k.entry k.row k.there k.tag
+  step color s at_n =
+      let k = known s at_n in
+      go color k.row.standing k.entry (tells g.links c at s k.row.standing k.row.stands) k.there k.tag k.row.blue k.row.red
     where
-      go : (entry : ProxyRow) (row : IsProxyRow g c at s entry) → slice_get entries s ≡ Some entry → tag s ≡ kind_of g c at s entry row → StepOf Blue s
-      go _ (OfHead blue red is blue_is red_is) at_s known_as = head_blue s blue red is at_s blue_is
-      go _ (OfLow blue row low out row_is) at_s known_as = low_blue s blue (outs.Link row.red) low at_s out
-      go _ (OfHigh red row high out row_is) at_s known_as = high_blue s red row high at_s row_is
-      go _ (OfOther row is not_low not_high row_is) at_s known_as = other_blue s row is not_high known_as at_s row_is
-      go _ (OfOutside entry row not_in is row_is) at_s known_as = absurd (not_in (belongs s at_n))
-  step Red s at_n = let k = known s at_n in go k.entry k.row k.there k.tag
-    where
-      go : (entry : ProxyRow) (row : IsProxyRow g c at s entry) → slice_get entries s ≡ Some entry → tag s ≡ kind_of g c at s entry row → StepOf Red s
-      go _ (OfHead blue red is blue_is red_is) at_s known_as = head_red s blue red is at_s red_is
-      go _ (OfLow blue row low out row_is) at_s known_as = low_red s blue row low at_s row_is
-      go _ (OfHigh red row high out row_is) at_s known_as = high_red s (outs.Link row.blue) red high at_s out
-      go _ (OfOther row is not_low not_high row_is) at_s known_as = other_red s row is not_low not_high known_as at_s row_is
-      go _ (OfOutside entry row not_in is row_is) at_s known_as = absurd (not_in (belongs s at_n))
+      go : (color : Color) (p : Standing) (entry : ProxyRow) → Tells g.links c at s p → slice_get entries s ≡ Some entry → tag s ≡ kind_of p
+          → IsBlue p g c at s entry.blue → IsRed p g c at s entry.red → StepOf color s
+      go Blue places.Head entry same at_s known_as blue red = head_blue s entry entry.blue same at_s refl blue
+      go Blue places.OnLow entry low at_s known_as blue red = low_blue s entry entry.blue low at_s refl blue
+      go Blue places.OnHigh entry high at_s known_as blue red = high_blue s entry high at_s blue
+      go Blue places.Other entry other at_s known_as blue red = other_blue s entry other.0 other.2 known_as at_s blue
+      go Red places.Head entry same at_s known_as blue red = head_red s entry same at_s red
+      go Red places.OnLow entry low at_s known_as blue red = low_red s entry low at_s red
+      go Red places.OnHigh entry high at_s known_as blue red = high_red s entry entry.red high at_s refl red
+      go Red places.Other entry other at_s known_as blue red = other_red s entry other.0 other.1 other.2 known_as at_s red
+      go color places.Outside entry outside at_s known_as blue red = absurd (outside (belongs s at_n))
 
   -- the node whose row is Top is the head; no row is Sole, and none is Carried
   tag_facts : (s : ℕ) → N s → (tag s ≢ tags.Sole) × (tag s ≢ tags.Carried) × (tag s ≡ tags.Top → s ≡ at.head)
-  tag_facts s at_n = let k = known s at_n in go k.entry k.row k.tag
+  tag_facts s at_n = let k = known s at_n in go k.row.standing (tells g.links c at s k.row.standing k.row.stands) k.tag
     where
-      go : (entry : ProxyRow) (row : IsProxyRow g c at s entry) → tag s ≡ kind_of g c at s entry row
-          → (tag s ≢ tags.Sole) × (tag s ≢ tags.Carried) × (tag s ≡ tags.Top → s ≡ at.head)
-      go _ (OfHead blue red is blue_is red_is) known_as = (λ x. cc, λ x. cc, λ x. is)
-      go _ (OfLow blue row low out row_is) known_as = (λ x. cc, λ x. cc, λ x. absurd cc)
-      go _ (OfHigh red row high out row_is) known_as = (λ x. cc, λ x. cc, λ x. absurd cc)
-      go _ (OfOther row is not_low not_high row_is) known_as = (λ x. cc, λ x. cc, λ x. absurd cc)
-      go _ (OfOutside entry row not_in is row_is) known_as = absurd (not_in (belongs s at_n))
+      go : (p : Standing) → Tells g.links c at s p → tag s ≡ kind_of p → (tag s ≢ tags.Sole) × (tag s ≢ tags.Carried) × (tag s ≡ tags.Top → s ≡ at.head)
+      go places.Head same known_as = (λ x. cc, λ x. cc, λ x. same)
+      go places.OnLow low known_as = (λ x. cc, λ x. cc, λ x. absurd cc)
+      go places.OnHigh high known_as = (λ x. cc, λ x. cc, λ x. absurd cc)
+      go places.Other other known_as = (λ x. cc, λ x. cc, λ x. absurd cc)
+      go places.Outside outside known_as = absurd (outside (belongs s at_n))
 
   moving : Moving links next N tag w.order (λ _. roles.Plain) (new_node g)
   moving = record {

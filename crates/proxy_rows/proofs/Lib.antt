@@ -14,6 +14,7 @@ pub mod OutsideRows
 pub mod ProxySound
 pub mod RowsExist
 pub mod SideEnds
+pub mod Stands
 pub mod Stepping
 pub mod TextExists
 pub mod Touching

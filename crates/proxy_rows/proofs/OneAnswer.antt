@@ -4,6 +4,8 @@ use Rattle.std.proofs.lemmas.Bool.{cases_lt}
 use Rattle.std.proofs.lemmas.List.{same_lists}
 use Rattle.std.proofs.lemmas.Option.{same_Some, slice_get-get_or}
 use Rattle.std.specs.Option.{unwrap_or}
+use Rattle.mrt_graph.specs.declared.cert.Color.{Color}
+use Rattle.mrt_graph.specs.declared.cert.Color.TheVariants.{Blue, Red}
 use Rattle.mrt_graph.specs.declared.cert.Row.{Row}
 use Rattle.mrt_graph.specs.declared.link.End.{End}
 use Rattle.mrt_graph.specs.Certificate.{Certificate, row_of}
@@ -12,6 +14,7 @@ use Rattle.mrt_graph.specs.FirstEnd.{IsFirstEnd}
 use Rattle.mrt_graph.specs.Foldable.{in_chain}
 use Rattle.mrt_graph.specs.GraphInvariant.{IsTopology}
 use Rattle.mrt_graph.specs.Related.{are_unrelated}
+use Rattle.mrt_graph.specs.Rows.{link_of_color}
 use Rattle.mrt_graph.specs.Topology.{Topology}
 use Rattle.mrt_graph.proofs.Blocks.{Words, Common, Peers, ToHead, FromHead, Related, InOne, Under, Over}
 use Rattle.mrt_graph.proofs.TestFacts.{common_block, less_numbers, unrelated_apart}
@@ -19,17 +22,17 @@ use Rattle.proxy_rows.specs.declared.attachment.Attachment.{Attachment}
 use Rattle.proxy_rows.specs.declared.proxy_row.Out.{Out}
 use Rattle.proxy_rows.specs.declared.proxy_row.Out.TheVariants as outs
 use Rattle.proxy_rows.specs.declared.proxy_row.ProxyRow.{ProxyRow}
-use Rattle.proxy_rows.specs.declared.side.Side.{Side}
 use Rattle.proxy_rows.specs.declared.side.Side.TheVariants.{Low, High}
 use Rattle.mrt_graph.specs.AcceptedFor.{IsAcceptedFor}
 use Rattle.proxy_rows.specs.Attachment.{IsAttachment}
 use Rattle.proxy_rows.specs.Ground.{IsGround}
-use Rattle.proxy_rows.specs.ProxyRows.{AreProxyRows, AreRowsOf, BelongsTo, IsEntry, First, None as none_of_it, IsHeadBlue, Itself, ToLow, IsOnward, IsPlainToLow, IsProxyRow, OfHead, OfLow, OfHigh, OfOther, OfOutside, IsSideOut, Here, Over}
-use Rattle.proxy_rows.specs.Sides.{IsIn, IsMember}
+use Rattle.proxy_rows.specs.declared.standing.Standing.{Standing}
+use Rattle.proxy_rows.specs.declared.standing.Standing.TheVariants as places
+use Rattle.proxy_rows.specs.ProxyRows.{AreProxyRows, AreRowsOf, IsBlue, IsEntry, First, None as none_of_it, IsFirstOut, Here, Over, IsLinkFor, IsLinkIn, IsOnward, IsPlainToLow, IsProxyRow, IsRed}
 use Rattle.proxy_rows.proofs.Attaching.{words}
-use Rattle.proxy_rows.proofs.BlockRows.{high_member, low_member, low_not_high}
-use Rattle.proxy_rows.proofs.Grounds.{block_is, head_is, head_no_member}
+use Rattle.proxy_rows.proofs.Grounds.{block_is, head_is}
 use Rattle.proxy_rows.proofs.HeadLinks.{red_link}
+use Rattle.proxy_rows.proofs.Stands.{one_standing}
 
 -- of two numbers neither of which is less
 one_place : (n m : ℕ) → ¬ (n < m) → ¬ (m < n) → n ≡ m
@@ -57,72 +60,43 @@ one_entry c at s x y (First n _ is belongs before) (none_of_it _ same none) = ab
 one_entry c at s x y (none_of_it _ same none) (First n _ is belongs before) = absurd (none n y is belongs)
 one_entry c at s x y (none_of_it _ same none) (none_of_it _ same' none') = same ∙ sym same'
 
-one_row : (c : Certificate) (s t : ℕ) (row other : Row) → row_of c s t ≡ Some row → row_of c s t ≡ Some other → row ≡ other
-one_row c s t row other is is' = same_Some row other (sym is ∙ is')
+one_out : (g : Topology) (Itself : Type 0) (Asked : End → Type 0) (v : ℕ) (x y : Out) → IsFirstOut g Itself Asked v x → IsFirstOut g Itself Asked v y → x ≡ y
+one_out g Itself Asked v _ _ (Here same) (Here same') = refl
+one_out g Itself Asked v _ _ (Here same) (Over end other first) = absurd (other same)
+one_out g Itself Asked v _ _ (Over end other first) (Here same) = absurd (other same)
+one_out g Itself Asked v _ _ (Over end other first) (Over end' other' first') = ap (λ (e : End). outs.Link e.link) (one_first g Asked v end end' first first')
 
-one_side_out : (g : Topology) (c : Certificate) (at : Attachment) (side : Side) (s : ℕ) (x y : Out) → IsSideOut g c at side s x → IsSideOut g c at side s y → x ≡ y
-one_side_out g c at side s _ _ (Here same) (Here same') = refl
-one_side_out g c at side s _ _ (Here same) (Over end other first) = absurd (other same)
-one_side_out g c at side s _ _ (Over end other first) (Here same) = absurd (other same)
-one_side_out g c at side s _ _ (Over end other first) (Over end' other' first') =
-    ap (λ (e : End). outs.Link e.link) (one_first g (IsOnward g c at side s) s end end' first first')
+one_link : (c : Certificate) (color : Color) (s t : ℕ) (x y : Out) → IsLinkFor c color s t x → IsLinkFor c color s t y → x ≡ y
+one_link c color s t x y one other =
+    one.out_is ∙ ap (λ (r : Row). outs.Link (link_of_color color r)) (same_Some one.row other.row (sym one.row_is ∙ other.row_is)) ∙ sym other.out_is
 
-one_head_blue : (g : Topology) (c : Certificate) (at : Attachment) (x y : Out) → IsHeadBlue g c at x → IsHeadBlue g c at y → x ≡ y
-one_head_blue g c at _ _ (Itself same) (Itself same') = refl
-one_head_blue g c at _ _ (Itself same) (ToLow end other first) = absurd (other same)
-one_head_blue g c at _ _ (ToLow end other first) (Itself same) = absurd (other same)
-one_head_blue g c at _ _ (ToLow end other first) (ToLow end' other' first') =
-    ap (λ (e : End). outs.Link e.link) (one_first g (IsPlainToLow g c at) at.head end end' first first')
-
--- a row of these
-same_row : (blue blue' red red' : Out) → blue ≡ blue' → red ≡ red' → ◌≡◌ {A = ProxyRow} (record { blue = blue; red = red }) (record { blue = blue'; red = red' })
-same_row blue blue' red red' one other = ap (λ (b : Out). record { blue = b; red = red }) one ∙ ap (λ (r : Out). record { blue = blue'; red = r }) other
+one_way_in : (c : Certificate) (at : Attachment) (color : Color) (s : ℕ) (x y : Out) → IsLinkIn c at color s x → IsLinkIn c at color s y → x ≡ y
+one_way_in c at color s x y one other =
+    one_link c color s other.entry x y
+    (subst (λ (e : ℕ). IsLinkFor c color s e x) (one_entry c at s one.entry other.entry one.enters other.enters) one.link) other.link
 
 module _ (g : Topology) (c : Certificate) (at : Attachment) (ground : IsGround g c at) (s : ℕ) where
-  top_no_member : s ≡ at.head → IsMember c at s → ⊥
-  top_no_member same is = head_no_member g c at ground (subst (IsMember c at) same is)
+  one_blue : (p : Standing) (x y : Out) → IsBlue p g c at s x → IsBlue p g c at s y → x ≡ y
+  one_blue places.Head x y one other = one_out g _ (IsPlainToLow g c at) at.head x y one other
+  one_blue places.OnLow x y one other = one_out g _ (IsOnward g c at Low s) s x y one other
+  one_blue places.OnHigh x y one other = one_link c Blue s at.head x y one other
+  one_blue places.Other x y one other = one_link c Red s at.head x y one other
+  one_blue places.Outside x y one other = one_way_in c at Blue s x y one other
 
-  top_not_in : (side : Side) → s ≡ at.head → IsIn g.links c at side s → ⊥
-  top_not_in Low same is = top_no_member same (low_member g c at ground s is)
-  top_not_in High same is = top_no_member same (high_member g c at ground s is)
-
-  out_not_in : (side : Side) → (BelongsTo c at s → ⊥) → IsIn g.links c at side s → ⊥
-  out_not_in Low out is = out (inl (low_member g c at ground s is))
-  out_not_in High out is = out (inl (high_member g c at ground s is))
+  one_red : (p : Standing) (x y : Out) → IsRed p g c at s x → IsRed p g c at s y → x ≡ y
+  one_red places.Head x y one other = red_link g c at ground x one ∙ sym (red_link g c at ground y other)
+  one_red places.OnLow x y one other = one_link c Red s at.head x y one other
+  one_red places.OnHigh x y one other = one_out g _ (IsOnward g c at High s) s x y one other
+  one_red places.Other x y one other = one_link c Blue s at.head x y one other
+  one_red places.Outside x y one other = one_way_in c at Red s x y one other
 
   -- a node has one row
   pub one_proxy_row : (x y : ProxyRow) → IsProxyRow g c at s x → IsProxyRow g c at s y → x ≡ y
-  one_proxy_row _ _ (OfHead blue red same blue_is red_is) (OfHead blue' red' same' blue_is' red_is') =
-      same_row blue blue' red red' (one_head_blue g c at blue blue' blue_is blue_is') (red_link g c at ground red red_is ∙ sym (red_link g c at ground red' red_is'))
-  one_proxy_row _ _ (OfHead blue red same blue_is red_is) (OfLow blue' row low out row_is) = absurd (top_not_in Low same low)
-  one_proxy_row _ _ (OfHead blue red same blue_is red_is) (OfHigh red' row high out row_is) = absurd (top_not_in High same high)
-  one_proxy_row _ _ (OfHead blue red same blue_is red_is) (OfOther row is not_low not_high row_is) = absurd (top_no_member same is)
-  one_proxy_row _ _ (OfHead blue red same blue_is red_is) (OfOutside entry row out is row_is) = absurd (out (inr same))
-  one_proxy_row _ _ (OfLow blue row low out row_is) (OfHead blue' red' same blue_is red_is) = absurd (top_not_in Low same low)
-  one_proxy_row _ _ (OfLow blue row low out row_is) (OfLow blue' row' low' out' row_is') =
-      same_row blue blue' _ _ (one_side_out g c at Low s blue blue' out out') (ap (λ (r : Row). outs.Link r.red) (one_row c s at.head row row' row_is row_is'))
-  one_proxy_row _ _ (OfLow blue row low out row_is) (OfHigh red' row' high out' row_is') = absurd (low_not_high g c at ground s low high)
-  one_proxy_row _ _ (OfLow blue row low out row_is) (OfOther row' is not_low not_high row_is') = absurd (not_low low)
-  one_proxy_row _ _ (OfLow blue row low out row_is) (OfOutside entry row' outside is row_is') = absurd (out_not_in Low outside low)
-  one_proxy_row _ _ (OfHigh red row high out row_is) (OfHead blue' red' same blue_is red_is) = absurd (top_not_in High same high)
-  one_proxy_row _ _ (OfHigh red row high out row_is) (OfLow blue' row' low out' row_is') = absurd (low_not_high g c at ground s low high)
-  one_proxy_row _ _ (OfHigh red row high out row_is) (OfHigh red' row' high' out' row_is') =
-      same_row _ _ red red' (ap (λ (r : Row). outs.Link r.blue) (one_row c s at.head row row' row_is row_is')) (one_side_out g c at High s red red' out out')
-  one_proxy_row _ _ (OfHigh red row high out row_is) (OfOther row' is not_low not_high row_is') = absurd (not_high high)
-  one_proxy_row _ _ (OfHigh red row high out row_is) (OfOutside entry row' outside is row_is') = absurd (out_not_in High outside high)
-  one_proxy_row _ _ (OfOther row is not_low not_high row_is) (OfHead blue' red' same blue_is red_is) = absurd (top_no_member same is)
-  one_proxy_row _ _ (OfOther row is not_low not_high row_is) (OfLow blue' row' low out' row_is') = absurd (not_low low)
-  one_proxy_row _ _ (OfOther row is not_low not_high row_is) (OfHigh red' row' high out' row_is') = absurd (not_high high)
-  one_proxy_row _ _ (OfOther row is not_low not_high row_is) (OfOther row' is' not_low' not_high' row_is') =
-      ap (λ (r : Row). record { blue = outs.Link r.red; red = outs.Link r.blue }) (one_row c s at.head row row' row_is row_is')
-  one_proxy_row _ _ (OfOther row is not_low not_high row_is) (OfOutside entry row' outside is' row_is') = absurd (outside (inl is))
-  one_proxy_row _ _ (OfOutside entry row outside is row_is) (OfHead blue' red' same blue_is red_is) = absurd (outside (inr same))
-  one_proxy_row _ _ (OfOutside entry row outside is row_is) (OfLow blue' row' low out' row_is') = absurd (out_not_in Low outside low)
-  one_proxy_row _ _ (OfOutside entry row outside is row_is) (OfHigh red' row' high out' row_is') = absurd (out_not_in High outside high)
-  one_proxy_row _ _ (OfOutside entry row outside is row_is) (OfOther row' is' not_low' not_high' row_is') = absurd (outside (inl is'))
-  one_proxy_row _ _ (OfOutside entry row outside is row_is) (OfOutside entry' row' outside' is' row_is') =
-      ap (λ (r : Row). record { blue = outs.Link r.blue; red = outs.Link r.red })
-      (one_row c s entry row row' row_is (subst (λ (e : ℕ). row_of c s e ≡ Some row') (sym (one_entry c at s entry entry' is is')) row_is'))
+  one_proxy_row x y one other =
+      let same = one_standing g.links c at s one.standing other.standing one.stands other.stands in
+      let blue = subst (λ (p : Standing). IsBlue p g c at s x.blue) same one.blue in
+      let red = subst (λ (p : Standing). IsRed p g c at s x.red) same one.red in
+      λ i. record { blue = one_blue other.standing x.blue y.blue blue other.blue i; red = one_red other.standing x.red y.red red other.red i }
 
 -- the two routers have one attachment
 same_attachment : (x y : Attachment) → x.lower ≡ y.lower → x.upper ≡ y.upper → x.block ≡ y.block → x.head ≡ y.head → x ≡ y

@@ -3,23 +3,28 @@ use Rattle.std.proofs.Common.{◌≡◌, ◌≢◌, ◌⊎◌, ◌<◌, ◌≤�
 use Rattle.std.proofs.lemmas.Bool.{cases_eq, cases_lt}
 use Rattle.std.proofs.lemmas.Option.{same_Some}
 use Rattle.std.specs.Option.{option_and_then}
+use Rattle.mrt_graph.specs.declared.cert.Color.{Color}
 use Rattle.mrt_graph.specs.declared.cert.Color.TheVariants.{Blue, Red}
 use Rattle.mrt_graph.specs.declared.cert.Row.{Row}
 use Rattle.mrt_graph.specs.Certificate.{Certificate, row_of}
 use Rattle.mrt_graph.specs.CertWords.{head_of}
 use Rattle.mrt_graph.specs.Foldable.{in_chain}
 use Rattle.mrt_graph.specs.Hop.{Hop}
+use Rattle.mrt_graph.specs.Rows.{link_of_color}
 use Rattle.mrt_graph.specs.Topology.{Topology}
 use Rattle.mrt_graph.proofs.Blocks.{Words, Blocks, At, Inner, Top}
 use Rattle.mrt_graph.proofs.Claims.{Good, Way}
 use Rattle.mrt_graph.proofs.NearPairs.{near_claim}
+use Rattle.mrt_graph.proofs.RowFacts.{SameHops}
 use Rattle.mrt_graph.proofs.RowsHold.{in_block_there}
+use Rattle.mrt_graph.proofs.Steps.{next_of}
 use Rattle.mrt_graph.proofs.Trails.{Follows}
 use Rattle.mrt_graph.proofs.Whole.{good_everywhere}
 use Rattle.proxy_rows.specs.declared.attachment.Attachment.{Attachment}
+use Rattle.proxy_rows.specs.declared.proxy_row.Out.{Out}
 use Rattle.proxy_rows.specs.declared.proxy_row.Out.TheVariants as outs
 use Rattle.proxy_rows.specs.Ground.{IsGround}
-use Rattle.proxy_rows.specs.ProxyRows.{BelongsTo, IsEntry, First, None as none_of_it, IsProxyRow, OfOutside}
+use Rattle.proxy_rows.specs.ProxyRows.{BelongsTo, IsEntry, First, None as none_of_it, IsLinkFor, IsLinkIn}
 use Rattle.proxy_rows.specs.Sides.{IsMember}
 use Rattle.proxy_rows.proofs.Attaching.{words}
 use Rattle.proxy_rows.proofs.BlockRows.{link_is}
@@ -133,28 +138,37 @@ module _ (g : Topology) (c : Certificate) (at : Attachment) (ground : IsGround g
   not_at s out (Top same) = out (inr (same ∙ sym (head_is g c at ground)))
 
   -- a node outside has the links of its row for the head
-  pub outside_row : (s : ℕ) → s < w.count → (BelongsTo c at s → ⊥) → (row : Row) → row_of c s at.head ≡ Some row
-      → IsProxyRow g c at s (record { blue = outs.Link row.blue; red = outs.Link row.red })
-  outside_row s within out row row_is = let e = entry_there s within in go e.0 e.1 e.2
+  pub outside_link : (color : Color) (s : ℕ) → s < w.count → (BelongsTo c at s → ⊥) → (out : Out) → IsLinkFor c color s at.head out → IsLinkIn c at color s out
+  outside_link color s within out sent is = let e = entry_there s within in go e.0 e.1 e.2
     where
-      go : (e : ℕ) → IsEntry c at s e → BelongsTo c at e → IsProxyRow g c at s (record { blue = outs.Link row.blue; red = outs.Link row.red })
-      go e is (inr top) = OfOutside e row out is (subst (λ (v : ℕ). row_of c s v ≡ Some row) (sym top) row_is)
-      go e is (inl member) =
+      go : (e : ℕ) → IsEntry c at s e → BelongsTo c at e → IsLinkIn c at color s sent
+      go e enters (inr top) = record { entry = e; enters = enters; link = subst (λ (v : ℕ). IsLinkFor c color s v sent) (sym top) is }
+      go e enters (inl member) =
           let e_within = member_within g c at ground e member in
-          let e_same = member_block g c at ground e member in
           let differ : s ≢ e = λ same. out (inl (subst (IsMember c at) (sym same) member)) in
           let other = in_block_there g ground.accepted.root _ ground.accepted.accepted s e within e_within differ in
-          let ways = good s e within e_within differ in
-          let blue = begins (w.blue e) e s differ ways.blue in
-          let red = begins (w.red e) e s differ ways.red in
-          let same = outside_hops w blocks at.upper (upper_member g c at ground) (rows g c at ground) s within (not_at s out) e e_within e_same in
-          let top = head_is g c at ground in
-          let blue_top : w.blue at.head s ≡ Some blue.0 = subst (λ (h : ℕ). w.blue h s ≡ Some blue.0) (sym top) (sym same.blue ∙ blue.1) in
-          let red_top : w.red at.head s ≡ Some red.0 = subst (λ (h : ℕ). w.red h s ≡ Some red.0) (sym top) (sym same.red ∙ red.1) in
-          let blue_link : other.value.blue ≡ row.blue =
-          link_is g.links (row_of c) Blue e s other.value blue.0 other.is blue.1 ∙ sym (link_is g.links (row_of c) Blue at.head s row blue.0 row_is blue_top) in
-          let red_link : other.value.red ≡ row.red =
-          link_is g.links (row_of c) Red e s other.value red.0 other.is red.1 ∙ sym (link_is g.links (row_of c) Red at.head s row red.0 row_is red_top) in
-          subst (λ (k : ℕ). IsProxyRow g c at s (record { blue = outs.Link k; red = outs.Link row.red })) blue_link
-          (subst (λ (k : ℕ). IsProxyRow g c at s (record { blue = outs.Link other.value.blue; red = outs.Link k })) red_link
-          (OfOutside e other.value out is other.is))
+          let hop = begins (next_of w color e) e s differ (way_of color (good s e within e_within differ)) in
+          let same = same_hops color (outside_hops w blocks at.upper (upper_member g c at ground) (rows g c at ground) s within (not_at s out) e e_within (member_block g c at ground e member)) in
+          let at_head : next_of w color at.head s ≡ Some hop.0 =
+          subst (λ (h : ℕ). next_of w color h s ≡ Some hop.0) (sym (head_is g c at ground)) (sym same ∙ hop.1) in
+          record {
+            entry = e;
+            enters = enters;
+            link = record {
+              row = other.value;
+              row_is = other.is;
+              out_is = is.out_is ∙ ap (λ (k : ℕ). outs.Link k) (over color at.head is.row hop.0 is.row_is at_head ∙ sym (over color e other.value hop.0 other.is hop.1));
+            };
+          }
+        where
+          way_of : (color : Color) → Good w s e → Way (next_of w color e) e s
+          way_of Blue ways = ways.blue
+          way_of Red ways = ways.red
+
+          same_hops : (color : Color) → SameHops w s e (w.head at.upper) → next_of w color e s ≡ next_of w color (w.head at.upper) s
+          same_hops Blue same = same.blue
+          same_hops Red same = same.red
+
+          over : (color : Color) (t : ℕ) (row : Row) (hop : Hop) → row_of c s t ≡ Some row → next_of w color t s ≡ Some hop → link_of_color color row ≡ hop.link
+          over Blue t row hop row_is is = link_is g.links (row_of c) Blue t s row hop row_is is
+          over Red t row hop row_is is = link_is g.links (row_of c) Red t s row hop row_is is

@@ -25,11 +25,13 @@ use Rattle.mrt_graph.proofs.RowFacts as facts
 use Rattle.mrt_graph.proofs.Steps.{next_of}
 use Rattle.mrt_graph.proofs.Trails.{Follows, IsOnLinks, Parts, nodes_on}
 use Rattle.proxy_rows.specs.declared.attachment.Attachment.{Attachment}
-use Rattle.proxy_rows.specs.declared.proxy_row.Out.TheVariants as outs
+use Rattle.proxy_rows.specs.declared.proxy_row.Out.{Out}
 use Rattle.proxy_rows.specs.declared.proxy_row.ProxyRow.{ProxyRow}
 use Rattle.proxy_rows.specs.GraphWith.{AreRowsWith, link_out, links_with, new_node}
 use Rattle.proxy_rows.specs.Ground.{IsGround}
-use Rattle.proxy_rows.specs.ProxyRows.{BelongsTo, IsEntry, First, None as none_of_it, IsProxyRow, OfHead, OfLow, OfHigh, OfOther, OfOutside}
+use Rattle.proxy_rows.specs.declared.standing.Standing.{Standing}
+use Rattle.proxy_rows.specs.declared.standing.Standing.TheVariants as places
+use Rattle.proxy_rows.specs.ProxyRows.{BelongsTo, IsBlue, IsEntry, First, None as none_of_it, IsLinkFor, IsLinkIn, IsProxyRow, IsRed}
 use Rattle.proxy_rows.specs.Sides.{IsMember}
 use Rattle.proxy_rows.proofs.Attaching.{words}
 use Rattle.proxy_rows.proofs.BlockRows.{high_member, link_is, low_member}
@@ -39,6 +41,11 @@ use Rattle.proxy_rows.proofs.FirstVisit.{PartsBoth, on_front_too, parts_on, visi
 use Rattle.proxy_rows.proofs.Grounds.{b, counts, head_is, head_within, lower_at, lower_within, member_at, member_block, member_within, rows, upper_member, upper_within}
 use Rattle.proxy_rows.proofs.OutsideRows.{begins, good}
 use Rattle.proxy_rows.proofs.NewLinks.{leads_within, old_leads}
+use Rattle.proxy_rows.proofs.Stands.{Tells, tells}
+
+abbrev out_of : Color → ProxyRow → Out
+out_of Blue entry = entry.blue
+out_of Red entry = entry.red
 
 -- hops are followed alike where each node gives the same
 follows_alike : (next other : ℕ → Option Hop) → (t s : ℕ) (hops : List Hop) → ((x : ℕ) → next x ≡ other x) → Follows next t s hops → Follows other t s hops
@@ -78,23 +85,20 @@ module _ (g : Topology) (c : Certificate) (at : Attachment) (ground : IsGround g
   belongs s e (none_of_it _ same none) = inr same
 
   -- a node outside the block goes for the new node where it goes for the head
-  goes_for : (color : Color) (x e : ℕ) (row : Row) → x < w.count → e < w.count → x ≢ e → row_of c x e ≡ Some row
-      → (entry : ProxyRow) → slice_get entries x ≡ Some entry → entry ≡ record { blue = outs.Link row.blue; red = outs.Link row.red }
-      → next color x ≡ next_of w color e x
-  goes_for Blue x e row x_within e_within differ row_is entry at_x is =
+  goes_for : (color : Color) (x e : ℕ) → x < w.count → e < w.count → x ≢ e → (entry : ProxyRow) → slice_get entries x ≡ Some entry
+      → IsLinkFor c color x e (out_of color entry) → next color x ≡ next_of w color e x
+  goes_for Blue x e x_within e_within differ entry at_x is =
       let hop = begins (w.blue e) e x differ (good g c at ground x e x_within e_within differ).blue in
-      let over = link_is g.links (row_of c) Blue e x row hop.0 row_is hop.1 in
-      let on = (rows g c at ground).blue_leads e x hop.0 hop.1 in
       let r = are x entry at_x in
       takes links all Blue (new_node g) x hop.0.link hop.0.to r.row r.there
-      (r.blue ∙ ap (λ (p : ProxyRow). link_out g at x p.blue) is ∙ over) (old_leads g at hop.0.link x hop.0.to on) ∙ sym hop.1
-  goes_for Red x e row x_within e_within differ row_is entry at_x is =
+      (r.blue ∙ ap (link_out g at x) is.out_is ∙ link_is g.links (row_of c) Blue e x is.row hop.0 is.row_is hop.1)
+      (old_leads g at hop.0.link x hop.0.to ((rows g c at ground).blue_leads e x hop.0 hop.1)) ∙ sym hop.1
+  goes_for Red x e x_within e_within differ entry at_x is =
       let hop = begins (w.red e) e x differ (good g c at ground x e x_within e_within differ).red in
-      let over = link_is g.links (row_of c) Red e x row hop.0 row_is hop.1 in
-      let on = (rows g c at ground).red_leads e x hop.0 hop.1 in
       let r = are x entry at_x in
       takes links all Red (new_node g) x hop.0.link hop.0.to r.row r.there
-      (r.red ∙ ap (λ (p : ProxyRow). link_out g at x p.red) is ∙ over) (old_leads g at hop.0.link x hop.0.to on) ∙ sym hop.1
+      (r.red ∙ ap (link_out g at x) is.out_is ∙ link_is g.links (row_of c) Red e x is.row hop.0 is.row_is hop.1)
+      (old_leads g at hop.0.link x hop.0.to ((rows g c at ground).red_leads e x hop.0 hop.1)) ∙ sym hop.1
 
   same_hops : (color : Color) (x s t : ℕ) → SameHops w x s t → next_of w color s x ≡ next_of w color t x
   same_hops Blue x s t same = same.blue
@@ -103,29 +107,33 @@ module _ (g : Topology) (c : Certificate) (at : Attachment) (ground : IsGround g
   outside_next : (color : Color) (x : ℕ) → x < w.count → (At w at.upper x → ⊥) → next color x ≡ next_of w color (w.head at.upper) x
   outside_next color x within out =
       let known = there entries x (omega (arith, within, count_is, one_each)) in
-      go known.0 (each x known.0 known.1) known.1
+      let is = each x known.0 known.1 in
+      let sent = outs_in color known.0 is.standing (tells g.links c at x is.standing is.stands) is.blue is.red in
+      from known.0 known.1 sent.entry sent.link (belongs x sent.entry sent.enters)
     where
       no_member : IsMember c at x → ⊥
       no_member is = out (member_at g c at ground x is)
 
-      from : (e : ℕ) (row : Row) → BelongsTo c at e → row_of c x e ≡ Some row
-          → slice_get entries x ≡ Some (record { blue = outs.Link row.blue; red = outs.Link row.red }) → next color x ≡ next_of w color (w.head at.upper) x
-      from e row (inr top) row_is at_x =
+      outs_in : (color : Color) (entry : ProxyRow) (p : Standing) → Tells g.links c at x p → IsBlue p g c at x entry.blue → IsRed p g c at x entry.red
+          → IsLinkIn c at color x (out_of color entry)
+      outs_in color entry places.Head same blue red = absurd (out (Top (same ∙ head_is g c at ground)))
+      outs_in color entry places.OnLow low blue red = absurd (no_member (low_member g c at ground x low))
+      outs_in color entry places.OnHigh high blue red = absurd (no_member (high_member g c at ground x high))
+      outs_in color entry places.Other other blue red = absurd (no_member other.0)
+      outs_in Blue entry places.Outside outside blue red = blue
+      outs_in Red entry places.Outside outside blue red = red
+
+      from : (entry : ProxyRow) → slice_get entries x ≡ Some entry → (e : ℕ) → IsLinkFor c color x e (out_of color entry) → BelongsTo c at e
+          → next color x ≡ next_of w color (w.head at.upper) x
+      from entry at_x e link (inr top) =
           let is_head : e ≡ w.head at.upper = top ∙ head_is g c at ground in
           subst (λ (v : ℕ). next color x ≡ next_of w color v x) is_head
-          (goes_for color x e row within (subst (λ (v : ℕ). v < w.count) (sym top) (head_within g c at ground)) (λ same. out (Top (same ∙ is_head))) row_is _ at_x refl)
-      from e row (inl member) row_is at_x =
+          (goes_for color x e within (subst (λ (v : ℕ). v < w.count) (sym top) (head_within g c at ground)) (λ same. out (Top (same ∙ is_head))) entry at_x link)
+      from entry at_x e link (inl member) =
           let e_within = member_within g c at ground e member in
           let e_same = member_block g c at ground e member in
-          goes_for color x e row within e_within (λ same. no_member (subst (IsMember c at) (sym same) member)) row_is _ at_x refl
+          goes_for color x e within e_within (λ same. no_member (subst (IsMember c at) (sym same) member)) entry at_x link
           ∙ same_hops color x e (w.head at.upper) (outside_hops w blocks at.upper m_member (rows g c at ground) x within out e e_within e_same)
-
-      go : (entry : ProxyRow) → IsProxyRow g c at x entry → slice_get entries x ≡ Some entry → next color x ≡ next_of w color (w.head at.upper) x
-      go _ (OfHead blue red is blue_is red_is) at_x = absurd (out (Top (is ∙ head_is g c at ground)))
-      go _ (OfLow blue row low out_is row_is) at_x = absurd (no_member (low_member g c at ground x low))
-      go _ (OfHigh red row high out_is row_is) at_x = absurd (no_member (high_member g c at ground x high))
-      go _ (OfOther row is not_low not_high row_is) at_x = absurd (no_member is)
-      go _ (OfOutside entry row not_in is row_is) at_x = from entry row (belongs x entry is) row_is at_x
 
   -- the words of the graph with the new node, as far as the composition of two parts of a way reads them
   abbrev with : Words

@@ -1,15 +1,18 @@
 -- Two routers with a block in common have proxy rows.
 use Rattle.std.proofs.Common.{◌≡◌, ◌≢◌, ◌⊎◌, ◌<◌, ◌≤◌, ◌+◌, ◌-◌, ◌++◌, ◌∙◌, ℕ, zero, suc, Bool, true, false, List, [], ◌∷◌, Option, Some, None, slice_get, length, length-append, inl, inr, refl, sym, ap, subst, arith}
+use Rattle.std.specs.Bool.{Decides}
 use Rattle.std.proofs.lemmas.Bool.{cases_Bool, cases_eq, cases_lt, both_ways}
 use Rattle.std.proofs.lemmas.Option.{same_Some}
-use Rattle.mrt_graph.specs.declared.cert.Row.{Row}
+use Rattle.mrt_graph.specs.declared.cert.Color.{Color}
+use Rattle.mrt_graph.specs.declared.cert.Color.TheVariants.{Blue, Red}
 use Rattle.mrt_graph.specs.declared.link.End.{End}
-use Rattle.mrt_graph.specs.Certificate.{Certificate, row_of}
+use Rattle.mrt_graph.specs.Certificate.{Certificate}
 use Rattle.mrt_graph.specs.CertWords.{has_role, link_block}
 use Rattle.mrt_graph.specs.FirstEnd.{IsFirstEnd}
 use Rattle.mrt_graph.specs.GraphInvariant.{IsTopology}
 use Rattle.mrt_graph.specs.Related.{are_unrelated}
 use Rattle.mrt_graph.specs.Roles.{is_plain}
+use Rattle.mrt_graph.specs.Rows.{link_of_color}
 use Rattle.mrt_graph.specs.Rules.{GraphRule}
 use Rattle.mrt_graph.specs.Topology.{Topology}
 use Rattle.mrt_graph.proofs.EndsAt.{end_leads, list_of_ends}
@@ -24,17 +27,21 @@ use Rattle.proxy_rows.specs.declared.side.Side.{Side}
 use Rattle.proxy_rows.specs.declared.side.Side.TheVariants.{Low, High}
 use Rattle.mrt_graph.specs.AcceptedFor.{IsAcceptedFor}
 use Rattle.proxy_rows.specs.Attachment.{IsAttachment}
-use Rattle.proxy_rows.specs.Ends.{NoneBefore}
+use Rattle.proxy_rows.specs.Ends.{HasNoEnd, NoneBefore}
 use Rattle.proxy_rows.specs.Ground.{IsGround}
-use Rattle.proxy_rows.specs.ProxyRows.{AreProxyRows, AreRowsOf, IsHeadBlue, Itself, ToLow, IsOnward, IsPlainToLow, IsProxyRow, OfHead, OfLow, OfHigh, OfOther, IsSideOut, Here, Over}
+use Rattle.proxy_rows.specs.declared.standing.Standing.{Standing}
+use Rattle.proxy_rows.specs.declared.standing.Standing.TheVariants as places
+use Rattle.proxy_rows.specs.ProxyRows.{AreProxyRows, AreRowsOf, IsBlue, IsFirstOut, IsHeadBlue, IsLinkFor, IsOnward, IsPlainToLow, IsProxyRow, IsRed, IsSideOut, Here, Over}
+use Rattle.proxy_rows.specs.Standing.{IsStanding, standing_by}
 use Rattle.proxy_rows.specs.Sides.{IsIn, Router, Onward, IsMember, IsOfBlock, goes_on, router_of}
 use Rattle.proxy_rows.proofs.Attaching.{attached, attached_turned, orders_differ, words}
 use Rattle.proxy_rows.proofs.BlockRows.{high_member, low_member, to_high}
 use Rattle.proxy_rows.proofs.FirstEnds.{end_within, none_at_all, none_more}
 use Rattle.proxy_rows.proofs.Grounds.{b, counts, head_within, is_higher, is_lower, is_member, member_block}
 use Rattle.proxy_rows.proofs.HeadLinks.{head_red}
-use Rattle.proxy_rows.proofs.OutsideRows.{outside_row}
+use Rattle.proxy_rows.proofs.OutsideRows.{outside_link}
 use Rattle.proxy_rows.proofs.SideEnds.{head_end, side_end}
+use Rattle.proxy_rows.proofs.Stands.{Tells, head_stands, tells}
 
 -- something holds, or it does not
 abbrev Decided : Type 0 → Type 0
@@ -150,19 +157,25 @@ module _ (g : Topology) (c : Certificate) (at : Attachment) (ground : IsGround g
   decided_in : (side : Side) (s : ℕ) → s < length g.ids → Decided (IsIn g.links c at side s)
   decided_in side s within = decided_in_by (suc (rank side s)) side s within (omega arith)
 
-  -- blue at the head, and out of a node of a side
-  head_blue_there : (out : Out) × IsHeadBlue g c at out
-  head_blue_there = elim (cases_eq at.head at.lower) [
-    | inl same ↦ (outs.Attached, Itself same)
+  -- a node that is not attached itself has an end to go over
+  out_there : (Itself : Type 0) (Asked : End → Type 0) (v : ℕ) → v < length g.ids → Decided Itself → ((end : End) → end.to < length g.ids → Decided (Asked end))
+      → (¬ Itself → HasNoEnd g Asked v → ⊥) → (out : Out) × IsFirstOut g Itself Asked v out
+  out_there Itself Asked v within itself decided some = elim itself [
+    | inl same ↦ (outs.Attached, Here same)
     | inr other ↦
-        let h_within = head_within g c at ground in
-        let list = list_of_ends g at.head ground.kept (omega (arith, h_within, count_is)) in
-        go other list.0 list.1
-        (first_or_none g (IsPlainToLow g c at) at.head list.0 list.1
+        let list = list_of_ends g v ground.kept within in
+        elim (first_or_none g Asked v list.0 list.1
         (λ k end at_k.
-        let inside = end_within g c at ground at.head k list.0 end list.1 at_k in
-        plain_decided end (omega (arith, inside.1, count_is))) (length list.0))
+        let inside = end_within g c at ground v k list.0 end list.1 at_k in
+        decided end (omega (arith, inside.1, count_is))) (length list.0)) [
+          | inl found ↦ (outs.Link found.0.link, Over found.0 other found.1)
+          | inr none ↦ absurd (some other (none_at_all g Asked v (length list.0) list.0 list.1 (omega arith) none))
+        ]
   ]
+
+  head_blue_there : (out : Out) × IsHeadBlue g c at out
+  head_blue_there =
+      out_there (at.head ≡ at.lower) (IsPlainToLow g c at) at.head (omega (arith, head_within g c at ground, count_is)) (cases_eq at.head at.lower) plain_decided (head_end g c at ground)
     where
       plain_decided : (end : End) → end.to < length g.ids → Decided (IsPlainToLow g c at end)
       plain_decided end within = elim (decided_of_block end.link) [
@@ -176,55 +189,68 @@ module _ (g : Topology) (c : Certificate) (at : Attachment) (ground : IsGround g
         ]
       ]
 
-      go : at.head ≢ at.lower → (ends : List End) → slice_get g.ends at.head ≡ Some ends
-          → ((end : End) × IsFirstEnd g (IsPlainToLow g c at) at.head end) ⊎ NoneBefore (IsPlainToLow g c at) ends (length ends) → (out : Out) × IsHeadBlue g c at out
-      go other ends list (inl found) = (outs.Link found.0.link, ToLow found.0 other found.1)
-      go other ends list (inr none) = absurd (head_end g c at ground other (none_at_all g (IsPlainToLow g c at) at.head (length ends) ends list (omega arith) none))
-
   side_out_there : (side : Side) (s : ℕ) → s < length g.ids → IsIn g.links c at side s → (out : Out) × IsSideOut g c at side s out
-  side_out_there side s within is = elim (cases_eq s (router_of at side)) [
-    | inl same ↦ (outs.Attached, Here same)
-    | inr other ↦
-        let list = list_of_ends g s ground.kept within in
-        go other list.0 list.1
-        (first_or_none g (IsOnward g c at side s) s list.0 list.1
-        (λ k end at_k.
-        let inside = end_within g c at ground s k list.0 end list.1 at_k in
-        decided_onward side s end (λ v on same. decided_in side v (omega (arith, inside.1, same, count_is)))) (length list.0))
-  ]
-    where
-      go : s ≢ router_of at side → (ends : List End) → slice_get g.ends s ≡ Some ends
-          → ((end : End) × IsFirstEnd g (IsOnward g c at side s) s end) ⊎ NoneBefore (IsOnward g c at side s) ends (length ends) → (out : Out) × IsSideOut g c at side s out
-      go other ends list (inl found) = (outs.Link found.0.link, Over found.0 other found.1)
-      go other ends list (inr none) = absurd (side_end g c at ground.kept side s within other is (none_at_all g (IsOnward g c at side s) s (length ends) ends list (omega arith) none))
+  side_out_there side s within is =
+      out_there (s ≡ router_of at side) (IsOnward g c at side s) s within (cases_eq s (router_of at side))
+      (λ end to_within. decided_onward side s end (λ v on same. decided_in side v (omega (arith, to_within, same))))
+      (λ other none. side_end g c at ground.kept side s within other is none)
+
+  -- each node stands somewhere
+  test_of : (P : Type 0) → Decided P → (test : Bool) × Decides test P
+  test_of P decided = elim decided [ inl p ↦ (true, (λ yes. p, λ p. refl)) | inr none ↦ (false, (λ yes. absurd (cc), λ p. absurd (none p))) ]
+
+  standing_there : (s : ℕ) → s < length g.ids → (p : Standing) × IsStanding g.links c at s p
+  standing_there s within =
+      let head = test_of _ (cases_eq s at.head) in
+      let low = test_of _ (decided_in Low s within) in
+      let high = test_of _ (decided_in High s within) in
+      let member = test_of _ (decided_member s (omega (arith, within, count_is))) in (
+        standing_by head.0 low.0 high.0 member.0,
+        record {
+          head = head.0;
+          low = low.0;
+          high = high.0;
+          member = member.0;
+          is_head = head.1;
+          is_low = low.1;
+          is_high = high.1;
+          is_member = member.1;
+          standing_is = refl;
+        },
+      )
+
+  -- a node other than the head has a row for it
+  link_there : (color : Color) (s : ℕ) → s < length g.ids → s ≢ at.head → (out : Out) × IsLinkFor c color s at.head out
+  link_there color s within other =
+      let row =
+      in_block_there g ground.accepted.root _ ground.accepted.accepted s at.head (omega (arith, within, count_is)) (head_within g c at ground) other in
+      (outs.Link (link_of_color color row.value), record { row = row.value; row_is = row.is; out_is = refl })
 
   -- each node has a row
+  outs_there : (s : ℕ) → s < length g.ids → (p : Standing) → IsStanding g.links c at s p → Tells g.links c at s p
+      → ((out : Out) × IsBlue p g c at s out) × ((out : Out) × IsRed p g c at s out)
+  outs_there s within places.Head is top = (head_blue_there, (outs.Link (to_high g c at ground).hop.link, head_red g c at ground))
+  outs_there s within places.OnLow is low =
+      let other : s ≢ at.head = λ same. absurd (cc (head_stands g.links c at s places.OnLow is same)) in
+      (side_out_there Low s within low, link_there Red s within other)
+  outs_there s within places.OnHigh is high =
+      let other : s ≢ at.head = λ same. absurd (cc (head_stands g.links c at s places.OnHigh is same)) in
+      (link_there Blue s within other, side_out_there High s within high)
+  outs_there s within places.Other is tell =
+      let other : s ≢ at.head = λ same. absurd (cc (head_stands g.links c at s places.Other is same)) in
+      (link_there Red s within other, link_there Blue s within other)
+  outs_there s within places.Outside is outside =
+      let other : s ≢ at.head = λ same. outside (inr same) in
+      let in_count : s < length c.nodes = omega (arith, within, count_is) in
+      let blue = link_there Blue s within other in
+      let red = link_there Red s within other in
+      ((blue.0, outside_link g c at ground Blue s in_count outside blue.0 blue.1), (red.0, outside_link g c at ground Red s in_count outside red.0 red.1))
+
   row_there : (s : ℕ) → s < length g.ids → (row : ProxyRow) × IsProxyRow g c at s row
-  row_there s within = elim (cases_eq s at.head) [
-    | inl top ↦
-        let blue = head_blue_there in
-        let red = outs.Link (to_high g c at ground).hop.link in
-        (record { blue = blue.0; red = red }, OfHead blue.0 red top blue.1 (head_red g c at ground))
-    | inr other ↦
-        let row =
-        in_block_there g ground.accepted.root _ ground.accepted.accepted s at.head (omega (arith, within, count_is)) (head_within g c at ground) other in
-        go other row.value row.is (decided_in Low s within) (decided_in High s within) (decided_member s (omega (arith, within, count_is)))
-  ]
-    where
-      go : s ≢ at.head → (row : Row) → row_of c s at.head ≡ Some row → Decided (IsIn g.links c at Low s) → Decided (IsIn g.links c at High s) → Decided (IsMember c at s)
-          → (row : ProxyRow) × IsProxyRow g c at s row
-      go other row is (inl low) high member =
-          let blue = side_out_there Low s within low in
-          (record { blue = blue.0; red = outs.Link row.red }, OfLow blue.0 row low blue.1 is)
-      go other row is (inr not_low) (inl high) member =
-          let red = side_out_there High s within high in
-          (record { blue = outs.Link row.blue; red = red.0 }, OfHigh red.0 row high red.1 is)
-      go other row is (inr not_low) (inr not_high) (inl member) =
-          (record { blue = outs.Link row.red; red = outs.Link row.blue }, OfOther row member not_low not_high is)
-      go other row is (inr not_low) (inr not_high) (inr outside) = (
-        record { blue = outs.Link row.blue; red = outs.Link row.red },
-        outside_row g c at ground s (omega (arith, within, count_is)) (λ belongs. elim belongs [ inl member ↦ outside member | inr top ↦ other top ]) row is,
-      )
+  row_there s within =
+      let p = standing_there s within in
+      let sent = outs_there s within p.0 p.1 (tells g.links c at s p.0 p.1) in
+      (record { blue = sent.0.0; red = sent.1.0 }, record { standing = p.0; stands = p.1; blue = sent.0.1; red = sent.1.1 })
 
   -- and the first so many nodes have rows
   record Firsts (n : ℕ) : Type 0 where

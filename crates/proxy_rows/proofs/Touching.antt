@@ -3,8 +3,10 @@ use Rattle.std.proofs.Common.{◌≡◌, ◌<◌, ℕ, List, Option, Some, None,
 use Rattle.std.specs.Prelude.{IsSome}
 use Rattle.std.proofs.lemmas.Bool.{and_parts, cases_Bool, ltb-true}
 use Rattle.std.specs.Prelude.{nat_lt}
+use Rattle.mrt_graph.specs.declared.cert.Color.{Color}
 use Rattle.mrt_graph.specs.declared.cert.Color.TheVariants.{Blue, Red}
 use Rattle.mrt_graph.specs.declared.cert.Row.{Row}
+use Rattle.mrt_graph.specs.declared.link.End.{End}
 use Rattle.mrt_graph.specs.declared.link.Link.{Link}
 use Rattle.mrt_graph.specs.AcceptedFor.{IsAcceptedFor}
 use Rattle.mrt_graph.specs.GraphInvariant.{IsTopology}
@@ -16,15 +18,18 @@ use Rattle.mrt_graph.proofs.TestFacts.{row_of_two}
 use Rattle.proxy_rows.specs.declared.attachment.Attachment.{Attachment}
 use Rattle.proxy_rows.specs.declared.proxy_row.Out.{Out}
 use Rattle.proxy_rows.specs.declared.proxy_row.ProxyRow.{ProxyRow}
-use Rattle.proxy_rows.specs.declared.side.Side.{Side}
+use Rattle.proxy_rows.specs.declared.side.Side.TheVariants.{Low, High}
 use Rattle.proxy_rows.specs.Ground.{IsGround}
-use Rattle.proxy_rows.specs.ProxyRows.{AreProxyRows, IsHeadBlue, Itself, ToLow, IsHeadRed, IsProxyRow, OfHead, OfLow, OfHigh, OfOther, OfOutside, IsSideOut, Here, Over}
+use Rattle.proxy_rows.specs.declared.standing.Standing.{Standing}
+use Rattle.proxy_rows.specs.declared.standing.Standing.TheVariants as places
+use Rattle.proxy_rows.specs.ProxyRows.{AreProxyRows, IsBlue, IsFirstOut, IsHeadRed, IsLinkFor, IsOnward, IsPlainToLow, IsRed, Here, Over}
 use Rattle.proxy_rows.specs.Touches.{AllTouch, Touches}
 use Rattle.proxy_rows.proofs.Attaching.{words}
 use Rattle.proxy_rows.proofs.BlockRows.{link_is, to_high}
 use Rattle.proxy_rows.proofs.Grounds.{rows}
 use Rattle.proxy_rows.proofs.HeadLinks.{red_link}
 use Rattle.proxy_rows.proofs.OutsideRows.{begins, good}
+use Rattle.proxy_rows.proofs.Stands.{Tells, tells}
 
 -- a row is of two nodes
 within : (c : Certificate) (s t : ℕ) (row : Row) → row_of c s t ≡ Some row → (s < length c.nodes) × (t < length c.nodes)
@@ -59,11 +64,14 @@ module _ (g : Topology) (c : Certificate) (at : Attachment) (ground : IsGround g
         red = subst (λ (e : ℕ). IsSome (leads g.links e s)) (sym (link_is g.links (row_of c) Red t s row red.0 is red.1)) (touching g.links red.0.link s red.0.to red_on);
       }
 
-  head_blue_touches : (s : ℕ) (out : Out) → s ≡ at.head → IsHeadBlue g c at out → Touches g s out
-  head_blue_touches s _ same (Itself low) = tt
-  head_blue_touches s _ same (ToLow end other first) =
-      subst (λ (x : ℕ). IsSome (leads g.links end.link x)) (sym same)
-      (touching g.links end.link at.head end.to (end_leads g at.head first.place first.ends end ground.kept first.list first.there))
+  out_touches : (Itself : Type 0) (Asked : End → Type 0) (v : ℕ) (out : Out) → IsFirstOut g Itself Asked v out → Touches g v out
+  out_touches Itself Asked v _ (Here is) = tt
+  out_touches Itself Asked v _ (Over end other first) =
+      touching g.links end.link v end.to (end_leads g v first.place first.ends end ground.kept first.list first.there)
+
+  link_touches : (color : Color) (s t : ℕ) (out : Out) → IsLinkFor c color s t out → Touches g s out
+  link_touches Blue s t out is = subst (Touches g s) (sym is.out_is) (row_touches s t is.row is.row_is).blue
+  link_touches Red s t out is = subst (Touches g s) (sym is.out_is) (row_touches s t is.row is.row_is).red
 
   head_red_touches : (s : ℕ) (out : Out) → s ≡ at.head → IsHeadRed c at out → Touches g s out
   head_red_touches s out same is =
@@ -71,18 +79,20 @@ module _ (g : Topology) (c : Certificate) (at : Attachment) (ground : IsGround g
       subst (Touches g s) (sym (red_link g c at ground out is))
       (subst (λ (x : ℕ). IsSome (leads g.links to.hop.link x)) (sym same) (touching g.links to.hop.link at.head to.hop.to to.leads_on))
 
-  side_touches : (side : Side) (s : ℕ) (out : Out) → IsSideOut g c at side s out → Touches g s out
-  side_touches side s _ (Here same) = tt
-  side_touches side s _ (Over end other first) =
-      touching g.links end.link s end.to (end_leads g s first.place first.ends end ground.kept first.list first.there)
-
   -- both of a proxy row
-  pub touches : (s : ℕ) (entry : ProxyRow) → IsProxyRow g c at s entry → Touches g s entry.blue × Touches g s entry.red
-  touches s _ (OfHead blue red same blue_is red_is) = (head_blue_touches s blue same blue_is, head_red_touches s red same red_is)
-  touches s _ (OfLow blue row low out is) = (side_touches _ s blue out, (row_touches s at.head row is).red)
-  touches s _ (OfHigh red row high out is) = ((row_touches s at.head row is).blue, side_touches _ s red out)
-  touches s _ (OfOther row member not_low not_high is) = ((row_touches s at.head row is).red, (row_touches s at.head row is).blue)
-  touches s _ (OfOutside entry row out entry_is is) = ((row_touches s entry row is).blue, (row_touches s entry row is).red)
+  blue_touches : (s : ℕ) (p : Standing) (out : Out) → Tells g.links c at s p → IsBlue p g c at s out → Touches g s out
+  blue_touches s places.Head out same is = subst (λ (x : ℕ). Touches g x out) (sym same) (out_touches _ (IsPlainToLow g c at) at.head out is)
+  blue_touches s places.OnLow out low is = out_touches _ (IsOnward g c at Low s) s out is
+  blue_touches s places.OnHigh out high is = link_touches Blue s at.head out is
+  blue_touches s places.Other out other is = link_touches Red s at.head out is
+  blue_touches s places.Outside out outside is = link_touches Blue s is.entry out is.link
+
+  red_touches : (s : ℕ) (p : Standing) (out : Out) → Tells g.links c at s p → IsRed p g c at s out → Touches g s out
+  red_touches s places.Head out same is = head_red_touches s out same is
+  red_touches s places.OnLow out low is = link_touches Red s at.head out is
+  red_touches s places.OnHigh out high is = out_touches _ (IsOnward g c at High s) s out is
+  red_touches s places.Other out other is = link_touches Blue s at.head out is
+  red_touches s places.Outside out outside is = link_touches Red s is.entry out is.link
 
 -- both of each
 pub all_touch : (g : Topology) (c : Certificate) (a b : ℕ) (entries : List ProxyRow) → IsTopology g → IsAcceptedFor g c → AreProxyRows g c a b entries → AllTouch g entries
@@ -90,6 +100,10 @@ all_touch g c a b entries kept accepted are =
     let ground : IsGround g c are.at = record { kept = kept; accepted = accepted; a = a; b = b; attached = are.attached } in
     record {
       one_each = are.rows.one_each;
-      blue = λ s row at. (touches g c are.at ground s row (are.rows.each s row at)).0;
-      red = λ s row at. (touches g c are.at ground s row (are.rows.each s row at)).1;
+      blue = λ s row at.
+          let is = are.rows.each s row at in
+          blue_touches g c are.at ground s is.standing row.blue (tells g.links c are.at s is.standing is.stands) is.blue;
+      red = λ s row at.
+          let is = are.rows.each s row at in
+          red_touches g c are.at ground s is.standing row.red (tells g.links c are.at s is.standing is.stands) is.red;
     }

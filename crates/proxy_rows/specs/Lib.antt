@@ -6,6 +6,7 @@ pub mod ProxyRows
 pub mod ProxyText
 pub mod ReadFrom
 pub mod Sides
+pub mod Standing
 pub mod Steps
 pub mod Touches
 pub mod Words

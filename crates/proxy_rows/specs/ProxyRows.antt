@@ -1,5 +1,7 @@
 -- The rows of all nodes for a node that is attached to two routers.
 use Rattle.std.specs.Prelude.{◌≡◌, ◌≢◌, ◌⊎◌, ◌<◌, ℕ, true, List, Some, length, slice_get}
+use Rattle.mrt_graph.specs.declared.cert.Color.{Color}
+use Rattle.mrt_graph.specs.declared.cert.Color.TheVariants.{Blue, Red}
 use Rattle.mrt_graph.specs.declared.cert.Row.{Row}
 use Rattle.mrt_graph.specs.declared.link.End.{End}
 use Rattle.mrt_graph.specs.Certificate.{Certificate, row_of}
@@ -7,6 +9,7 @@ use Rattle.mrt_graph.specs.CertWords.{has_role, links_of}
 use Rattle.mrt_graph.specs.FirstEnd.{IsFirstEnd}
 use Rattle.mrt_graph.specs.Foldable.{in_chain}
 use Rattle.mrt_graph.specs.Roles.{is_closing, is_plain}
+use Rattle.mrt_graph.specs.Rows.{link_of_color}
 use Rattle.mrt_graph.specs.Topology.{Topology}
 use Rattle.proxy_rows.specs.declared.attachment.Attachment.{Attachment}
 use Rattle.proxy_rows.specs.declared.proxy_row.Out.{Out}
@@ -14,9 +17,12 @@ use Rattle.proxy_rows.specs.declared.proxy_row.Out.TheVariants.{Attached, Link}
 use Rattle.proxy_rows.specs.declared.proxy_row.ProxyRow.{ProxyRow}
 use Rattle.proxy_rows.specs.declared.side.Side.{Side}
 use Rattle.proxy_rows.specs.declared.side.Side.TheVariants.{Low, High}
+use Rattle.proxy_rows.specs.declared.standing.Standing.{Standing}
+use Rattle.proxy_rows.specs.declared.standing.Standing.TheVariants.{Head, OnLow, OnHigh, Other, Outside}
 use Rattle.proxy_rows.specs.Attachment.{IsAttachment}
 use Rattle.proxy_rows.specs.Sides.{IsIn, IsMember, IsOfBlock, goes_on}
 use Rattle.proxy_rows.specs.Sides as sides
+use Rattle.proxy_rows.specs.Standing.{IsStanding}
 
 -- an end over a plain link of the block to a node of Low
 pub record IsPlainToLow (g : Topology) (c : Certificate) (at : Attachment) (end : End) : Type 0 where
@@ -30,23 +36,23 @@ pub record IsOnward (g : Topology) (c : Certificate) (at : Attachment) (side : S
   pub within : IsIn g.links c at side end.to
   pub onward : goes_on c side s end.to ≡ true
 
--- blue at the head: it is attached itself, or goes over its first end by a plain link to a node of Low
-pub data IsHeadBlue (g : Topology) (c : Certificate) (at : Attachment) : Out → Type 0 where
-  Itself : at.head ≡ at.lower → IsHeadBlue g c at Attached
-  ToLow : (end : End) → at.head ≢ at.lower → IsFirstEnd g (IsPlainToLow g c at) at.head end
-      → IsHeadBlue g c at (Link end.link)
+-- out of node v: it is attached itself where this holds, and else goes over its first end that has what is asked for
+pub data IsFirstOut (g : Topology) (Itself : Type 0) (Asked : End → Type 0) (v : ℕ) : Out → Type 0 where
+  Here : Itself → IsFirstOut g Itself Asked v Attached
+  Over : (end : End) → ¬ Itself → IsFirstEnd g Asked v end → IsFirstOut g Itself Asked v (Link end.link)
+
+-- blue at the head: it is the router with the lower order, or goes by a plain link to a node of Low
+abbrev pub IsHeadBlue : Topology → Certificate → Attachment → Out → Type 0
+IsHeadBlue g c at out = IsFirstOut g (at.head ≡ at.lower) (IsPlainToLow g c at) at.head out
 
 -- red at the head: the closing link of the block; in a block of one link, that link
 pub data IsHeadRed (c : Certificate) (at : Attachment) : Out → Type 0 where
   Closing : (e : ℕ) → IsOfBlock c at e → has_role is_closing c e ≡ true → IsHeadRed c at (Link e)
   OneLink : (e : ℕ) → IsOfBlock c at e → length (links_of c at.block) ≡ 1 → IsHeadRed c at (Link e)
 
--- out of a node of a side: it is the router of the side, or goes over its first end to a node of the side to which one
--- goes on
-pub data IsSideOut (g : Topology) (c : Certificate) (at : Attachment) (side : Side) (s : ℕ) : Out → Type 0 where
-  Here : s ≡ sides.router_of at side → IsSideOut g c at side s Attached
-  Over : (end : End) → s ≢ sides.router_of at side → IsFirstEnd g (IsOnward g c at side s) s end
-      → IsSideOut g c at side s (Link end.link)
+-- out of a node of a side: it is the router of the side, or goes to a node of the side to which one goes on
+abbrev pub IsSideOut : Topology → Certificate → Attachment → Side → ℕ → Out → Type 0
+IsSideOut g c at side s out = IsFirstOut g (s ≡ sides.router_of at side) (IsOnward g c at side s) s out
 
 -- x belongs to the block, as a member or as its head
 abbrev pub BelongsTo : Certificate → Attachment → ℕ → Type 0
@@ -60,19 +66,39 @@ pub data IsEntry (c : Certificate) (at : Attachment) (s : ℕ) : ℕ → Type 0 
   None : (x : ℕ) → x ≡ at.head → ((steps y : ℕ) → in_chain c steps s ≡ Some y → ¬ BelongsTo c at y)
       → IsEntry c at s x
 
--- the row of node s: by its place in the block, and from the rows of s for the head of the block or for where its way
--- enters the block
-pub data IsProxyRow (g : Topology) (c : Certificate) (at : Attachment) (s : ℕ) : ProxyRow → Type 0 where
-  OfHead : (blue red : Out) → s ≡ at.head → IsHeadBlue g c at blue → IsHeadRed c at red
-      → IsProxyRow g c at s (record { blue = blue; red = red })
-  OfLow : (blue : Out) (row : Row) → IsIn g.links c at Low s → IsSideOut g c at Low s blue
-      → row_of c s at.head ≡ Some row → IsProxyRow g c at s (record { blue = blue; red = Link row.red })
-  OfHigh : (red : Out) (row : Row) → IsIn g.links c at High s → IsSideOut g c at High s red
-      → row_of c s at.head ≡ Some row → IsProxyRow g c at s (record { blue = Link row.blue; red = red })
-  OfOther : (row : Row) → IsMember c at s → ¬ IsIn g.links c at Low s → ¬ IsIn g.links c at High s
-      → row_of c s at.head ≡ Some row → IsProxyRow g c at s (record { blue = Link row.red; red = Link row.blue })
-  OfOutside : (entry : ℕ) (row : Row) → ¬ BelongsTo c at s → IsEntry c at s entry
-      → row_of c s entry ≡ Some row → IsProxyRow g c at s (record { blue = Link row.blue; red = Link row.red })
+-- the link of a color of the row of s for t
+pub record IsLinkFor (c : Certificate) (color : Color) (s t : ℕ) (out : Out) : Type 0 where
+  pub row : Row
+  pub row_is : row_of c s t ≡ Some row
+  pub out_is : out ≡ Link (link_of_color color row)
+
+-- that for where its way enters the block
+pub record IsLinkIn (c : Certificate) (at : Attachment) (color : Color) (s : ℕ) (out : Out) : Type 0 where
+  pub entry : ℕ
+  pub enters : IsEntry c at s entry
+  pub link : IsLinkFor c color s entry out
+
+-- the table, by where node s stands: blue, and red
+abbrev pub IsBlue : Standing → Topology → Certificate → Attachment → ℕ → Out → Type 0
+IsBlue Head g c at s out = IsHeadBlue g c at out
+IsBlue OnLow g c at s out = IsSideOut g c at Low s out
+IsBlue OnHigh g c at s out = IsLinkFor c Blue s at.head out
+IsBlue Other g c at s out = IsLinkFor c Red s at.head out
+IsBlue Outside g c at s out = IsLinkIn c at Blue s out
+
+abbrev pub IsRed : Standing → Topology → Certificate → Attachment → ℕ → Out → Type 0
+IsRed Head g c at s out = IsHeadRed c at out
+IsRed OnLow g c at s out = IsLinkFor c Red s at.head out
+IsRed OnHigh g c at s out = IsSideOut g c at High s out
+IsRed Other g c at s out = IsLinkFor c Blue s at.head out
+IsRed Outside g c at s out = IsLinkIn c at Red s out
+
+-- the row of node s: by the table
+pub record IsProxyRow (g : Topology) (c : Certificate) (at : Attachment) (s : ℕ) (row : ProxyRow) : Type 0 where
+  pub standing : Standing
+  pub stands : IsStanding g.links c at s standing
+  pub blue : IsBlue standing g c at s row.blue
+  pub red : IsRed standing g c at s row.red
 
 -- one row per node
 pub record AreRowsOf (g : Topology) (c : Certificate) (at : Attachment) (rows : List ProxyRow) : Type 0 where

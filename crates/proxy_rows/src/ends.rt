@@ -3,7 +3,7 @@
 ghost use Rattle.std.specs.Prelude.{◌≡◌, ◌<◌, ◌↔◌, ℕ, IfNone, IfSome, IsTrue, Some, length, slice_get};
 ghost use Rattle.mrt_graph.specs.{CertWords.has_role, FirstEnd.IsFirstEnd, Roles.is_plain, Search.IsMarked};
 ghost use Rattle.proxy_rows.specs.{declared.side.Side.TheVariants.Low, ProxyRows.IsOnward, ProxyRows.IsPlainToLow, Sides.IsOfBlock};
-ghost use Rattle.proxy_rows.specs.Ends.{HasNoEnd, IsNotPlain, NoneBefore};
+ghost use Rattle.proxy_rows.specs.Ends.{HasNoEnd, IsNotPlain, IsWanted, NoneBefore, side_of};
 ghost use Rattle.proxy_rows.specs.Words.{AreAccepted, IsOn, without_rows};
 
 use crate::attachment::Attachment;
@@ -11,68 +11,66 @@ use crate::side::{Side, goes_on};
 use crate::words::{Words, link_at};
 use mrt_graph::{End, LinkNo, NodeNo, Role};
 
-/// The first end of the head over a plain link of the block to a node of Low.
-pub fn first_plain(words: &Words, at: &Attachment, low: &[bool]) -> Option<End>
-    requires ground { AreAccepted words.now at.now }
-    requires count { length low.now ≡ length words.now.graph.now.ids }
-    requires marked { (s : ℕ) → IsMarked low.now s ↔ IsOn words.now at.now Low s }
-    ensures some { IfSome result (IsFirstEnd words.now.graph.now
-        (IsPlainToLow words.now.graph.now (without_rows words.now) at.now) at.now.head) }
-    ensures none { IfNone result (HasNoEnd words.now.graph.now
-        (IsPlainToLow words.now.graph.now (without_rows words.now) at.now) at.now.head) }
-{
-    let ends = words.graph.ends(at.head);
-    for place in 0..ends.len() {
-        let end = ends[place];
-        if is_plain_to_low(words, at, low, &end) {
-            return Some(end);
-        }
-    }
-    None
+/// What is asked of an end of a node.
+#[derive(Clone, Copy)]
+pub enum Wanted {
+    /// It is over a plain link of the block to a node of Low.
+    PlainToLow,
+    /// It is over a link of the block that is not plain.
+    NotPlain,
+    /// It is over a link of the block to a node of the side, to which one goes on.
+    Onward(Side),
 }
 
-/// An end of the head over a link of the block that is not plain.
-pub fn first_closing(words: &Words, at: &Attachment) -> Option<End>
-    requires ground { AreAccepted words.now at.now }
-    ensures some { IfSome result (IsNotPlain (without_rows words.now) at.now) }
-    ensures none { IfNone result (HasNoEnd words.now.graph.now
-        (IsNotPlain (without_rows words.now) at.now) at.now.head) }
-{
-    let ends = words.graph.ends(at.head);
-    for place in 0..ends.len() {
-        let end = ends[place];
-        if is_not_plain(words, at, &end) {
-            return Some(end);
-        }
-    }
-    None
-}
-
-/// The first end of `s` over a link of the block to a node of the side, to which one goes on.
-pub fn first_onward(
+/// The first end of `v` that has what is asked for, by the marks of the side that is asked for.
+pub fn first_end(
     words: &Words,
     at: &Attachment,
-    side: Side,
+    wanted: Wanted,
     marks: &[bool],
-    s: NodeNo,
+    v: NodeNo,
 ) -> Option<End>
     requires ground { AreAccepted words.now at.now }
     requires count { length marks.now ≡ length words.now.graph.now.ids }
-    requires marked { (s : ℕ) → IsMarked marks.now s ↔ IsOn words.now at.now side s }
-    requires within { s < length words.now.graph.now.ids }
+    requires marked { (s : ℕ) → IsMarked marks.now s ↔ IsOn words.now at.now (side_of wanted) s }
+    requires within { v < length words.now.graph.now.ids }
     ensures some { IfSome result (IsFirstEnd words.now.graph.now
-        (IsOnward words.now.graph.now (without_rows words.now) at.now side s) s) }
+        (IsWanted words.now.graph.now (without_rows words.now) at.now wanted v) v) }
     ensures none { IfNone result (HasNoEnd words.now.graph.now
-        (IsOnward words.now.graph.now (without_rows words.now) at.now side s) s) }
+        (IsWanted words.now.graph.now (without_rows words.now) at.now wanted v) v) }
 {
-    let ends = words.graph.ends(s);
-    for number in 0..ends.len() {
-        let end = ends[number];
-        if is_onward(words, at, side, marks, s, &end) {
+    let ends = words.graph.ends(v);
+    for place in 0..ends.len() {
+        let end = ends[place];
+        if is_wanted(words, at, wanted, marks, v, &end) {
             return Some(end);
         }
     }
     None
+}
+
+/// Whether an end of `v` has what is asked for.
+fn is_wanted(
+    words: &Words,
+    at: &Attachment,
+    wanted: Wanted,
+    marks: &[bool],
+    v: NodeNo,
+    end: &End,
+) -> bool
+    requires link { end.now.link < length words.now.links.now }
+    requires from { v < length words.now.nodes.now }
+    requires to { end.now.to < length words.now.nodes.now }
+    requires count { length marks.now ≡ length words.now.nodes.now }
+    requires marked { (s : ℕ) → IsMarked marks.now s ↔ IsOn words.now at.now (side_of wanted) s }
+    ensures { IsTrue result
+        ↔ IsWanted words.now.graph.now (without_rows words.now) at.now wanted v end.now }
+{
+    match wanted {
+        Wanted::PlainToLow => is_plain_to_low(words, at, marks, end),
+        Wanted::NotPlain => is_not_plain(words, at, end),
+        Wanted::Onward(side) => is_onward(words, at, side, marks, v, end),
+    }
 }
 
 /// Whether an end is over a plain link of the block to a node of Low.

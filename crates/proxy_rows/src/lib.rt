@@ -10,6 +10,7 @@ mod proxy_law;
 mod proxy_row;
 mod rows;
 mod side;
+mod standing;
 mod text;
 mod text_law;
 mod words;

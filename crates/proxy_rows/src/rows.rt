@@ -8,11 +8,12 @@ ghost use Rattle.proxy_rows.specs.ProxyRows.{AreProxyRows, AreRowsOf, IsHeadBlue
 ghost use Rattle.proxy_rows.specs.Words.{AreAccepted, AreReadWith, IsOn, with_rows};
 
 use crate::attachment::{Attachment, attach};
-use crate::ends::{first_closing, first_onward, first_plain, is_marked};
-use crate::marking::{is_member, side_marks};
+use crate::ends::{Wanted, first_end};
+use crate::marking::side_marks;
 use crate::proxy_error::ProxyError;
 use crate::proxy_row::{Out, ProxyRow};
 use crate::side::{Side, router_of};
+use crate::standing::{Standing, stands};
 use crate::words::Words;
 use mrt_graph::{Cert, CertLink, CertNode, Graph, NoMemory, NodeNo, RowsOf};
 use std::alloc::Global;
@@ -120,33 +121,31 @@ fn row<R: RowsOf>(
     ensures { (rest : List Row) → AreReadWith words.now at.now (R.rows rows.now) rest
         → IsProxyRow words.now.graph.now (with_rows words.now rest) at.now s result }
 {
+    let standing = stands(words, at, low, high, s);
     if s == at.head {
         return ProxyRow {
             blue: head_blue(words, at, low),
-            red: head_red(words, at),
+            red: head_red(words, at, low),
         };
     }
     let row = rows.row_for(s, at.head);
     let (blue, red) = (Out::Link(row.blue), Out::Link(row.red));
-    if is_marked(low, s) {
-        return ProxyRow {
+    match standing {
+        Standing::Head => unreachable!(),
+        Standing::OnLow => ProxyRow {
             blue: side_out(words, at, Side::Low, low, s),
             red,
-        };
-    }
-    if is_marked(high, s) {
-        return ProxyRow {
+        },
+        Standing::OnHigh => ProxyRow {
             blue,
             red: side_out(words, at, Side::High, high, s),
-        };
-    }
-    if is_member(words, at, s) {
-        return ProxyRow {
+        },
+        Standing::Other => ProxyRow {
             blue: red,
             red: blue,
-        };
+        },
+        Standing::Outside => ProxyRow { blue, red },
     }
-    ProxyRow { blue, red }
 }
 
 /// Blue at the head.
@@ -160,18 +159,20 @@ fn head_blue(words: &Words, at: &Attachment, low: &[bool]) -> Out
     if at.head == at.lower {
         return Out::Attached;
     }
-    match first_plain(words, at, low) {
+    match first_end(words, at, Wanted::PlainToLow, low, at.head) {
         Some(end) => Out::Link(end.link),
         None => unreachable!(),
     }
 }
 
 /// Red at the head: the closing link of the block, or its one link.
-fn head_red(words: &Words, at: &Attachment) -> Out
+fn head_red(words: &Words, at: &Attachment, low: &[bool]) -> Out
     requires ground { AreAccepted words.now at.now }
+    requires low_count { length low.now ≡ length words.now.graph.now.ids }
+    requires low { (s : ℕ) → IsMarked low.now s ↔ IsOn words.now at.now Low s }
     ensures { (rest : List Row) → IsHeadRed (with_rows words.now rest) at.now result }
 {
-    match first_closing(words, at) {
+    match first_end(words, at, Wanted::NotPlain, low, at.head) {
         Some(end) => Out::Link(end.link),
         None => unreachable!(),
     }
@@ -190,7 +191,7 @@ fn side_out(words: &Words, at: &Attachment, side: Side, marks: &[bool], s: NodeN
     if s == router_of(at, side) {
         return Out::Attached;
     }
-    match first_onward(words, at, side, marks, s) {
+    match first_end(words, at, Wanted::Onward(side), marks, s) {
         Some(end) => Out::Link(end.link),
         None => unreachable!(),
     }

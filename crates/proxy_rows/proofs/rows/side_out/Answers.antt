@@ -1,9 +1,11 @@
 use Rattle.std.proofs.Common.{◌≢◌, ◌∙◌, [], sym}
 use Rattle.std.proofs.lemmas.Bool.{eqb-false, eqb-true}
-use Rattle.proxy_rows.specs.ProxyRows.{Here, IsOnward, Over}
+use Rattle.proxy_rows.specs.declared.ends.Wanted.TheVariants.{Onward}
+use Rattle.proxy_rows.specs.Ends.{IsWanted}
+use Rattle.proxy_rows.specs.ProxyRows.{Here, Over}
 use Rattle.proxy_rows.specs.Sides.{router_of}
 use Rattle.proxy_rows.specs.Words.{with_rows, without_rows}
-use Rattle.proxy_rows.proofs.AnyRows.{first_too, onward_end}
+use Rattle.proxy_rows.proofs.AnyRows.{first_too, wanted_end}
 use Rattle.proxy_rows.proofs.SideEnds.{side_end}
 use Rattle.proxy_rows.proofs.rows.side_out.Goals as goal
 
@@ -20,8 +22,9 @@ pub returns : goal.returns
 returns c rest =
     let words = c.args.words.now in
     let at = c.args.at.now in
-    let side = c.args.side in
-    let other : c.args.s ≢ router_of at side = λ same. eqb-false _ _ (sym c.eq.ensures ∙ c.if-eq.false) (same ∙ sym c.router_of.ensures) in
+    let s = c.args.s in
+    let wanted = Onward c.args.side in
+    let other : s ≢ router_of at c.args.side = λ same. eqb-false _ _ (sym c.eq.ensures ∙ c.if-eq.false) (same ∙ sym c.router_of.ensures) in
     Over c.in-Some.end other
-    (first_too words.graph.now (IsOnward words.graph.now (without_rows words) at side c.args.s) (IsOnward words.graph.now (with_rows words rest) at side c.args.s)
-    (onward_end words at [] rest side c.args.s) (onward_end words at rest [] side c.args.s) c.args.s c.in-Some.end c.in-Some.ensures.some)
+    (first_too words.graph.now (IsWanted words.graph.now (without_rows words) at wanted s) (IsWanted words.graph.now (with_rows words rest) at wanted s)
+    (wanted_end words at [] rest wanted s) (wanted_end words at rest [] wanted s) s c.in-Some.end c.in-Some.ensures.some)

@@ -1,0 +1,59 @@
+//! Where a node stands to the block of two routers.
+
+ghost use Rattle.std.specs.Prelude.{◌≡◌, ◌<◌, ◌↔◌, ℕ, List, length};
+ghost use Rattle.mrt_graph.specs.{declared.cert.Row.Row, Search.IsMarked};
+ghost use Rattle.proxy_rows.specs.{declared.side.Side.TheVariants.Low, declared.side.Side.TheVariants.High};
+ghost use Rattle.proxy_rows.specs.{Standing.IsStanding, Standing.standing_by, Words.IsOn, Words.with_rows};
+
+use crate::attachment::Attachment;
+use crate::ends::is_marked;
+use crate::marking::is_member;
+use crate::words::Words;
+use mrt_graph::NodeNo;
+
+/// Where a node stands to the block of two routers: it is its head, or a member on Low or on High, or another one, or none
+/// of these.
+#[derive(Clone, Copy)]
+pub enum Standing {
+    Head,
+    OnLow,
+    OnHigh,
+    Other,
+    Outside,
+}
+
+/// Where a node stands, by the marks of both sides.
+pub fn stands(words: &Words, at: &Attachment, low: &[bool], high: &[bool], s: NodeNo) -> Standing
+    requires low_count { s < length low.now }
+    requires low { (s : ℕ) → IsMarked low.now s ↔ IsOn words.now at.now Low s }
+    requires high_count { s < length high.now }
+    requires high { (s : ℕ) → IsMarked high.now s ↔ IsOn words.now at.now High s }
+    requires within { s < length words.now.nodes.now }
+    ensures { (rest : List Row) → IsStanding words.now.graph.now.links (with_rows words.now rest) at.now s result }
+{
+    standing_by(
+        s == at.head,
+        is_marked(low, s),
+        is_marked(high, s),
+        is_member(words, at, s),
+    )
+}
+
+/// The same by the four tests, the first that holds.
+fn standing_by(head: bool, low: bool, high: bool, member: bool) -> Standing
+    ensures { result ≡ standing_by head low high member }
+{
+    if head {
+        return Standing::Head;
+    }
+    if low {
+        return Standing::OnLow;
+    }
+    if high {
+        return Standing::OnHigh;
+    }
+    if member {
+        return Standing::Other;
+    }
+    Standing::Outside
+}
