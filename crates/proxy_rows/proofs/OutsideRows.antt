@@ -10,6 +10,7 @@ use Rattle.mrt_graph.specs.Certificate.{Certificate, row_of}
 use Rattle.mrt_graph.specs.CertWords.{head_of}
 use Rattle.mrt_graph.specs.Foldable.{in_chain}
 use Rattle.mrt_graph.specs.Hop.{Hop}
+use Rattle.mrt_graph.specs.Leads.{leads}
 use Rattle.mrt_graph.specs.Rows.{link_of_color}
 use Rattle.mrt_graph.specs.Topology.{Topology}
 use Rattle.mrt_graph.proofs.Blocks.{Words, Blocks, At, Inner, Top}
@@ -38,6 +39,25 @@ begins next t s differ way = go way.hops way.follows
     go : (hops : List Hop) → Follows next t s hops → (hop : Hop) × (next s ≡ Some hop)
     go [] f = absurd (differ f)
     go (hop ∷ hops) f = (hop, f.1.0)
+
+-- what is known of both colors, of one
+pub way_of : (w : Words) (color : Color) (t s : ℕ) → Good w s t → Way (next_of w color t) t s
+way_of w Blue t s ways = ways.blue
+way_of w Red t s ways = ways.red
+
+pub same_hops : (w : Words) (color : Color) (x s t : ℕ) → SameHops w x s t → next_of w color s x ≡ next_of w color t x
+same_hops w Blue x s t same = same.blue
+same_hops w Red x s t same = same.red
+
+module _ (g : Topology) (c : Certificate) (at : Attachment) (ground : IsGround g c at) where
+  pub hop_leads : (color : Color) (t s : ℕ) (hop : Hop) → next_of (words g c ground.accepted) color t s ≡ Some hop → leads g.links hop.link s ≡ Some hop.to
+  hop_leads Blue t s hop is = (rows g c at ground).blue_leads t s hop is
+  hop_leads Red t s hop is = (rows g c at ground).red_leads t s hop is
+
+  pub link_over : (color : Color) (t s : ℕ) (row : Row) (hop : Hop) → row_of c s t ≡ Some row → next_of (words g c ground.accepted) color t s ≡ Some hop
+      → link_of_color color row ≡ hop.link
+  link_over Blue t s row hop row_is is = link_is g.links (row_of c) Blue t s row hop row_is is
+  link_over Red t s row hop row_is is = link_is g.links (row_of c) Red t s row hop row_is is
 
 module _ (g : Topology) (c : Certificate) (at : Attachment) (ground : IsGround g c at) where
   abbrev w : Words
@@ -147,8 +167,8 @@ module _ (g : Topology) (c : Certificate) (at : Attachment) (ground : IsGround g
           let e_within = member_within g c at ground e member in
           let differ : s ≢ e = λ same. out (inl (subst (IsMember c at) (sym same) member)) in
           let other = in_block_there g ground.accepted.root _ ground.accepted.accepted s e within e_within differ in
-          let hop = begins (next_of w color e) e s differ (way_of color (good s e within e_within differ)) in
-          let same = same_hops color (outside_hops w blocks at.upper (upper_member g c at ground) (rows g c at ground) s within (not_at s out) e e_within (member_block g c at ground e member)) in
+          let hop = begins (next_of w color e) e s differ (way_of w color e s (good s e within e_within differ)) in
+          let same = same_hops w color s e (w.head at.upper) (outside_hops w blocks at.upper (upper_member g c at ground) (rows g c at ground) s within (not_at s out) e e_within (member_block g c at ground e member)) in
           let at_head : next_of w color at.head s ≡ Some hop.0 =
           subst (λ (h : ℕ). next_of w color h s ≡ Some hop.0) (sym (head_is g c at ground)) (sym same ∙ hop.1) in
           record {
@@ -157,18 +177,6 @@ module _ (g : Topology) (c : Certificate) (at : Attachment) (ground : IsGround g
             link = record {
               row = other.value;
               row_is = other.is;
-              out_is = is.out_is ∙ ap (λ (k : ℕ). outs.Link k) (over color at.head is.row hop.0 is.row_is at_head ∙ sym (over color e other.value hop.0 other.is hop.1));
+              out_is = is.out_is ∙ ap (λ (k : ℕ). outs.Link k) (link_over g c at ground color at.head s is.row hop.0 is.row_is at_head ∙ sym (link_over g c at ground color e s other.value hop.0 other.is hop.1));
             };
           }
-        where
-          way_of : (color : Color) → Good w s e → Way (next_of w color e) e s
-          way_of Blue ways = ways.blue
-          way_of Red ways = ways.red
-
-          same_hops : (color : Color) → SameHops w s e (w.head at.upper) → next_of w color e s ≡ next_of w color (w.head at.upper) s
-          same_hops Blue same = same.blue
-          same_hops Red same = same.red
-
-          over : (color : Color) (t : ℕ) (row : Row) (hop : Hop) → row_of c s t ≡ Some row → next_of w color t s ≡ Some hop → link_of_color color row ≡ hop.link
-          over Blue t row hop row_is is = link_is g.links (row_of c) Blue t s row hop row_is is
-          over Red t row hop row_is is = link_is g.links (row_of c) Red t s row hop row_is is

@@ -10,7 +10,7 @@ use Rattle.mrt_graph.specs.declared.link.Link.{Link}
 use Rattle.mrt_graph.specs.Certificate.{Certificate, row_of}
 use Rattle.mrt_graph.specs.Hop.{Hop, color_hop}
 use Rattle.mrt_graph.specs.Leads.{leads}
-use Rattle.mrt_graph.specs.Rows.{Rows}
+use Rattle.mrt_graph.specs.Rows.{Rows, link_of_color}
 use Rattle.mrt_graph.specs.Sound.{SoundFor}
 use Rattle.mrt_graph.specs.Topology.{Topology}
 use Rattle.mrt_graph.proofs.Blocks.{Words, Blocks, Member, At, Inner, Top, Below}
@@ -27,7 +27,7 @@ use Rattle.mrt_graph.proofs.Trails.{Follows, IsOnLinks, Parts, nodes_on}
 use Rattle.proxy_rows.specs.declared.attachment.Attachment.{Attachment}
 use Rattle.proxy_rows.specs.declared.proxy_row.Out.{Out}
 use Rattle.proxy_rows.specs.declared.proxy_row.ProxyRow.{ProxyRow}
-use Rattle.proxy_rows.specs.GraphWith.{AreRowsWith, link_out, links_with, new_node}
+use Rattle.proxy_rows.specs.GraphWith.{AreRowsWith, IsRowWith, link_out, links_with, new_node}
 use Rattle.proxy_rows.specs.Ground.{IsGround}
 use Rattle.proxy_rows.specs.declared.standing.Standing.{Standing}
 use Rattle.proxy_rows.specs.declared.standing.Standing.TheVariants as places
@@ -39,7 +39,7 @@ use Rattle.proxy_rows.proofs.BlockSteps.{from_block, takes}
 use Rattle.proxy_rows.proofs.Entries.{Entry, Inside, ByMember, ByHead, at_or_not, before_head, before_member, entry, head_parts, last_on, member_parts, nodes_within, outside_hops}
 use Rattle.proxy_rows.proofs.FirstVisit.{PartsBoth, on_front_too, parts_on, visit}
 use Rattle.proxy_rows.proofs.Grounds.{b, counts, head_is, head_within, lower_at, lower_within, member_at, member_block, member_within, rows, upper_member, upper_within}
-use Rattle.proxy_rows.proofs.OutsideRows.{begins, good}
+use Rattle.proxy_rows.proofs.OutsideRows.{begins, good, hop_leads, link_over, same_hops, way_of}
 use Rattle.proxy_rows.proofs.NewLinks.{leads_within, old_leads}
 use Rattle.proxy_rows.proofs.Stands.{Tells, tells}
 
@@ -87,22 +87,16 @@ module _ (g : Topology) (c : Certificate) (at : Attachment) (ground : IsGround g
   -- a node outside the block goes for the new node where it goes for the head
   goes_for : (color : Color) (x e : ℕ) → x < w.count → e < w.count → x ≢ e → (entry : ProxyRow) → slice_get entries x ≡ Some entry
       → IsLinkFor c color x e (out_of color entry) → next color x ≡ next_of w color e x
-  goes_for Blue x e x_within e_within differ entry at_x is =
-      let hop = begins (w.blue e) e x differ (good g c at ground x e x_within e_within differ).blue in
+  goes_for color x e x_within e_within differ entry at_x is =
+      let hop = begins (next_of w color e) e x differ (way_of w color e x (good g c at ground x e x_within e_within differ)) in
       let r = are x entry at_x in
-      takes links all Blue (new_node g) x hop.0.link hop.0.to r.row r.there
-      (r.blue ∙ ap (link_out g at x) is.out_is ∙ link_is g.links (row_of c) Blue e x is.row hop.0 is.row_is hop.1)
-      (old_leads g at hop.0.link x hop.0.to ((rows g c at ground).blue_leads e x hop.0 hop.1)) ∙ sym hop.1
-  goes_for Red x e x_within e_within differ entry at_x is =
-      let hop = begins (w.red e) e x differ (good g c at ground x e x_within e_within differ).red in
-      let r = are x entry at_x in
-      takes links all Red (new_node g) x hop.0.link hop.0.to r.row r.there
-      (r.red ∙ ap (link_out g at x) is.out_is ∙ link_is g.links (row_of c) Red e x is.row hop.0 is.row_is hop.1)
-      (old_leads g at hop.0.link x hop.0.to ((rows g c at ground).red_leads e x hop.0 hop.1)) ∙ sym hop.1
-
-  same_hops : (color : Color) (x s t : ℕ) → SameHops w x s t → next_of w color s x ≡ next_of w color t x
-  same_hops Blue x s t same = same.blue
-  same_hops Red x s t same = same.red
+      takes links all color (new_node g) x hop.0.link hop.0.to r.row r.there
+      (row_link color x entry r ∙ ap (link_out g at x) is.out_is ∙ link_over g c at ground color e x is.row hop.0 is.row_is hop.1)
+      (old_leads g at hop.0.link x hop.0.to (hop_leads g c at ground color e x hop.0 hop.1)) ∙ sym hop.1
+    where
+      row_link : (color : Color) (x : ℕ) (entry : ProxyRow) (r : IsRowWith g at all x entry) → link_of_color color r.row ≡ link_out g at x (out_of color entry)
+      row_link Blue x entry r = r.blue
+      row_link Red x entry r = r.red
 
   outside_next : (color : Color) (x : ℕ) → x < w.count → (At w at.upper x → ⊥) → next color x ≡ next_of w color (w.head at.upper) x
   outside_next color x within out =
@@ -133,7 +127,7 @@ module _ (g : Topology) (c : Certificate) (at : Attachment) (ground : IsGround g
           let e_within = member_within g c at ground e member in
           let e_same = member_block g c at ground e member in
           goes_for color x e within e_within (λ same. no_member (subst (IsMember c at) (sym same) member)) entry at_x link
-          ∙ same_hops color x e (w.head at.upper) (outside_hops w blocks at.upper m_member (rows g c at ground) x within out e e_within e_same)
+          ∙ same_hops w color x e (w.head at.upper) (outside_hops w blocks at.upper m_member (rows g c at ground) x within out e e_within e_same)
 
   -- the words of the graph with the new node, as far as the composition of two parts of a way reads them
   abbrev with : Words
@@ -227,10 +221,6 @@ module _ (g : Topology) (c : Certificate) (at : Attachment) (ground : IsGround g
             (λ same. omega (arith, a.0, count_is, same), sym (red_new x) ∙ a.1 ∙ red_old e old x);
       })
 
-  leads_of : (color : Color) (t : ℕ) → IsOnLinks g.links (next_of w color t)
-  leads_of Blue t = (rows g c at ground).blue_leads t
-  leads_of Red t = (rows g c at ground).red_leads t
-
   -- each node on the way to the member where a node's way enters goes for the new node where it goes for that member
   by_member : (s e y : ℕ) → s < w.count → e < w.count → w.block e ≡ w.block at.upper → Member w y → w.head y ≡ e → Below w y s
       → (At w at.upper s → ⊥) → Good with s (new_node g)
@@ -243,15 +233,15 @@ module _ (g : Topology) (c : Certificate) (at : Attachment) (ground : IsGround g
       (λ color x hops follows has other.
       let x_within = on_within color e s hops s_within follows x has in
       let x_out : At w at.upper x → ⊥ =
-      before_member w blocks at.upper m_member (next_of w color e) (leads_of color e) s x e y hops e_within e_same y_member head below follows has other in (
+      before_member w blocks at.upper m_member (next_of w color e) (hop_leads g c at ground color e) s x e y hops e_within e_same y_member head below follows has other in (
         x_within,
         outside_next color x x_within x_out
-            ∙ sym (same_hops color x e (w.head at.upper) (outside_hops w blocks at.upper m_member (rows g c at ground) x x_within x_out e e_within e_same)),
+            ∙ sym (same_hops w color x e (w.head at.upper) (outside_hops w blocks at.upper m_member (rows g c at ground) x x_within x_out e e_within e_same)),
       ))
     where
       on_within : (color : Color) (t s : ℕ) (hops : List Hop) → s < w.count → Follows (next_of w color t) t s hops → (x : ℕ) → Has (nodes_on s hops) x → x < w.count
       on_within color t s hops within follows x has =
-          nodes_within g.links w.count blocks.to_within s t within hops (follows_trail g.links (next_of w color t) (leads_of color t) t s hops follows) x has
+          nodes_within g.links w.count blocks.to_within s t within hops (follows_trail g.links (next_of w color t) (hop_leads g c at ground color t) t s hops follows) x has
 
   by_head : (s : ℕ) → s < w.count → (Below w at.upper s → ⊥) → (At w at.upper s → ⊥) → Good with s (new_node g)
   by_head s s_within none out =
@@ -264,10 +254,10 @@ module _ (g : Topology) (c : Certificate) (at : Attachment) (ground : IsGround g
       by_entry s h s_within h_within differ h_at (record { lower = lower; upper = upper })
       (λ color x hops follows has other.
       let x_within =
-      nodes_within g.links w.count blocks.to_within s h s_within hops (follows_trail g.links (next_of w color h) (leads_of color h) h s hops follows) x has in (
+      nodes_within g.links w.count blocks.to_within s h s_within hops (follows_trail g.links (next_of w color h) (hop_leads g c at ground color h) h s hops follows) x has in (
         x_within,
         outside_next color x x_within
-            (before_head w blocks at.upper m_member (next_of w color h) (leads_of color h) s x hops none follows has other),
+            (before_head w blocks at.upper m_member (next_of w color h) (hop_leads g c at ground color h) s x hops none follows has other),
       ))
 
   -- a node of the block

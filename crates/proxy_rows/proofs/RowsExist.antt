@@ -7,7 +7,7 @@ use Rattle.mrt_graph.specs.declared.cert.Color.{Color}
 use Rattle.mrt_graph.specs.declared.cert.Color.TheVariants.{Blue, Red}
 use Rattle.mrt_graph.specs.declared.link.End.{End}
 use Rattle.mrt_graph.specs.Certificate.{Certificate}
-use Rattle.mrt_graph.specs.CertWords.{has_role, link_block}
+use Rattle.mrt_graph.specs.CertWords.{block_of, has_role, link_block}
 use Rattle.mrt_graph.specs.FirstEnd.{IsFirstEnd}
 use Rattle.mrt_graph.specs.GraphInvariant.{IsTopology}
 use Rattle.mrt_graph.specs.Related.{are_unrelated}
@@ -16,6 +16,7 @@ use Rattle.mrt_graph.specs.Rows.{link_of_color}
 use Rattle.mrt_graph.specs.Rules.{GraphRule}
 use Rattle.mrt_graph.specs.Topology.{Topology}
 use Rattle.mrt_graph.proofs.EndsAt.{end_leads, list_of_ends}
+use Rattle.mrt_graph.proofs.FirstPlaces.{first_of}
 use Rattle.mrt_graph.proofs.ListPlaces.{pushed_at}
 use Rattle.mrt_graph.proofs.ListTests.{there}
 use Rattle.mrt_graph.proofs.RowsHold.{in_block_there}
@@ -36,8 +37,8 @@ use Rattle.proxy_rows.specs.Standing.{IsStanding, standing_by}
 use Rattle.proxy_rows.specs.Sides.{IsIn, Router, Onward, IsMember, IsOfBlock, goes_on, router_of}
 use Rattle.proxy_rows.proofs.Attaching.{attached, attached_turned, orders_differ, words}
 use Rattle.proxy_rows.proofs.BlockRows.{high_member, low_member, to_high}
-use Rattle.proxy_rows.proofs.FirstEnds.{end_within, none_at_all, none_more}
-use Rattle.proxy_rows.proofs.Grounds.{b, counts, head_within, is_higher, is_lower, is_member, member_block}
+use Rattle.proxy_rows.proofs.FirstEnds.{end_within, none_at_all}
+use Rattle.proxy_rows.proofs.Grounds.{b, counts, head_within, is_higher, is_lower}
 use Rattle.proxy_rows.proofs.HeadLinks.{head_red}
 use Rattle.proxy_rows.proofs.OutsideRows.{outside_link}
 use Rattle.proxy_rows.proofs.SideEnds.{head_end, side_end}
@@ -50,50 +51,47 @@ Decided P = P ⊎ (P → ⊥)
 decided_true : (test : Bool) → Decided (test ≡ true)
 decided_true test = elim (cases_Bool test) [ inl holds ↦ inl holds | inr fails ↦ inr (λ holds. both_ways test fails holds) ]
 
+decided_some : (o : Option ℕ) (k : ℕ) → Decided (o ≡ Some k)
+decided_some None k = inr (λ is. cc)
+decided_some (Some x) k = elim (cases_eq x k) [ inl same ↦ inl (ap (λ (y : ℕ). Some y) same) | inr other ↦ inr (λ is. other (same_Some x k is)) ]
+
+and_then : (P Q : Type 0) → Decided P → (P → Decided Q) → Decided (P × Q)
+and_then P Q first second = elim first [
+  | inr none ↦ inr (λ both. none both.0)
+  | inl p ↦ elim (second p) [ inl q ↦ inl (p, q) | inr none ↦ inr (λ both. none both.1) ]
+]
+
+told_as : (P Q : Type 0) → (P → Q) → (Q → P) → Decided P → Decided Q
+told_as P Q there back decided = elim decided [ inl p ↦ inl (there p) | inr none ↦ inr (λ q. none (back q)) ]
+
+-- the end at a place does not have what is asked for, or it has it
+abbrev NoneAt : (End → Type 0) → List End → ℕ → Type 0
+NoneAt Asked ends k = (end : End) → slice_get ends k ≡ Some end → Asked end → ⊥
+
+abbrev OneAt : (End → Type 0) → List End → ℕ → Type 0
+OneAt Asked ends k = (end : End) × (slice_get ends k ≡ Some end) × Asked end
+
 -- of ends, each of which has what is asked for or does not, there is a first one, or none has it
 first_or_none : (g : Topology) (Asked : End → Type 0) (v : ℕ) (ends : List End) → slice_get g.ends v ≡ Some ends
-    → ((k : ℕ) (end : End) → slice_get ends k ≡ Some end → Decided (Asked end)) → (n : ℕ) → ((end : End) × IsFirstEnd g Asked v end) ⊎ NoneBefore Asked ends n
-first_or_none g Asked v ends list decided zero = inr (λ k end less at. absurd (omega (arith, less)))
-first_or_none g Asked v ends list decided (suc n) = elim (first_or_none g Asked v ends list decided n) [
-  | inl found ↦ inl found
-  | inr before ↦ go before (slice_get ends n) refl
+    → ((k : ℕ) (end : End) → slice_get ends k ≡ Some end → Decided (Asked end)) → ((end : End) × IsFirstEnd g Asked v end) ⊎ NoneBefore Asked ends (length ends)
+first_or_none g Asked v ends list decided = elim (first_of (NoneAt Asked ends) (OneAt Asked ends) (length ends) each) [
+  | inl none ↦ inr (λ k end less at. none k less end at)
+  | inr found ↦
+      let end = found.1.1.0 in
+      inl (end.0, record { ends = ends; list = list; place = found.0; there = end.1; asked = end.2; none_before = λ k other less at. found.1.1.1 k less other at })
 ]
   where
-    go : NoneBefore Asked ends n → (o : Option End) → slice_get ends n ≡ o → ((end : End) × IsFirstEnd g Asked v end) ⊎ NoneBefore Asked ends (suc n)
-    go before None at = inr (λ k end less at_k. elim (cases_lt k n) [
-      | inl early ↦ before k end early at_k
-      | inr late ↦
-          let last : k ≡ n = omega (arith, late, less) in
-          let here : slice_get ends n ≡ Some end = subst (λ (i : ℕ). slice_get ends i ≡ Some end) last at_k in
-          let clash : ◌≡◌ {A = Option End} None (Some end) = sym at ∙ here in
-          absurd (cc)
-    ])
-    go before (Some end) at = elim (decided n end at) [
-      | inl asked ↦ inl (end, record { ends = ends; list = list; place = n; there = at; asked = asked; none_before = before })
-      | inr not_asked ↦
-          let up : n + 1 ≡ suc n = omega arith in
-          inr (subst (λ (m : ℕ). NoneBefore Asked ends m) up (none_more Asked ends n end at not_asked before))
-    ]
+    each : (k : ℕ) → k < length ends → NoneAt Asked ends k ⊎ OneAt Asked ends k
+    each k within =
+        let end = there ends k within in
+        elim (decided k end.0 end.1) [
+          | inl asked ↦ inr (end.0, end.1, asked)
+          | inr not_asked ↦ inl (λ other at asked. not_asked (subst Asked (same_Some other end.0 (sym at ∙ end.1)) asked))
+        ]
 
 module _ (g : Topology) (c : Certificate) (at : Attachment) (ground : IsGround g c at) where
   count_is : length c.nodes ≡ length g.ids
   count_is = (counts g c at ground).nodes
-
-  decided_of_block : (e : ℕ) → Decided (IsOfBlock c at e)
-  decided_of_block e = go (link_block c e) refl
-    where
-      go : (o : Option ℕ) → link_block c e ≡ o → Decided (IsOfBlock c at e)
-      go None is = inr (λ of. let clash : ◌≡◌ {A = Option ℕ} None (Some at.block) = sym is ∙ of in cc)
-      go (Some k) is = elim (cases_eq k at.block) [
-        | inl same ↦ inl (is ∙ ap (λ (x : ℕ). Some x) same)
-        | inr other ↦ inr (λ of. other (same_Some k at.block (sym is ∙ of)))
-      ]
-
-  decided_member : (s : ℕ) → s < length c.nodes → Decided (IsMember c at s)
-  decided_member s within = elim (cases_eq ((words g c ground.accepted).block s) ((words g c ground.accepted).block at.upper)) [
-    | inl same ↦ inl (is_member g c at ground s within same)
-    | inr other ↦ inr (λ is. other (member_block g c at ground s is))
-  ]
 
   side_member : (side : Side) (s : ℕ) → IsIn g.links c at side s → IsMember c at s
   side_member Low s is = low_member g c at ground s is
@@ -111,16 +109,11 @@ module _ (g : Topology) (c : Certificate) (at : Attachment) (ground : IsGround g
 
   -- an end leads on along a side, or it does not
   decided_onward : (side : Side) (s : ℕ) (end : End) → ((v : ℕ) → goes_on c side s v ≡ true → v ≡ end.to → Decided (IsIn g.links c at side v)) → Decided (IsOnward g c at side s end)
-  decided_onward side s end decided = elim (decided_of_block end.link) [
-    | inr not_of ↦ inr (λ asked. not_of asked.of_block)
-    | inl of ↦ elim (decided_true (goes_on c side s end.to)) [
-      | inr not_on ↦ inr (λ asked. not_on asked.onward)
-      | inl on ↦ elim (decided end.to on refl) [
-        | inr not_in ↦ inr (λ asked. not_in asked.within)
-        | inl is ↦ inl (record { of_block = of; within = is; onward = on })
-      ]
-    ]
-  ]
+  decided_onward side s end decided =
+      told_as (IsOfBlock c at end.link × ((goes_on c side s end.to ≡ true) × IsIn g.links c at side end.to)) (IsOnward g c at side s end)
+      (λ is. record { of_block = is.0; within = is.1.1; onward = is.1.0 }) (λ asked. (asked.of_block, (asked.onward, asked.within)))
+      (and_then _ _ (decided_some (link_block c end.link) at.block)
+      (λ of. and_then _ _ (decided_true (goes_on c side s end.to)) (λ on. decided end.to on refl)))
 
   -- a node is on a side, or it is not
   decided_by_end : (side : Side) (s : ℕ) → s < length g.ids → IsMember c at s → s ≢ router_of at side → (ends : List End) → slice_get g.ends s ≡ Some ends
@@ -134,7 +127,7 @@ module _ (g : Topology) (c : Certificate) (at : Attachment) (ground : IsGround g
 
   decided_in_by : (bound : ℕ) (side : Side) (s : ℕ) → s < length g.ids → rank side s < bound → Decided (IsIn g.links c at side s)
   decided_in_by zero side s within less = absurd (omega (arith, less))
-  decided_in_by (suc bound) side s within less = elim (decided_member s (omega (arith, within, count_is))) [
+  decided_in_by (suc bound) side s within less = elim (decided_some (block_of c s) at.block) [
     | inr outside ↦ inr (λ is. outside (side_member side s is))
     | inl member ↦ elim (cases_eq s (router_of at side)) [
       | inl same ↦ inl (Router s same member)
@@ -151,8 +144,7 @@ module _ (g : Topology) (c : Certificate) (at : Attachment) (ground : IsGround g
           let inside = end_within g c at ground s k list.0 end list.1 at_k in
           decided_onward side s end (λ v on same.
           let v_within : v < length c.nodes = omega (arith, inside.1, same) in
-          ih v (omega (arith, v_within, count_is)) (omega (arith, less, rank_falls side s v v_within on))))
-          (length list.0))
+          ih v (omega (arith, v_within, count_is)) (omega (arith, less, rank_falls side s v v_within on)))))
 
   decided_in : (side : Side) (s : ℕ) → s < length g.ids → Decided (IsIn g.links c at side s)
   decided_in side s within = decided_in_by (suc (rank side s)) side s within (omega arith)
@@ -167,7 +159,7 @@ module _ (g : Topology) (c : Certificate) (at : Attachment) (ground : IsGround g
         elim (first_or_none g Asked v list.0 list.1
         (λ k end at_k.
         let inside = end_within g c at ground v k list.0 end list.1 at_k in
-        decided end (omega (arith, inside.1, count_is))) (length list.0)) [
+        decided end (omega (arith, inside.1, count_is)))) [
           | inl found ↦ (outs.Link found.0.link, Over found.0 other found.1)
           | inr none ↦ absurd (some other (none_at_all g Asked v (length list.0) list.0 list.1 (omega arith) none))
         ]
@@ -178,16 +170,11 @@ module _ (g : Topology) (c : Certificate) (at : Attachment) (ground : IsGround g
       out_there (at.head ≡ at.lower) (IsPlainToLow g c at) at.head (omega (arith, head_within g c at ground, count_is)) (cases_eq at.head at.lower) plain_decided (head_end g c at ground)
     where
       plain_decided : (end : End) → end.to < length g.ids → Decided (IsPlainToLow g c at end)
-      plain_decided end within = elim (decided_of_block end.link) [
-        | inr not_of ↦ inr (λ asked. not_of asked.of_block)
-        | inl of ↦ elim (decided_true (has_role is_plain c end.link)) [
-          | inr not_plain ↦ inr (λ asked. not_plain asked.plain)
-          | inl plain ↦ elim (decided_in Low end.to within) [
-            | inr not_in ↦ inr (λ asked. not_in asked.low)
-            | inl is ↦ inl (record { of_block = of; plain = plain; low = is })
-          ]
-        ]
-      ]
+      plain_decided end within =
+          told_as (IsOfBlock c at end.link × ((has_role is_plain c end.link ≡ true) × IsIn g.links c at Low end.to)) (IsPlainToLow g c at end)
+          (λ is. record { of_block = is.0; plain = is.1.0; low = is.1.1 }) (λ asked. (asked.of_block, (asked.plain, asked.low)))
+          (and_then _ _ (decided_some (link_block c end.link) at.block)
+          (λ of. and_then _ _ (decided_true (has_role is_plain c end.link)) (λ plain. decided_in Low end.to within)))
 
   side_out_there : (side : Side) (s : ℕ) → s < length g.ids → IsIn g.links c at side s → (out : Out) × IsSideOut g c at side s out
   side_out_there side s within is =
@@ -204,7 +191,7 @@ module _ (g : Topology) (c : Certificate) (at : Attachment) (ground : IsGround g
       let head = test_of _ (cases_eq s at.head) in
       let low = test_of _ (decided_in Low s within) in
       let high = test_of _ (decided_in High s within) in
-      let member = test_of _ (decided_member s (omega (arith, within, count_is))) in (
+      let member = test_of _ (decided_some (block_of c s) at.block) in (
         standing_by head.0 low.0 high.0 member.0,
         record {
           head = head.0;

@@ -1,5 +1,5 @@
 -- Each link of a proxy row touches the row's node.
-use Rattle.std.proofs.Common.{◌≡◌, ◌<◌, ℕ, List, Option, Some, None, length, inl, inr, refl, sym, subst}
+use Rattle.std.proofs.Common.{◌≡◌, ◌∙◌, ◌<◌, ℕ, List, Option, Some, None, length, inl, inr, refl, sym, ap, subst}
 use Rattle.std.specs.Prelude.{IsSome}
 use Rattle.std.proofs.lemmas.Bool.{and_parts, cases_Bool, ltb-true}
 use Rattle.std.specs.Prelude.{nat_lt}
@@ -14,9 +14,11 @@ use Rattle.mrt_graph.specs.Certificate.{Certificate, are_two, row_of}
 use Rattle.mrt_graph.specs.Leads.{leads}
 use Rattle.mrt_graph.specs.Topology.{Topology}
 use Rattle.mrt_graph.proofs.EndsAt.{end_leads}
+use Rattle.mrt_graph.proofs.Steps.{next_of}
 use Rattle.mrt_graph.proofs.TestFacts.{row_of_two}
 use Rattle.proxy_rows.specs.declared.attachment.Attachment.{Attachment}
 use Rattle.proxy_rows.specs.declared.proxy_row.Out.{Out}
+use Rattle.proxy_rows.specs.declared.proxy_row.Out.TheVariants as outs
 use Rattle.proxy_rows.specs.declared.proxy_row.ProxyRow.{ProxyRow}
 use Rattle.proxy_rows.specs.declared.side.Side.TheVariants.{Low, High}
 use Rattle.proxy_rows.specs.Ground.{IsGround}
@@ -28,7 +30,7 @@ use Rattle.proxy_rows.proofs.Attaching.{words}
 use Rattle.proxy_rows.proofs.BlockRows.{link_is, to_high}
 use Rattle.proxy_rows.proofs.Grounds.{rows}
 use Rattle.proxy_rows.proofs.HeadLinks.{red_link}
-use Rattle.proxy_rows.proofs.OutsideRows.{begins, good}
+use Rattle.proxy_rows.proofs.OutsideRows.{begins, good, hop_leads, link_over, way_of}
 use Rattle.proxy_rows.proofs.Stands.{Tells, tells}
 
 -- a row is of two nodes
@@ -44,34 +46,19 @@ touching : (links : List Link) (e s v : ℕ) → leads links e s ≡ Some v → 
 touching links e s v onward = subst (λ (o : Option ℕ). IsSome o) (sym onward) refl
 
 module _ (g : Topology) (c : Certificate) (at : Attachment) (ground : IsGround g c at) where
-  -- both links of a row touch
-  record Both (s : ℕ) (row : Row) : Type 0 where
-    blue : IsSome (leads g.links row.blue s)
-    red : IsSome (leads g.links row.red s)
-
-  row_touches : (s t : ℕ) (row : Row) → row_of c s t ≡ Some row → Both s row
-  row_touches s t row is =
-      let two = within c s t row is in
-      let differ = row_of_two c s t row is in
+  link_touches : (color : Color) (s t : ℕ) (out : Out) → IsLinkFor c color s t out → Touches g s out
+  link_touches color s t out is =
+      let two = within c s t is.row is.row_is in
+      let differ = row_of_two c s t is.row is.row_is in
       let w = words g c ground.accepted in
-      let ways = good g c at ground s t two.0 two.1 differ in
-      let blue = begins (w.blue t) t s differ ways.blue in
-      let red = begins (w.red t) t s differ ways.red in
-      let blue_on = (rows g c at ground).blue_leads t s blue.0 blue.1 in
-      let red_on = (rows g c at ground).red_leads t s red.0 red.1 in
-      record {
-        blue = subst (λ (e : ℕ). IsSome (leads g.links e s)) (sym (link_is g.links (row_of c) Blue t s row blue.0 is blue.1)) (touching g.links blue.0.link s blue.0.to blue_on);
-        red = subst (λ (e : ℕ). IsSome (leads g.links e s)) (sym (link_is g.links (row_of c) Red t s row red.0 is red.1)) (touching g.links red.0.link s red.0.to red_on);
-      }
+      let hop = begins (next_of w color t) t s differ (way_of w color t s (good g c at ground s t two.0 two.1 differ)) in
+      subst (Touches g s) (sym (is.out_is ∙ ap (λ (e : ℕ). outs.Link e) (link_over g c at ground color t s is.row hop.0 is.row_is hop.1)))
+      (touching g.links hop.0.link s hop.0.to (hop_leads g c at ground color t s hop.0 hop.1))
 
   out_touches : (Itself : Type 0) (Asked : End → Type 0) (v : ℕ) (out : Out) → IsFirstOut g Itself Asked v out → Touches g v out
   out_touches Itself Asked v _ (Here is) = tt
   out_touches Itself Asked v _ (Over end other first) =
       touching g.links end.link v end.to (end_leads g v first.place first.ends end ground.kept first.list first.there)
-
-  link_touches : (color : Color) (s t : ℕ) (out : Out) → IsLinkFor c color s t out → Touches g s out
-  link_touches Blue s t out is = subst (Touches g s) (sym is.out_is) (row_touches s t is.row is.row_is).blue
-  link_touches Red s t out is = subst (Touches g s) (sym is.out_is) (row_touches s t is.row is.row_is).red
 
   head_red_touches : (s : ℕ) (out : Out) → s ≡ at.head → IsHeadRed c at out → Touches g s out
   head_red_touches s out same is =
