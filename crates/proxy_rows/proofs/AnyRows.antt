@@ -1,15 +1,14 @@
 -- What is said of nodes and links alone is said whatever the rows are.
-use Rattle.std.proofs.Common.{◌≡◌, ◌≢◌, ◌<◌, ℕ, true, List, Option, length, refl, sym, subst, arith}
+use Rattle.std.proofs.Common.{◌≡◌, ◌≢◌, ◌<◌, ◌↔◌, ℕ, Bool, true, List, [], Option, length, refl, sym, subst, arith}
 use Rattle.std.specs.Prelude.{IsSome}
 use Rattle.mrt_graph.specs.declared.cert.CertLink.{CertLink}
 use Rattle.mrt_graph.specs.declared.cert.CertNode.{CertNode}
 use Rattle.mrt_graph.specs.declared.cert.Row.{Row}
-use Rattle.mrt_graph.specs.declared.link.End.{End}
 use Rattle.mrt_graph.specs.AcceptedFor.{IsAcceptedFor}
 use Rattle.mrt_graph.specs.Certificate.{Certificate, row_of}
-use Rattle.mrt_graph.specs.FirstEnd.{IsFirstEnd}
 use Rattle.mrt_graph.specs.GraphInvariant.{IsTopology}
 use Rattle.mrt_graph.specs.Rows.{AreSameFor, Rows}
+use Rattle.mrt_graph.specs.Search.{IsMarked}
 use Rattle.mrt_graph.specs.Topology.{Topology}
 use Rattle.mrt_graph.proofs.RowsHold.{in_block_there}
 use Rattle.proxy_rows.specs.declared.attachment.Attachment.{Attachment}
@@ -18,14 +17,11 @@ use Rattle.proxy_rows.specs.declared.side.Side.{Side}
 use Rattle.proxy_rows.specs.declared.side.Side.TheVariants.{Low, High}
 use Rattle.proxy_rows.specs.declared.words.Words.{Words}
 use Rattle.proxy_rows.specs.Attachment.{IsAttachment}
-use Rattle.proxy_rows.specs.declared.ends.Wanted.{Wanted}
-use Rattle.proxy_rows.specs.declared.ends.Wanted.TheVariants.{NotPlain, Onward as Along, PlainToLow}
-use Rattle.proxy_rows.specs.Ends.{HasNoEnd, IsWanted}
 use Rattle.proxy_rows.specs.Ground.{IsGround}
 use Rattle.proxy_rows.specs.ProxyRows.{IsHeadRed, Closing, OneLink}
 use Rattle.proxy_rows.specs.ReadFrom.{ReadFrom}
 use Rattle.proxy_rows.specs.Sides.{IsIn, Router, Onward, goes_on}
-use Rattle.proxy_rows.specs.Words.{AreAccepted, AreReadWith, with_rows}
+use Rattle.proxy_rows.specs.Words.{AreAccepted, AreMarks, AreReadWith, IsOn, with_rows}
 use Rattle.proxy_rows.proofs.Grounds.{counts, head_within}
 
 module _ (words : Words) (at : Attachment) (one other : List Row) where
@@ -38,34 +34,14 @@ module _ (words : Words) (at : Attachment) (one other : List Row) where
   on_side side s (Router _ same is) = Router s same is
   on_side side s (Onward _ e v is of onward on rest) = Onward s e v is of onward (goes side s v on) (on_side side v rest)
 
-  -- the ends that are asked for
-  pub wanted_end : (wanted : Wanted) (v : ℕ) (end : End) → IsWanted words.graph.now (with_rows words one) at wanted v end
-      → IsWanted words.graph.now (with_rows words other) at wanted v end
-  wanted_end PlainToLow v end is = record { of_block = is.of_block; plain = is.plain; low = on_side Low end.to is.low }
-  wanted_end NotPlain v end is = record { of_block = is.of_block; not_plain = is.not_plain }
-  wanted_end (Along side) v end is =
-      record { of_block = is.of_block; within = on_side side end.to is.within; onward = goes side v end.to is.onward }
-
   -- red at the head
   pub red_too : (out : Out) → IsHeadRed (with_rows words one) at out → IsHeadRed (with_rows words other) at out
   red_too _ (Closing e of closing) = Closing e of closing
   red_too _ (OneLink e of lone) = OneLink e of lone
 
--- the first end that has the one thing is the first that has the other, where each has both
-pub first_too : (g : Topology) (Asked Other : End → Type 0) → ((end : End) → Asked end → Other end) → ((end : End) → Other end → Asked end)
-    → (v : ℕ) (end : End) → IsFirstEnd g Asked v end → IsFirstEnd g Other v end
-first_too g Asked Other to from v end is = record {
-  ends = is.ends;
-  list = is.list;
-  place = is.place;
-  there = is.there;
-  asked = to end is.asked;
-  none_before = λ k other less at_k asked. is.none_before k other less at_k (from other asked);
-}
-
--- and no end has the one thing where none has the other
-pub none_too : (g : Topology) (Asked Other : End → Type 0) → ((end : End) → Other end → Asked end) → (v : ℕ) → HasNoEnd g Asked v → HasNoEnd g Other v
-none_too g Asked Other from v none ends k end list at_k asked = none ends k end list at_k (from end asked)
+-- what marks a side by the words alone does so whatever the rows are
+pub marks_too : (words : Words) (at : Attachment) (side : Side) (marks : List Bool) → ((s : ℕ) → IsMarked marks s ↔ IsOn words at side s) → AreMarks words at side marks
+marks_too words at side marks are rest s = (λ marked. on_side words at [] rest side s ((are s).0 marked), λ is. (are s).1 (on_side words at rest [] side s is))
 
 -- a certificate's words on nodes and links, with its rows, are the certificate
 pub whole : (words : Words) (c : Certificate) → c.nodes ≡ words.nodes.now → c.links ≡ words.links.now → with_rows words c.rows ≡ c

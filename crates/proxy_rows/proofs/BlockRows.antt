@@ -17,6 +17,7 @@ use Rattle.mrt_graph.proofs.Blocks.{Words, Blocks, Common, Member, At, Inner, To
 use Rattle.mrt_graph.proofs.InBlock.{at_common, at_related, at_stays, at_within, head_outside, no_cycle}
 use Rattle.mrt_graph.proofs.RowFacts.{NearRow, Says, BelowRow, AboveRow}
 use Rattle.proxy_rows.specs.declared.attachment.Attachment.{Attachment}
+use Rattle.proxy_rows.specs.declared.side.Side.{Side}
 use Rattle.proxy_rows.specs.declared.side.Side.TheVariants.{Low, High}
 use Rattle.proxy_rows.specs.Ground.{IsGround}
 use Rattle.proxy_rows.specs.Sides.{IsIn, Router, Onward, IsMember, IsOfBlock}
@@ -139,26 +140,22 @@ module _ (g : Topology) (c : Certificate) (at : Attachment) (ground : IsGround g
   low_not_high s low high = omega (arith, low_order s low, high_order s high, ascending g c at ground)
 
   -- what is on a side is a member
-  pub low_member : (s : ℕ) → IsIn g.links c at Low s → IsMember c at s
-  low_member s (Router _ same is) = is
-  low_member s (Onward _ e v is of onward on rest) = is
-
-  pub high_member : (s : ℕ) → IsIn g.links c at High s → IsMember c at s
-  high_member s (Router _ same is) = is
-  high_member s (Onward _ e v is of onward on rest) = is
+  pub side_member : (side : Side) (s : ℕ) → IsIn g.links c at side s → IsMember c at s
+  side_member side s (Router _ same is) = is
+  side_member side s (Onward _ e v is of onward on rest) = is
 
   -- a member with a link of the block to a node of a side is on that side
   pub low_more : (s e v : ℕ) → IsMember c at s → IsOfBlock c at e → leads g.links e s ≡ Some v → w.order s < w.order v
       → IsIn g.links c at Low v → IsIn g.links c at Low s
   low_more s e v is of onward less low =
       Onward s e v is of onward
-      (less_is g c at ground s v (member_within g c at ground s is) (member_within g c at ground v (low_member v low)) less) low
+      (less_is g c at ground s v (member_within g c at ground s is) (member_within g c at ground v (side_member Low v low)) less) low
 
   pub high_more : (s e v : ℕ) → IsMember c at s → IsOfBlock c at e → leads g.links e s ≡ Some v → w.order v < w.order s
       → IsIn g.links c at High v → IsIn g.links c at High s
   high_more s e v is of onward less high =
       Onward s e v is of onward
-      (less_is g c at ground v s (member_within g c at ground v (high_member v high)) (member_within g c at ground s is) less) high
+      (less_is g c at ground v s (member_within g c at ground v (side_member High v high)) (member_within g c at ground s is) less) high
 
   -- a node whose row for the one router is Below is on Low
   low_of_below : IsMember c at at.lower → (bound v : ℕ) → At w at.upper v → v ≢ at.lower → w.tag v at.lower ≡ tags.Below

@@ -36,7 +36,7 @@ use Rattle.proxy_rows.specs.declared.standing.Standing.TheVariants as places
 use Rattle.proxy_rows.specs.ProxyRows.{IsBlue, IsHeadBlue, IsHeadRed, IsLinkFor, IsOnward, IsPlainToLow, IsProxyRow, IsRed, IsSideOut, Here, Over}
 use Rattle.proxy_rows.specs.Sides.{IsIn, IsMember, IsOfBlock}
 use Rattle.proxy_rows.proofs.Attaching.{words}
-use Rattle.proxy_rows.proofs.BlockRows.{HeadHops, head_hops, high_member, high_more, link_is, low_member, low_more, low_not_high, stays, to_high}
+use Rattle.proxy_rows.proofs.BlockRows.{HeadHops, head_hops, high_more, link_is, low_more, low_not_high, side_member, stays, to_high}
 use Rattle.proxy_rows.proofs.Grounds.{apart, b, counts, head_is, head_no_member, is_higher, is_lower, is_member, member_at, upper_member}
 use Rattle.proxy_rows.proofs.HeadLinks.{red_link, same_as_red}
 use Rattle.proxy_rows.proofs.NewLinks.{lower_leads, old_leads, upper_leads}
@@ -103,12 +103,12 @@ module _ (g : Topology) (c : Certificate) (at : Attachment) (ground : IsGround g
   -- what is on Low, on High, the head, or another member, by its tag
   low_is : (s : ℕ) → IsIn g.links c at Low s → tag s ≡ tags.Below
   low_is s low =
-      let k = known s (member_at g c at ground s (low_member g c at ground s low)) in
+      let k = known s (member_at g c at ground s (side_member g c at ground Low s low)) in
       k.tag ∙ ap kind_of (low_stands g c at ground s k.row.standing k.row.stands low)
 
   high_is : (s : ℕ) → IsIn g.links c at High s → tag s ≡ tags.Above
   high_is s high =
-      let k = known s (member_at g c at ground s (high_member g c at ground s high)) in
+      let k = known s (member_at g c at ground s (side_member g c at ground High s high)) in
       k.tag ∙ ap kind_of (high_stands g c at ground s k.row.standing k.row.stands high)
 
   head_at : N at.head
@@ -219,7 +219,7 @@ module _ (g : Topology) (c : Certificate) (at : Attachment) (ground : IsGround g
   low_blue s entry _ low at_s blue (Here same) = lower_home s tags.Below entry at_s blue same (low_is s low) tt
   low_blue s entry _ low at_s blue (Over end other first) =
       let on = end_on (IsOnward g c at Low s) s end first in
-      over Blue s end.link end.to tags.Below tags.Below (member_at g c at ground s (low_member g c at ground s low)) (blue_over s end.link end.to entry at_s blue on)
+      over Blue s end.link end.to tags.Below tags.Below (member_at g c at ground s (side_member g c at ground Low s low)) (blue_over s end.link end.to entry at_s blue on)
       first.asked.of_block on (low_is s low) (low_is end.to first.asked.within) (BlueBelow _ _ (is_lower g c at ground s end.to first.asked.onward))
 
   high_red : (s : ℕ) (entry : ProxyRow) (out : Out) → IsIn g.links c at High s → slice_get entries s ≡ Some entry → entry.red ≡ out → IsSideOut g c at High s out → StepOf Red s
@@ -230,7 +230,7 @@ module _ (g : Topology) (c : Certificate) (at : Attachment) (ground : IsGround g
       (takes links all Red (new_node g) s (length g.links + 1) (new_node g) r.row r.there (r.red ∙ ap (link_out g at s) red ∙ out.0) out.1) (high_is s high) tt
   high_red s entry _ high at_s red (Over end other first) =
       let on = end_on (IsOnward g c at High s) s end first in
-      over Red s end.link end.to tags.Above tags.Above (member_at g c at ground s (high_member g c at ground s high)) (red_over s end.link end.to entry at_s red on)
+      over Red s end.link end.to tags.Above tags.Above (member_at g c at ground s (side_member g c at ground High s high)) (red_over s end.link end.to entry at_s red on)
       first.asked.of_block on (high_is s high) (high_is end.to first.asked.within) (RedAbove _ _ (is_higher g c at ground s end.to first.asked.onward))
 
   -- the links of a member's row for the head
@@ -243,7 +243,7 @@ module _ (g : Topology) (c : Certificate) (at : Attachment) (ground : IsGround g
   -- on the two sides, towards the head
   low_red : (s : ℕ) (entry : ProxyRow) → IsIn g.links c at Low s → slice_get entries s ≡ Some entry → IsLinkFor c Red s at.head entry.red → StepOf Red s
   low_red s entry low at_s is =
-      let member = low_member g c at ground s low in
+      let member = side_member g c at ground Low s low in
       let h = head_hops g c at ground s member in
       let at_n = member_at g c at ground s member in
       let on = red_over s h.red.link h.red.to entry at_s (red_link_of s entry.red h is) h.red_leads in
@@ -256,7 +256,7 @@ module _ (g : Topology) (c : Certificate) (at : Attachment) (ground : IsGround g
 
   high_blue : (s : ℕ) (entry : ProxyRow) → IsIn g.links c at High s → slice_get entries s ≡ Some entry → IsLinkFor c Blue s at.head entry.blue → StepOf Blue s
   high_blue s entry high at_s is =
-      let member = high_member g c at ground s high in
+      let member = side_member g c at ground High s high in
       let h = head_hops g c at ground s member in
       let at_n = member_at g c at ground s member in
       let on = blue_over s h.blue.link h.blue.to entry at_s (blue_link s entry.blue h is) h.blue_leads in

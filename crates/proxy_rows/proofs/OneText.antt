@@ -1,16 +1,13 @@
 -- Two routers have one text.
-use Rattle.std.proofs.Common.{◌≡◌, ◌==◌, ◌++◌, ◌∙◌, ℕ, Bool, List, Some, codes, length, slice_get, refl, sym, ap, subst, arith}
-use Rattle.std.proofs.lemmas.Bool.{eq-eqb}
+use Rattle.std.proofs.Common.{◌≡◌, ◌==◌, ◌++◌, ◌∙◌, ℕ, List, Some, codes, length, slice_get, sym, ap, subst}
 use Rattle.std.proofs.lemmas.Option.{same_Some}
+use Rattle.std.specs.List.{find}
 use Rattle.mrt_graph.specs.declared.link.End.{End}
 use Rattle.mrt_graph.specs.declared.node_id.NodeId.{NodeId}
 use Rattle.mrt_graph.specs.Certificate.{Certificate}
 use Rattle.mrt_graph.specs.GraphInvariant.{IsTopology}
 use Rattle.mrt_graph.specs.Spelling.{node_text}
 use Rattle.mrt_graph.specs.Topology.{Topology}
-use Rattle.mrt_graph.proofs.EndsAt.{end_leads}
-use Rattle.mrt_graph.proofs.Members.{has_at}
-use Rattle.mrt_graph.proofs.Tallies.{count_is_tally, tally_same}
 use Rattle.text_parts.specs.Hops.{hop_text}
 use Rattle.text_parts.specs.Parts.{IsHeaded}
 use Rattle.text_parts.proofs.Adding.{one_headed_text, one_id}
@@ -30,20 +27,13 @@ one_head g a b root text other is is' =
     ∙ sym is'.spelled
 
 -- a node has one end on a link
-one_end : (g : Topology) (s e : ℕ) (end other : End) → IsTopology g → IsEndOn g s e end → IsEndOn g s e other → end ≡ other
-one_end g s e end other kept is is' =
-    let lists : is'.ends ≡ is.ends = same_Some is'.ends is.ends (sym is'.list ∙ is.list) in
-    let there : slice_get is.ends is'.place ≡ Some other = subst (λ (es : List End). slice_get es is'.place ≡ Some other) lists is'.there in
-    let onward = end_leads g s is.place is.ends end kept is.list is.there in
-    let once = (kept.ends_kept s is.ends is.list).one_each end.link end.to onward in
-    let on_link : End → Bool = λ (x : End). x.link == end.link in
-    tally_same on_link is.ends end other (omega (arith, once, count_is_tally on_link is.ends))
-    (has_at is.ends is.place end is.there) (eq-eqb end.link end.link refl)
-    (has_at is.ends is'.place other there) (eq-eqb other.link end.link (is'.on_link ∙ sym is.on_link))
+one_end : (g : Topology) (s e : ℕ) (end other : End) → IsEndOn g s e end → IsEndOn g s e other → end ≡ other
+one_end g s e end other is is' =
+    same_Some end other (sym is.is ∙ ap (find (λ (x : End). x.link == e)) (same_Some is.ends is'.ends (sym is.list ∙ is'.list)) ∙ is'.is)
 
 one_hop : (g : Topology) (s e : ℕ) (text other : List ℕ) → IsTopology g → IsHop g s e text → IsHop g s e other → text ≡ other
 one_hop g s e text other kept is is' =
-    let end : is.end ≡ is'.end = one_end g s e is.end is'.end kept is.end_is is'.end_is in
+    let end : is.end ≡ is'.end = one_end g s e is.end is'.end is.end_is is'.end_is in
     let far : is.far ≡ is'.far = one_id g.ids is'.end.to is.far is'.far (subst (λ (x : End). slice_get g.ids x.to ≡ Some is.far) end is.far_is) is'.far_is in
     is.spelled
     ∙ ap (λ (x : End). hop_text is.far x.link_data) end

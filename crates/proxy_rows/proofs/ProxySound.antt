@@ -29,12 +29,13 @@ use Rattle.proxy_rows.specs.declared.proxy_row.Out.{Out}
 use Rattle.proxy_rows.specs.declared.proxy_row.ProxyRow.{ProxyRow}
 use Rattle.proxy_rows.specs.GraphWith.{AreRowsWith, IsRowWith, link_out, links_with, new_node}
 use Rattle.proxy_rows.specs.Ground.{IsGround}
+use Rattle.proxy_rows.specs.declared.side.Side.TheVariants.{Low, High}
 use Rattle.proxy_rows.specs.declared.standing.Standing.{Standing}
 use Rattle.proxy_rows.specs.declared.standing.Standing.TheVariants as places
 use Rattle.proxy_rows.specs.ProxyRows.{BelongsTo, IsBlue, IsEntry, First, None as none_of_it, IsLinkFor, IsLinkIn, IsProxyRow, IsRed}
 use Rattle.proxy_rows.specs.Sides.{IsMember}
 use Rattle.proxy_rows.proofs.Attaching.{words}
-use Rattle.proxy_rows.proofs.BlockRows.{high_member, link_is, low_member}
+use Rattle.proxy_rows.proofs.BlockRows.{link_is, side_member}
 use Rattle.proxy_rows.proofs.BlockSteps.{from_block, takes}
 use Rattle.proxy_rows.proofs.Entries.{Entry, Inside, ByMember, ByHead, at_or_not, before_head, before_member, entry, head_parts, last_on, member_parts, nodes_within, outside_hops}
 use Rattle.proxy_rows.proofs.FirstVisit.{PartsBoth, on_front_too, parts_on, visit}
@@ -111,8 +112,8 @@ module _ (g : Topology) (c : Certificate) (at : Attachment) (ground : IsGround g
       outs_in : (color : Color) (entry : ProxyRow) (p : Standing) → Tells g.links c at x p → IsBlue p g c at x entry.blue → IsRed p g c at x entry.red
           → IsLinkIn c at color x (out_of color entry)
       outs_in color entry places.Head same blue red = absurd (out (Top (same ∙ head_is g c at ground)))
-      outs_in color entry places.OnLow low blue red = absurd (no_member (low_member g c at ground x low))
-      outs_in color entry places.OnHigh high blue red = absurd (no_member (high_member g c at ground x high))
+      outs_in color entry places.OnLow low blue red = absurd (no_member (side_member g c at ground Low x low))
+      outs_in color entry places.OnHigh high blue red = absurd (no_member (side_member g c at ground High x high))
       outs_in color entry places.Other other blue red = absurd (no_member other.0)
       outs_in Blue entry places.Outside outside blue red = blue
       outs_in Red entry places.Outside outside blue red = red

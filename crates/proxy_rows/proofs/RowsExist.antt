@@ -36,7 +36,7 @@ use Rattle.proxy_rows.specs.ProxyRows.{AreProxyRows, AreRowsOf, IsBlue, IsFirstO
 use Rattle.proxy_rows.specs.Standing.{IsStanding, standing_by}
 use Rattle.proxy_rows.specs.Sides.{IsIn, Router, Onward, IsMember, IsOfBlock, goes_on, router_of}
 use Rattle.proxy_rows.proofs.Attaching.{attached, attached_turned, orders_differ, words}
-use Rattle.proxy_rows.proofs.BlockRows.{high_member, low_member, to_high}
+use Rattle.proxy_rows.proofs.BlockRows.{side_member, to_high}
 use Rattle.proxy_rows.proofs.FirstEnds.{end_within, none_at_all}
 use Rattle.proxy_rows.proofs.Grounds.{b, counts, head_within, is_higher, is_lower}
 use Rattle.proxy_rows.proofs.HeadLinks.{head_red}
@@ -93,10 +93,6 @@ module _ (g : Topology) (c : Certificate) (at : Attachment) (ground : IsGround g
   count_is : length c.nodes ≡ length g.ids
   count_is = (counts g c at ground).nodes
 
-  side_member : (side : Side) (s : ℕ) → IsIn g.links c at side s → IsMember c at s
-  side_member Low s is = low_member g c at ground s is
-  side_member High s is = high_member g c at ground s is
-
   -- a number that falls where one goes on
   rank : Side → ℕ → ℕ
   rank Low s = (b g c at ground).most - (words g c ground.accepted).order s
@@ -128,7 +124,7 @@ module _ (g : Topology) (c : Certificate) (at : Attachment) (ground : IsGround g
   decided_in_by : (bound : ℕ) (side : Side) (s : ℕ) → s < length g.ids → rank side s < bound → Decided (IsIn g.links c at side s)
   decided_in_by zero side s within less = absurd (omega (arith, less))
   decided_in_by (suc bound) side s within less = elim (decided_some (block_of c s) at.block) [
-    | inr outside ↦ inr (λ is. outside (side_member side s is))
+    | inr outside ↦ inr (λ is. outside (side_member g c at ground side s is))
     | inl member ↦ elim (cases_eq s (router_of at side)) [
       | inl same ↦ inl (Router s same member)
       | inr other ↦ go (decided_in_by bound side) member other

@@ -15,7 +15,7 @@ use Rattle.proxy_rows.specs.Ground.{IsGround}
 use Rattle.proxy_rows.specs.ProxyRows.{BelongsTo}
 use Rattle.proxy_rows.specs.Sides.{IsIn, IsMember}
 use Rattle.proxy_rows.specs.Standing.{IsStanding, standing_by}
-use Rattle.proxy_rows.proofs.BlockRows.{high_member, low_member, low_not_high}
+use Rattle.proxy_rows.proofs.BlockRows.{low_not_high, side_member}
 use Rattle.proxy_rows.proofs.Grounds.{head_no_member}
 
 abbrev pub Tells : List Link → Certificate → Attachment → ℕ → Standing → Type 0
@@ -55,11 +55,11 @@ module _ (g : Topology) (c : Certificate) (at : Attachment) (ground : IsGround g
 
   pub low_stands : IsIn g.links c at Low s → p ≡ places.OnLow
   low_stands low =
-      is.standing_is ∙ ap (λ (b : Bool). standing_by b is.low is.high is.member) (no_head (low_member g c at ground s low))
+      is.standing_is ∙ ap (λ (b : Bool). standing_by b is.low is.high is.member) (no_head (side_member g c at ground Low s low))
       ∙ ap (λ (b : Bool). standing_by false b is.high is.member) (is.is_low.1 low)
 
   pub high_stands : IsIn g.links c at High s → p ≡ places.OnHigh
   high_stands high =
-      is.standing_is ∙ ap (λ (b : Bool). standing_by b is.low is.high is.member) (no_head (high_member g c at ground s high))
+      is.standing_is ∙ ap (λ (b : Bool). standing_by b is.low is.high is.member) (no_head (side_member g c at ground High s high))
       ∙ ap (λ (b : Bool). standing_by false b is.high is.member) (false_from_ne_true is.low (λ yes. low_not_high g c at ground s (is.is_low.0 yes) high))
       ∙ ap (λ (b : Bool). standing_by false false b is.member) (is.is_high.1 high)

@@ -1,7 +1,10 @@
 -- Two routers with a block in common have a text.
-use Rattle.std.proofs.Common.{◌≡◌, ◌≢◌, ◌<◌, ◌++◌, ℕ, false, List, Option, Some, None, length, codes, inl, inr, refl, arith}
+use Rattle.std.proofs.Common.{◌≡◌, ◌≢◌, ◌==◌, ◌<◌, ◌++◌, ◌∙◌, ℕ, zero, suc, false, List, [], ◌∷◌, Option, Some, None, length, slice_get, codes, inl, inr, refl, ap, arith}
 use Rattle.std.specs.Prelude.{◌↔◌, IsSome}
-use Rattle.std.proofs.lemmas.Bool.{cases_Bool}
+use Rattle.std.proofs.lemmas.Bool.{cases_Bool, cases_eq, eq-eqb, ne_eqb}
+use Rattle.std.proofs.lemmas.Option.{same_Some}
+use Rattle.std.specs.List.{find}
+use Rattle.mrt_graph.specs.declared.link.End.{End}
 use Rattle.mrt_graph.specs.AcceptedFor.{IsAcceptedFor}
 use Rattle.mrt_graph.specs.Certificate.{Certificate}
 use Rattle.mrt_graph.specs.GraphInvariant.{IsEnd, IsTopology}
@@ -10,17 +13,27 @@ use Rattle.mrt_graph.specs.Related.{are_unrelated}
 use Rattle.mrt_graph.specs.Spelling.{node_text}
 use Rattle.mrt_graph.specs.Topology.{Topology}
 use Rattle.mrt_graph.proofs.EndsAt.{leads_end, list_of_ends}
-use Rattle.mrt_graph.proofs.ListTests.{all_at, there}
+use Rattle.mrt_graph.proofs.ListTests.{there}
+use Rattle.mrt_graph.proofs.Members.{all_has, find_has}
 use Rattle.text_parts.specs.Hops.{hop_text}
 use Rattle.text_parts.proofs.Adding.{some_headed_text}
 use Rattle.proxy_rows.specs.declared.proxy_row.Out.{Out}
 use Rattle.proxy_rows.specs.declared.proxy_row.Out.TheVariants as outs
 use Rattle.proxy_rows.specs.declared.proxy_row.ProxyRow.{ProxyRow}
-use Rattle.proxy_rows.specs.ProxyText.{IsHead, IsHop, IsLine, IsOutText, IsProxyText}
+use Rattle.proxy_rows.specs.ProxyText.{IsEndOn, IsHead, IsHop, IsLine, IsOutText, IsProxyText}
 use Rattle.proxy_rows.specs.Touches.{AllTouch, Touches}
 use Rattle.proxy_rows.proofs.OneAnswer.{never_both}
 use Rattle.proxy_rows.proofs.RowsExist.{rows_or_none}
 use Rattle.proxy_rows.proofs.Touching.{all_touch}
+
+-- the end on a link that touches is found
+pub end_found : (ends : List End) (e k : ℕ) (x : End) → slice_get ends k ≡ Some x → x.link ≡ e → (end : End) × (find (λ end. end.link == e) ends ≡ Some end)
+end_found [] e k x at over = absurd (cc)
+end_found (y ∷ ys) e zero x at over = (y, rw (eq-eqb y.link e (ap (λ (end : End). end.link) (same_Some y x at) ∙ over)) refl)
+end_found (y ∷ ys) e (suc k) x at over = elim (cases_eq y.link e) [
+  | inl same ↦ (y, rw (eq-eqb y.link e same) refl)
+  | inr differs ↦ let later = end_found ys e k x at over in (later.0, rw (ne_eqb y.link e differs) later.1)
+]
 
 -- where a link that touches leads
 pub led : (o : Option ℕ) → IsSome o → (v : ℕ) × (o ≡ Some v)
@@ -37,21 +50,19 @@ some_head g a b root first second top =
     )
 
 module _ (g : Topology) (kept : IsTopology g) where
+  hop_at : (s e : ℕ) (end : End) → IsEndOn g s e end → end.to < length g.ids → (text : List ℕ) × IsHop g s e text
+  hop_at s e end is within =
+      let far = there g.ids end.to within in
+      (hop_text far.0 end.link_data, record { end = end; end_is = is; far = far.0; far_is = far.1; spelled = refl })
+
   some_hop : (s e : ℕ) → s < length g.ids → IsSome (leads g.links e s) → (text : List ℕ) × IsHop g s e text
   some_hop s e within touches =
       let to = led (leads g.links e s) touches in
       let list = list_of_ends g s kept within in
       let on = leads_end g s e to.0 list.0 kept list.1 to.1 in
-      let far = there g.ids on.end.to (all_at (IsEnd (length g.ids) g.links s) list.0 on.place on.end (kept.ends_kept s list.0 list.1).kept on.at).to in (
-        hop_text far.0 on.end.link_data,
-        record {
-          end = on.end;
-          end_is = record { ends = list.0; list = list.1; place = on.place; there = on.at; on_link = on.over };
-          far = far.0;
-          far_is = far.1;
-          spelled = refl;
-        },
-      )
+      let found = end_found list.0 e on.place on.end on.at on.over in
+      hop_at s e found.0 (record { ends = list.0; list = list.1; is = found.1 })
+      (all_has (IsEnd (length g.ids) g.links s) list.0 found.0 (kept.ends_kept s list.0 list.1).kept (find_has _ list.0 found.0 found.1).0).to
 
   some_out : (s : ℕ) (out : Out) → s < length g.ids → Touches g s out → (text : List ℕ) × IsOutText g s out text
   some_out s (outs.Link e) within touches = some_hop s e within touches

@@ -1,5 +1,5 @@
 -- The text on a prefix that is attached to two routers.
-use Rattle.std.specs.Prelude.{◌≡◌, ◌++◌, ℕ, List, Some, codes, length, slice_get}
+use Rattle.std.specs.Prelude.{◌≡◌, ◌==◌, ◌++◌, ℕ, List, Some, codes, find, length, slice_get}
 use Rattle.mrt_graph.specs.declared.link.End.{End}
 use Rattle.mrt_graph.specs.declared.node_id.NodeId.{NodeId}
 use Rattle.mrt_graph.specs.Certificate.{Certificate}
@@ -27,9 +27,7 @@ pub record IsHead (g : Topology) (a b root : ℕ) (text : List ℕ) : Type 0 whe
 pub record IsEndOn (g : Topology) (s e : ℕ) (end : End) : Type 0 where
   pub ends : List End
   pub list : slice_get g.ends s ≡ Some ends
-  pub place : ℕ
-  pub there : slice_get ends place ≡ Some end
-  pub on_link : end.link ≡ e
+  pub is : find (λ end. end.link == e) ends ≡ Some end
 
 -- the hop over link e: its far node, and the link data of its end at s as an address
 pub record IsHop (g : Topology) (s e : ℕ) (text : List ℕ) : Type 0 where

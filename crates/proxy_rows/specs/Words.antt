@@ -1,8 +1,9 @@
 -- Certificates of some words on nodes and links.
-use Rattle.std.specs.Prelude.{ℕ, List, []}
+use Rattle.std.specs.Prelude.{◌↔◌, ℕ, Bool, List, []}
 use Rattle.mrt_graph.specs.declared.cert.Row.{Row}
 use Rattle.mrt_graph.specs.Certificate.{Certificate, certificate_of, row_of}
 use Rattle.mrt_graph.specs.Rows.{AreSameFor, Rows}
+use Rattle.mrt_graph.specs.Search.{IsMarked}
 use Rattle.proxy_rows.specs.declared.attachment.Attachment.{Attachment}
 use Rattle.proxy_rows.specs.declared.side.Side.{Side}
 use Rattle.proxy_rows.specs.declared.words.Words.{Words}
@@ -20,6 +21,10 @@ without_rows words = with_rows words []
 -- s is on a side of the block
 abbrev pub IsOn : Words → Attachment → Side → ℕ → Type 0
 IsOn words at side s = IsIn words.graph.now.links (without_rows words) at side s
+
+-- these mark the nodes of a side, whatever the rows are
+abbrev pub AreMarks : Words → Attachment → Side → List Bool → Type 0
+AreMarks words at side marks = (rest : List Row) (s : ℕ) → IsMarked marks s ↔ IsIn words.graph.now.links (with_rows words rest) at side s
 
 -- with some rows the words are a certificate that is accepted for the graph and has the attachment
 pub record AreAccepted (words : Words) (at : Attachment) : Type 0 where

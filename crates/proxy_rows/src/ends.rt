@@ -1,10 +1,11 @@
 //! The first end of a node that has what is asked for.
 
-ghost use Rattle.std.specs.Prelude.{◌≡◌, ◌<◌, ◌↔◌, ℕ, IfNone, IfSome, IsTrue, Some, length, slice_get};
-ghost use Rattle.mrt_graph.specs.{CertWords.has_role, FirstEnd.IsFirstEnd, Roles.is_plain, Search.IsMarked};
+ghost use Rattle.std.specs.Prelude.{◌≡◌, ◌==◌, ◌<◌, ◌↔◌, ℕ, IfNone, IfSome, IsTrue, List, find, length};
+ghost use Rattle.std.specs.Option.{option_map};
+ghost use Rattle.mrt_graph.specs.{declared.cert.Row.Row, CertWords.has_role, FirstEnd.IsFirstEnd, Roles.is_plain, Search.IsMarked};
 ghost use Rattle.proxy_rows.specs.{declared.side.Side.TheVariants.Low, ProxyRows.IsOnward, ProxyRows.IsPlainToLow, Sides.IsOfBlock};
 ghost use Rattle.proxy_rows.specs.Ends.{HasNoEnd, IsNotPlain, IsWanted, NoneBefore, side_of};
-ghost use Rattle.proxy_rows.specs.Words.{AreAccepted, IsOn, without_rows};
+ghost use Rattle.proxy_rows.specs.Words.{AreAccepted, AreMarks, with_rows, without_rows};
 
 use crate::attachment::Attachment;
 use crate::side::{Side, goes_on};
@@ -32,12 +33,12 @@ pub fn first_end(
 ) -> Option<End>
     requires ground { AreAccepted words.now at.now }
     requires count { length marks.now ≡ length words.now.graph.now.ids }
-    requires marked { (s : ℕ) → IsMarked marks.now s ↔ IsOn words.now at.now (side_of wanted) s }
+    requires marked { AreMarks words.now at.now (side_of wanted) marks.now }
     requires within { v < length words.now.graph.now.ids }
-    ensures some { IfSome result (IsFirstEnd words.now.graph.now
-        (IsWanted words.now.graph.now (without_rows words.now) at.now wanted v) v) }
-    ensures none { IfNone result (HasNoEnd words.now.graph.now
-        (IsWanted words.now.graph.now (without_rows words.now) at.now wanted v) v) }
+    ensures some { (rest : List Row) → IfSome result (IsFirstEnd words.now.graph.now
+        (IsWanted words.now.graph.now (with_rows words.now rest) at.now wanted v) v) }
+    ensures none { (rest : List Row) → IfNone result (HasNoEnd words.now.graph.now
+        (IsWanted words.now.graph.now (with_rows words.now rest) at.now wanted v) v) }
 {
     let ends = words.graph.ends(v);
     for place in 0..ends.len() {
@@ -62,9 +63,9 @@ fn is_wanted(
     requires from { v < length words.now.nodes.now }
     requires to { end.now.to < length words.now.nodes.now }
     requires count { length marks.now ≡ length words.now.nodes.now }
-    requires marked { (s : ℕ) → IsMarked marks.now s ↔ IsOn words.now at.now (side_of wanted) s }
-    ensures { IsTrue result
-        ↔ IsWanted words.now.graph.now (without_rows words.now) at.now wanted v end.now }
+    requires marked { AreMarks words.now at.now (side_of wanted) marks.now }
+    ensures { (rest : List Row) → IsTrue result
+        ↔ IsWanted words.now.graph.now (with_rows words.now rest) at.now wanted v end.now }
 {
     match wanted {
         Wanted::PlainToLow => is_plain_to_low(words, at, marks, end),
@@ -77,8 +78,9 @@ fn is_wanted(
 fn is_plain_to_low(words: &Words, at: &Attachment, low: &[bool], end: &End) -> bool
     requires link { end.now.link < length words.now.links.now }
     requires to { end.now.to < length low.now }
-    requires marked { (s : ℕ) → IsMarked low.now s ↔ IsOn words.now at.now Low s }
-    ensures { IsTrue result ↔ IsPlainToLow words.now.graph.now (without_rows words.now) at.now end.now }
+    requires marked { AreMarks words.now at.now Low low.now }
+    ensures { (rest : List Row) → IsTrue result
+        ↔ IsPlainToLow words.now.graph.now (with_rows words.now rest) at.now end.now }
 {
     is_of_block(words, at, end.link) && is_plain(words, end.link) && is_marked(low, end.to)
 }
@@ -86,7 +88,7 @@ fn is_plain_to_low(words: &Words, at: &Attachment, low: &[bool], end: &End) -> b
 /// Whether an end is over a link of the block that is not plain.
 fn is_not_plain(words: &Words, at: &Attachment, end: &End) -> bool
     requires link { end.now.link < length words.now.links.now }
-    ensures { IsTrue result ↔ IsNotPlain (without_rows words.now) at.now end.now }
+    ensures { (rest : List Row) → IsTrue result ↔ IsNotPlain (with_rows words.now rest) at.now end.now }
 {
     is_of_block(words, at, end.link) && !is_plain(words, end.link)
 }
@@ -104,9 +106,9 @@ fn is_onward(
     requires from { s < length words.now.nodes.now }
     requires to { end.now.to < length words.now.nodes.now }
     requires count { length marks.now ≡ length words.now.nodes.now }
-    requires marked { (s : ℕ) → IsMarked marks.now s ↔ IsOn words.now at.now side s }
-    ensures { IsTrue result
-        ↔ IsOnward words.now.graph.now (without_rows words.now) at.now side s end.now }
+    requires marked { AreMarks words.now at.now side marks.now }
+    ensures { (rest : List Row) → IsTrue result
+        ↔ IsOnward words.now.graph.now (with_rows words.now rest) at.now side s end.now }
 {
     let of_block = is_of_block(words, at, end.link);
     of_block && is_marked(marks, end.to) && goes_on(words, side, s, end.to)
@@ -138,15 +140,8 @@ pub fn is_marked(marks: &[bool], s: NodeNo) -> bool
 
 /// The first of these ends that is on a link.
 pub fn end_on(ends: &[End], e: LinkNo) -> Option<End>
-    ensures some { IfSome result (λ end. (place : ℕ)
-        × (slice_get ends.now place ≡ Some end) × (end.link ≡ e)) }
-    ensures none { IfNone result (NoneBefore (λ end. end.link ≡ e) ends.now (length ends.now)) }
+    ensures { result ≡ option_map (λ end. end) (find (λ end. end.link == e) ends.now) }
 {
-    for place in 0..ends.len() {
-        let end = ends[place];
-        if end.link == e {
-            return Some(end);
-        }
-    }
-    None
+    let end = ends.iter().find(|end| end.link == e)?;
+    Some(*end)
 }

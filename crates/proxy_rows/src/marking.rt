@@ -4,7 +4,7 @@ ghost use Rattle.std.specs.Prelude.{◌≡◌, ◌<◌, ◌↔◌, ℕ, IfOk, Is
 ghost use Rattle.mrt_graph.specs.Search.{Enters, IsMarked};
 ghost use Rattle.proxy_rows.specs.Sides.{IsMember};
 ghost use Rattle.proxy_rows.specs.Steps.{AreEndsWithin, LeadsTo, LeadsToMember, OneLeadsTo};
-ghost use Rattle.proxy_rows.specs.Words.{AreAccepted, IsOn, without_rows};
+ghost use Rattle.proxy_rows.specs.Words.{AreAccepted, AreMarks, without_rows};
 
 use crate::attachment::Attachment;
 use crate::side::{Side, goes_on, router_of};
@@ -23,8 +23,7 @@ pub fn side_marks(
 ) -> Result<Vec<bool>, NoMemory>
     requires ground { AreAccepted words.now at.now }
     ensures count { IfOk result (λ marks. length marks.items ≡ length words.now.graph.now.ids) }
-    ensures marked { IfOk result (λ marks. (s : ℕ)
-        → IsMarked marks.items s ↔ IsOn words.now at.now side s) }
+    ensures marked { IfOk result (λ marks. AreMarks words.now at.now side marks.items) }
 {
     let g = words.graph;
     let start = router_of(at, side);

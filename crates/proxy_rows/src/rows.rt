@@ -5,7 +5,7 @@ ghost use Rattle.mrt_graph.specs.{declared.cert.Row.Row, AcceptedFor.IsAcceptedF
 ghost use Rattle.proxy_rows.specs.{declared.attachment.Attachment.Attachment, declared.side.Side.TheVariants.Low, declared.side.Side.TheVariants.High, Attachment.IsAttachment, ReadFrom.ReadFrom};
 ghost use Rattle.proxy_rows.specs.GraphWith.{AreRowsWith, links_with, new_node};
 ghost use Rattle.proxy_rows.specs.ProxyRows.{AreProxyRows, AreRowsOf, IsHeadBlue, IsHeadRed, IsProxyRow, IsSideOut};
-ghost use Rattle.proxy_rows.specs.Words.{AreAccepted, AreReadWith, IsOn, with_rows};
+ghost use Rattle.proxy_rows.specs.Words.{AreAccepted, AreMarks, AreReadWith, IsOn, with_rows};
 
 use crate::attachment::{Attachment, attach};
 use crate::ends::{Wanted, first_end};
@@ -114,9 +114,9 @@ fn row<R: RowsOf>(
 ) -> ProxyRow
     requires read { (rest : List Row) × AreReadWith words.now at.now (R.rows rows.now) rest }
     requires low_count { length low.now ≡ length words.now.graph.now.ids }
-    requires low { (s : ℕ) → IsMarked low.now s ↔ IsOn words.now at.now Low s }
+    requires low { AreMarks words.now at.now Low low.now }
     requires high_count { length high.now ≡ length words.now.graph.now.ids }
-    requires high { (s : ℕ) → IsMarked high.now s ↔ IsOn words.now at.now High s }
+    requires high { AreMarks words.now at.now High high.now }
     requires within { s < length words.now.graph.now.ids }
     ensures { (rest : List Row) → AreReadWith words.now at.now (R.rows rows.now) rest
         → IsProxyRow words.now.graph.now (with_rows words.now rest) at.now s result }
@@ -152,7 +152,7 @@ fn row<R: RowsOf>(
 fn head_blue(words: &Words, at: &Attachment, low: &[bool]) -> Out
     requires ground { AreAccepted words.now at.now }
     requires low_count { length low.now ≡ length words.now.graph.now.ids }
-    requires low { (s : ℕ) → IsMarked low.now s ↔ IsOn words.now at.now Low s }
+    requires low { AreMarks words.now at.now Low low.now }
     ensures { (rest : List Row)
         → IsHeadBlue words.now.graph.now (with_rows words.now rest) at.now result }
 {
@@ -169,7 +169,7 @@ fn head_blue(words: &Words, at: &Attachment, low: &[bool]) -> Out
 fn head_red(words: &Words, at: &Attachment, low: &[bool]) -> Out
     requires ground { AreAccepted words.now at.now }
     requires low_count { length low.now ≡ length words.now.graph.now.ids }
-    requires low { (s : ℕ) → IsMarked low.now s ↔ IsOn words.now at.now Low s }
+    requires low { AreMarks words.now at.now Low low.now }
     ensures { (rest : List Row) → IsHeadRed (with_rows words.now rest) at.now result }
 {
     match first_end(words, at, Wanted::NotPlain, low, at.head) {
@@ -182,7 +182,7 @@ fn head_red(words: &Words, at: &Attachment, low: &[bool]) -> Out
 fn side_out(words: &Words, at: &Attachment, side: Side, marks: &[bool], s: NodeNo) -> Out
     requires ground { AreAccepted words.now at.now }
     requires count { length marks.now ≡ length words.now.graph.now.ids }
-    requires marked { (s : ℕ) → IsMarked marks.now s ↔ IsOn words.now at.now side s }
+    requires marked { AreMarks words.now at.now side marks.now }
     requires within { s < length words.now.graph.now.ids }
     requires on { IsOn words.now at.now side s }
     ensures { (rest : List Row)

@@ -3,7 +3,7 @@
 ghost use Rattle.std.specs.Prelude.{◌≡◌, ◌<◌, ◌↔◌, ℕ, List, length};
 ghost use Rattle.mrt_graph.specs.{declared.cert.Row.Row, Search.IsMarked};
 ghost use Rattle.proxy_rows.specs.{declared.side.Side.TheVariants.Low, declared.side.Side.TheVariants.High};
-ghost use Rattle.proxy_rows.specs.{Standing.IsStanding, Standing.standing_by, Words.IsOn, Words.with_rows};
+ghost use Rattle.proxy_rows.specs.{Standing.IsStanding, Standing.standing_by, Words.AreMarks, Words.with_rows};
 
 use crate::attachment::Attachment;
 use crate::ends::is_marked;
@@ -25,9 +25,9 @@ pub enum Standing {
 /// Where a node stands, by the marks of both sides.
 pub fn stands(words: &Words, at: &Attachment, low: &[bool], high: &[bool], s: NodeNo) -> Standing
     requires low_count { s < length low.now }
-    requires low { (s : ℕ) → IsMarked low.now s ↔ IsOn words.now at.now Low s }
+    requires low { AreMarks words.now at.now Low low.now }
     requires high_count { s < length high.now }
-    requires high { (s : ℕ) → IsMarked high.now s ↔ IsOn words.now at.now High s }
+    requires high { AreMarks words.now at.now High high.now }
     requires within { s < length words.now.nodes.now }
     ensures { (rest : List Row) → IsStanding words.now.graph.now.links (with_rows words.now rest) at.now s result }
 {

@@ -8,6 +8,7 @@ use Rattle.mrt_graph.proofs.Searching.{Searches, searches_begun, searches_ended,
 use Rattle.proxy_rows.specs.Sides.{IsMember, router_of}
 use Rattle.proxy_rows.specs.Steps.{StepsTo}
 use Rattle.proxy_rows.specs.Words.{with_rows, without_rows}
+use Rattle.proxy_rows.proofs.AnyRows.{marks_too}
 use Rattle.proxy_rows.proofs.Grounds.{counts, member_within, router_within}
 use Rattle.proxy_rows.proofs.Stepping.{none_is, side_is, steps_of}
 use Rattle.proxy_rows.proofs.marking.side_marks.Goals as goal
@@ -23,9 +24,9 @@ pub returns-then-not-is_member-clause-marked : goal.returns-then-not-is_member-c
 returns-then-not-is_member-clause-marked c =
     let g = c.args.words.now.graph.now in
     let blank : c.in_ok-marks.marks.items ≡ replicate c.node_count.result false = c.in_ok-marks.ensures.items_if_clones_equal (search rules) in
-    none_is g (without_rows c.args.words.now) c.args.at.now c.args.side
+    marks_too c.args.words.now c.args.at.now c.args.side c.in_ok-marks.marks.items (none_is g (without_rows c.args.words.now) c.args.at.now c.args.side
     (λ member. both_ways c.is_member.result c.if-not-is_member.true (c.is_member.ensures.1 (subst (IsMember (without_rows c.args.words.now) c.args.at.now) (sym c.router_of-start.ensures) member)))
-    c.in_ok-marks.marks.items (subst (λ (n : ℕ). c.in_ok-marks.marks.items ≡ replicate n false) c.node_count.ensures.count blank)
+    c.in_ok-marks.marks.items (subst (λ (n : ℕ). c.in_ok-marks.marks.items ≡ replicate n false) c.node_count.ensures.count blank))
 
 pub new-requires : goal.new-requires
 new-requires c =
@@ -82,7 +83,7 @@ returns-clause-marked c =
     let ground = c.requires.ground.stands in
     let member : IsMember (without_rows c.args.words.now) c.args.at.now start =
     subst (IsMember (without_rows c.args.words.now) c.args.at.now) c.router_of-start.ensures (c.is_member.ensures.0 c.if-not-is_member.false) in
-    side_is g (without_rows c.args.words.now) c.args.at.now c.args.side ground.kept
+    marks_too c.args.words.now c.args.at.now c.args.side c.into_marks.result.items (side_is g (without_rows c.args.words.now) c.args.at.now c.args.side ground.kept
     (λ v is. let below = member_within g (with_rows c.args.words.now c.requires.ground.rest) c.args.at.now ground v is in omega (arith, below, (counts g (with_rows c.args.words.now c.requires.ground.rest) c.args.at.now ground).nodes))
     member c.into_marks.result.items
-    (λ s. subst (λ (marks : List Bool). IsMarked marks s ↔ Reachable step start s) (sym c.into_marks.ensures) (exactly s))
+    (λ s. subst (λ (marks : List Bool). IsMarked marks s ↔ Reachable step start s) (sym c.into_marks.ensures) (exactly s)))

@@ -1,10 +1,7 @@
-use Rattle.std.proofs.Common.{◌∙◌, [], sym, arith}
+use Rattle.std.proofs.Common.{◌∙◌, sym, arith}
 use Rattle.std.proofs.lemmas.Bool.{eqb-false, eqb-true}
-use Rattle.proxy_rows.specs.declared.ends.Wanted.TheVariants.{PlainToLow}
-use Rattle.proxy_rows.specs.Ends.{IsWanted}
 use Rattle.proxy_rows.specs.ProxyRows.{Here, Over}
-use Rattle.proxy_rows.specs.Words.{with_rows, without_rows}
-use Rattle.proxy_rows.proofs.AnyRows.{first_too, none_too, wanted_end}
+use Rattle.proxy_rows.specs.Words.{with_rows}
 use Rattle.proxy_rows.proofs.Grounds.{counts, head_within}
 use Rattle.proxy_rows.proofs.SideEnds.{head_end}
 use Rattle.proxy_rows.proofs.rows.head_blue.Goals as goal
@@ -20,17 +17,9 @@ first_end-requires-clause-within c =
 
 pub unreachable-requires : goal.unreachable-requires
 unreachable-requires c =
-    let words = c.args.words.now in
     let own = c.requires.ground.rest in
-    let at = c.args.at.now in
-    head_end words.graph.now (with_rows words own) at c.requires.ground.stands (eqb-false _ _ (sym c.eq.ensures ∙ c.if-eq.false))
-    (none_too words.graph.now (IsWanted words.graph.now (without_rows words) at PlainToLow at.head) (IsWanted words.graph.now (with_rows words own) at PlainToLow at.head)
-    (wanted_end words at own [] PlainToLow at.head) at.head c.in-None.ensures.none)
+    head_end c.args.words.now.graph.now (with_rows c.args.words.now own) c.args.at.now c.requires.ground.stands (eqb-false _ _ (sym c.eq.ensures ∙ c.if-eq.false))
+    (c.in-None.ensures.none own)
 
 pub returns : goal.returns
-returns c rest =
-    let words = c.args.words.now in
-    let at = c.args.at.now in
-    Over c.in-Some.end (eqb-false _ _ (sym c.eq.ensures ∙ c.if-eq.false))
-    (first_too words.graph.now (IsWanted words.graph.now (without_rows words) at PlainToLow at.head) (IsWanted words.graph.now (with_rows words rest) at PlainToLow at.head)
-    (wanted_end words at [] rest PlainToLow at.head) (wanted_end words at rest [] PlainToLow at.head) at.head c.in-Some.end c.in-Some.ensures.some)
+returns c rest = Over c.in-Some.end (eqb-false _ _ (sym c.eq.ensures ∙ c.if-eq.false)) (c.in-Some.ensures.some rest)

@@ -1,9 +1,7 @@
-use Rattle.std.proofs.Common.{[], arith}
-use Rattle.proxy_rows.specs.declared.ends.Wanted.TheVariants.{NotPlain}
+use Rattle.std.proofs.Common.{arith}
 use Rattle.proxy_rows.specs.declared.proxy_row.Out.TheVariants as outs
-use Rattle.proxy_rows.specs.Ends.{IsWanted}
-use Rattle.proxy_rows.specs.Words.{with_rows, without_rows}
-use Rattle.proxy_rows.proofs.AnyRows.{none_too, red_too, wanted_end}
+use Rattle.proxy_rows.specs.Words.{with_rows}
+use Rattle.proxy_rows.proofs.AnyRows.{red_too}
 use Rattle.proxy_rows.proofs.Grounds.{counts, head_within}
 use Rattle.proxy_rows.proofs.HeadLinks.{red_if_not_plain}
 use Rattle.proxy_rows.proofs.SideEnds.{closing_end}
@@ -17,17 +15,13 @@ first_end-requires-clause-within c =
 
 pub unreachable-requires : goal.unreachable-requires
 unreachable-requires c =
-    let words = c.args.words.now in
     let own = c.requires.ground.rest in
-    let at = c.args.at.now in
-    closing_end words.graph.now (with_rows words own) at c.requires.ground.stands
-    (none_too words.graph.now (IsWanted words.graph.now (without_rows words) at NotPlain at.head) (IsWanted words.graph.now (with_rows words own) at NotPlain at.head)
-    (wanted_end words at own [] NotPlain at.head) at.head c.in-None.ensures.none)
+    closing_end c.args.words.now.graph.now (with_rows c.args.words.now own) c.args.at.now c.requires.ground.stands (c.in-None.ensures.none own)
 
 pub returns : goal.returns
 returns c rest =
     let words = c.args.words.now in
     let own = c.requires.ground.rest in
-    let asked = c.in-Some.ensures.some.asked in
+    let asked = (c.in-Some.ensures.some own).asked in
     red_too words c.args.at.now own rest (outs.Link c.in-Some.end.link)
     (red_if_not_plain words.graph.now (with_rows words own) c.args.at.now c.requires.ground.stands c.in-Some.end.link asked.of_block asked.not_plain)

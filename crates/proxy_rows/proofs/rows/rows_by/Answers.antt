@@ -1,11 +1,10 @@
-use Rattle.std.proofs.Common.{rules, ◌≡◌, ◌∙◌, ◌↔◌, ℕ, Bool, List, Some, length, slice_get, inl, inr, sym, ap, subst, arith}
+use Rattle.std.proofs.Common.{rules, ◌≡◌, ◌∙◌, ℕ, Bool, List, Some, length, slice_get, inl, inr, sym, ap, subst, arith}
 use Rattle.std.proofs.lemmas.Option.{slice_get_within}
-use Rattle.mrt_graph.specs.Search.{IsMarked}
 use Rattle.mrt_graph.proofs.ListPlaces.{pushed_at}
 use Rattle.proxy_rows.specs.declared.proxy_row.ProxyRow.{ProxyRow}
 use Rattle.proxy_rows.specs.declared.side.Side.TheVariants.{Low, High}
 use Rattle.proxy_rows.specs.ProxyRows.{IsProxyRow}
-use Rattle.proxy_rows.specs.Words.{IsOn, with_rows}
+use Rattle.proxy_rows.specs.Words.{AreMarks, with_rows}
 use Rattle.proxy_rows.proofs.AnyRows.{accepted_of}
 use Rattle.proxy_rows.proofs.rows.rows_by.Goals as goal
 
@@ -33,9 +32,9 @@ row-blue-requires g c =
     record {
       read = c.requires.read;
       low_count = subst (λ (marks : List Bool). length marks ≡ length words.graph.now.ids) low c.in_ok-low.ensures.count;
-      low = subst (λ (marks : List Bool). (s : ℕ) → IsMarked marks s ↔ IsOn words c.args.at.now Low s) low c.in_ok-low.ensures.marked;
+      low = subst (λ (marks : List Bool). AreMarks words c.args.at.now Low marks) low c.in_ok-low.ensures.marked;
       high_count = subst (λ (marks : List Bool). length marks ≡ length words.graph.now.ids) high c.in_ok-high.ensures.count;
-      high = subst (λ (marks : List Bool). (s : ℕ) → IsMarked marks s ↔ IsOn words c.args.at.now High s) high c.in_ok-high.ensures.marked;
+      high = subst (λ (marks : List Bool). AreMarks words c.args.at.now High marks) high c.in_ok-high.ensures.marked;
       within = omega (arith, c.new.ensures, c.loop-s-test.true, c.requires.count);
     }
 

@@ -1,11 +1,7 @@
-use Rattle.std.proofs.Common.{◌≢◌, ◌∙◌, [], sym}
+use Rattle.std.proofs.Common.{◌∙◌, [], sym}
 use Rattle.std.proofs.lemmas.Bool.{eqb-false, eqb-true}
-use Rattle.proxy_rows.specs.declared.ends.Wanted.TheVariants.{Onward}
-use Rattle.proxy_rows.specs.Ends.{IsWanted}
 use Rattle.proxy_rows.specs.ProxyRows.{Here, Over}
-use Rattle.proxy_rows.specs.Sides.{router_of}
-use Rattle.proxy_rows.specs.Words.{with_rows, without_rows}
-use Rattle.proxy_rows.proofs.AnyRows.{first_too, wanted_end}
+use Rattle.proxy_rows.specs.Words.{without_rows}
 use Rattle.proxy_rows.proofs.SideEnds.{side_end}
 use Rattle.proxy_rows.proofs.rows.side_out.Goals as goal
 
@@ -16,15 +12,8 @@ pub unreachable-requires : goal.unreachable-requires
 unreachable-requires c =
     let words = c.args.words.now in
     side_end words.graph.now (without_rows words) c.args.at.now c.requires.ground.stands.kept c.args.side c.args.s c.requires.within
-    (λ same. eqb-false _ _ (sym c.eq.ensures ∙ c.if-eq.false) (same ∙ sym c.router_of.ensures)) c.requires.on c.in-None.ensures.none
+    (λ same. eqb-false _ _ (sym c.eq.ensures ∙ c.if-eq.false) (same ∙ sym c.router_of.ensures)) c.requires.on (c.in-None.ensures.none [])
 
 pub returns : goal.returns
 returns c rest =
-    let words = c.args.words.now in
-    let at = c.args.at.now in
-    let s = c.args.s in
-    let wanted = Onward c.args.side in
-    let other : s ≢ router_of at c.args.side = λ same. eqb-false _ _ (sym c.eq.ensures ∙ c.if-eq.false) (same ∙ sym c.router_of.ensures) in
-    Over c.in-Some.end other
-    (first_too words.graph.now (IsWanted words.graph.now (without_rows words) at wanted s) (IsWanted words.graph.now (with_rows words rest) at wanted s)
-    (wanted_end words at [] rest wanted s) (wanted_end words at rest [] wanted s) s c.in-Some.end c.in-Some.ensures.some)
+    Over c.in-Some.end (λ same. eqb-false _ _ (sym c.eq.ensures ∙ c.if-eq.false) (same ∙ sym c.router_of.ensures)) (c.in-Some.ensures.some rest)
