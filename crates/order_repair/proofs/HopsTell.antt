@@ -1,5 +1,5 @@
 -- What a hop, or that there is none, tells of the paths to a node; and what an order number is.
-use Rattle.std.proofs.Common.{◌≡◌, ◌⊎◌, ◌∙◌, ◌<◌, ℕ, Bool, true, false, ◌∷◌, Option, Some, None, length, slice_get, refl, sym, inl, inr}
+use Rattle.std.proofs.Common.{◌≡◌, ◌⊎◌, ◌∙◌, ◌<◌, ℕ, Bool, false, ◌∷◌, Option, Some, None, length, slice_get, refl, sym, inl, inr}
 use Rattle.std.proofs.lemmas.Option.{same_Some}
 use Rattle.std.proofs.lemmas.Bool.Decides.{not_from_Decides}
 use Rattle.std.specs.Bool.{Decides}

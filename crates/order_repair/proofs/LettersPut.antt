@@ -1,51 +1,44 @@
--- The letters of a block's nodes and links, one after another.
-use Rattle.std.proofs.Common.{◌≢◌, ◌≤◌, ◌<◌, ◌+◌, ℕ, List, [], refl, arith}
-use Rattle.mrt_graph.specs.declared.gadag.Place.{Place}
+-- The letters of a block's nodes or links, one after another.
+use Rattle.std.proofs.Common.{◌≡◌, ◌≤◌, ◌<◌, ◌+◌, ℕ, List, [], arith}
 use Rattle.mrt_graph.specs.DirectedLists.{DirectedLists}
+use Rattle.mrt_graph.specs.declared.gadag.Place.{Place}
+use Rattle.mrt_graph.specs.declared.link.Element.TheVariants as elements
 use Rattle.mrt_graph.specs.Topology.{Topology}
 use Rattle.link_direction.specs.Directions.{Directions, Says}
 use Rattle.text_parts.specs.Adds.{Adds}
-use Rattle.text_parts.proofs.Adding.{nothing, one_part_more}
+use Rattle.text_parts.proofs.Adding.{one_part_more}
+use Rattle.order_repair.specs.declared.kind.Kind.{Kind}
+use Rattle.order_repair.specs.declared.kind.Kind.TheVariants.{Links, Nodes}
+use Rattle.order_repair.specs.declared.kind.Members.{Members}
 use Rattle.order_repair.specs.declared.pair.Pair.{Pair}
-use Rattle.order_repair.specs.BlockLists.{link_blocks, node_blocks}
-use Rattle.order_repair.specs.Blocks.{LinkLetter, LinkLetters, NodeLetter, NodeLetters}
+use Rattle.order_repair.specs.Blocks.{Letter, Letters}
 use Rattle.order_repair.specs.Chains.{IsNext}
-use Rattle.order_repair.specs.OrderText.{NotOfIt}
-use Rattle.order_repair.proofs.Listed.{no_link, no_node}
+use Rattle.order_repair.specs.Kinds.{IsHeadWithin, blocks_of}
+use Rattle.order_repair.specs.OrderText.{IsLetter, NotOfIt}
+use Rattle.order_repair.proofs.Listed.{none_lies}
 use Rattle.order_repair.proofs.PartsPassed.{passed}
 
-module _ (g : Topology) (d : DirectedLists) (root : ℕ) (w : Directions) (says : Says g d w) (pair : Pair) (place : Place) where
-  -- before all others
-  pub no_letters : (text : List ℕ) → Adds (NodeLetters g root w pair place 0) text text
-  no_letters text = nothing (NodeLetters g root w pair place 0) text refl
+module _ (g : Topology) (d : DirectedLists) (root : ℕ) (w : Directions) (says : Says g d w) (pair : Pair) (before text : List ℕ) (from until : ℕ) where
+  -- where the head is none of those between
+  pub without_head : (members : Members) → IsNext (blocks_of members.kind d) members.place.block from until
+      → Adds (Letters g root w pair members from) before text → (IsHeadWithin members.kind members.place.head from until → ⊥)
+      → Adds (Letters g root w pair members until) before text
+  without_head members next letters outside =
+      passed (Letter g root w pair members) from until before text next.onward
+      (λ k low high. NotOfIt (none_lies g d w says members.kind members.place.block members.place.head from until k next low high (λ same. outside))) letters
 
-  module _ (from until : ℕ) (next : IsNext (node_blocks d) place.block from until) (before text : List ℕ) (letters : Adds (NodeLetters g root w pair place from) before text) where
-    no_letter : (k : ℕ) → from ≤ k → k < until → k ≢ place.head → NodeLetter g root w pair place k []
-    no_letter k low high other = NotOfIt (no_node g d w says place.block place.head from until k next low high other)
-
-    -- where the head is none of the nodes between
-    pub without_head : ¬ ((from ≤ place.head) × (place.head < until)) → Adds (NodeLetters g root w pair place until) before text
-    without_head outside =
-        passed (NodeLetter g root w pair place) from until before text next.onward
-        (λ k low high. no_letter k low high (λ same. outside (omega (arith, low, same), omega (arith, high, same)))) letters
-
-    -- and where it is one of them
-    pub with_head : (after : List ℕ) → from ≤ place.head → place.head < until → Adds (NodeLetter g root w pair place place.head) text after → Adds (NodeLetters g root w pair place until) before after
-    with_head after low high letter =
-        let to_head = passed (NodeLetter g root w pair place) from place.head before text low
-        (λ k low' high'. no_letter k low' (omega (arith, high', high)) (λ same. omega (arith, high', same))) letters in
-        let over = one_part_more (NodeLetter g root w pair place) place.head before text after to_head letter in
-        passed (NodeLetter g root w pair place) (place.head + 1) until before after (omega (arith, high))
-        (λ k low' high'. no_letter k (omega (arith, low', low)) high' (λ same. omega (arith, low', same))) over
-
-  -- up to the first link
-  pub first_link : (first : ℕ) → IsNext (link_blocks d) place.block 0 first → (text : List ℕ) → Adds (LinkLetters g root w pair place first) text text
-  first_link first is text =
-      passed (LinkLetter g root w pair place) 0 first text text (omega arith) (λ k low high. NotOfIt (no_link g d w says place.block 0 first k is low high)) (nothing (LinkLetters g root w pair place 0) text refl)
-
-  -- one link, and up to the next one
-  pub link_more : (e next : ℕ) → IsNext (link_blocks d) place.block (e + 1) next → (before text after : List ℕ) → Adds (LinkLetters g root w pair place e) before text → Adds (LinkLetter g root w pair place e) text after
-      → Adds (LinkLetters g root w pair place next) before after
-  link_more e next is before text after letters letter =
-      passed (LinkLetter g root w pair place) (e + 1) next before after is.onward (λ k low high. NotOfIt (no_link g d w says place.block (e + 1) next k is low high))
-      (one_part_more (LinkLetter g root w pair place) e before text after letters letter)
+  -- and where it is one of them
+  pub with_head : (kind : Kind) (place : Place) → IsNext (blocks_of kind d) place.block from until
+      → Adds (Letters g root w pair (record { kind = kind; place = place }) from) before text → IsHeadWithin kind place.head from until → (after : List ℕ)
+      → Adds (IsLetter g root w pair.source pair.to place.block place.head (elements.Node place.head)) text after
+      → Adds (Letters g root w pair (record { kind = kind; place = place }) until) before after
+  with_head Links place next letters within after letter = absurd within
+  with_head Nodes place next letters within after letter =
+      let members : Members = record { kind = Nodes; place = place } in
+      let none : (k : ℕ) → from ≤ k → k < until → (k ≡ place.head → ⊥) → Letter g root w pair members k [] =
+      (λ k low high other. NotOfIt (none_lies g d w says Nodes place.block place.head from until k next low high (λ same. absurd (other same)))) in
+      let to_head = passed (Letter g root w pair members) from place.head before text within.0
+      (λ k low high. none k low (omega (arith, high, within.1)) (λ same. omega (arith, high, same))) letters in
+      let over = one_part_more (Letter g root w pair members) place.head before text after to_head letter in
+      passed (Letter g root w pair members) (place.head + 1) until before after (omega (arith, within.1))
+      (λ k low high. none k (omega (arith, low, within.0)) high (λ same. omega (arith, low, same))) over

@@ -1,5 +1,5 @@
 -- By order there is exactly one color for each failure.
-use Rattle.std.proofs.Common.{◌≡◌, ◌==◌, ◌&&◌, ◌||◌, ◌≢◌, ◌⊎◌, ◌∙◌, ◌<◌, ℕ, Bool, length, refl, sym, ap, subst}
+use Rattle.std.proofs.Common.{◌≡◌, ◌==◌, ◌&&◌, ◌||◌, ◌≢◌, ◌∙◌, ◌<◌, ℕ, Bool, length, refl, sym, ap, subst}
 use Rattle.std.specs.Bool.{Decides}
 use Rattle.std.proofs.lemmas.Bool.Decides.{Decides-and, Decides-eqb, Decides-or, same_from_decides}
 use Rattle.std.proofs.lemmas.Option.{same_Some}
@@ -11,7 +11,6 @@ use Rattle.mrt_graph.specs.declared.cert.Row.{Row}
 use Rattle.mrt_graph.specs.declared.cert.Tag.{Tag}
 use Rattle.mrt_graph.specs.declared.link.Element.{Element}
 use Rattle.mrt_graph.specs.declared.link.Element.TheVariants as elements
-use Rattle.mrt_graph.specs.Leads.{leads}
 use Rattle.mrt_graph.specs.Separates.{IsNeitherEnd}
 use Rattle.link_direction.specs.Directions.{Directions}
 use Rattle.inc_dec_spf.specs.declared.reach.Dir.{Dir}
@@ -27,7 +26,7 @@ use Rattle.order_repair.specs.Failed.{IsBetween, LiesIn}
 use Rattle.order_repair.specs.OrderChoice.{AreLinkTests, AreTests, ByTests, IsClosing, IsOrderChoice, IsPlain, LeadsTo, LineFor, LinkLine}
 use Rattle.order_repair.proofs.HopsTell.{hop_tells}
 use Rattle.order_repair.proofs.RowWays.{row_of_table}
-use Rattle.order_repair.proofs.SharedBlock.{SharedRing, shared_ring}
+use Rattle.order_repair.proofs.SharedBlock.{shared_ring}
 
 -- the tests are one
 one_tests : (w : Directions) (s t u v : ℕ) (Under Over : Type 0) (x y : OrderTests) → AreTests w s t u v Under Over x → AreTests w s t u v Under Over y

@@ -1,5 +1,5 @@
 -- There is exactly one text on the repairs by order of a router.
-use Rattle.std.proofs.Common.{◌≡◌, ◌≢◌, ◌⊎◌, ◌∙◌, ◌++◌, ◌<◌, ℕ, List, [], Option, Some, None, codes, length, refl, sym, ap, subst, inl, inr}
+use Rattle.std.proofs.Common.{◌≡◌, ◌⊎◌, ◌∙◌, ◌++◌, ◌<◌, ℕ, List, [], Option, Some, None, codes, length, refl, sym, ap, inl, inr}
 use Rattle.std.proofs.lemmas.Bool.{cases_eq}
 use Rattle.std.proofs.lemmas.Option.{slice_get_within}
 use Rattle.mrt_graph.specs.declared.cert.Color.{Color}
@@ -14,7 +14,6 @@ use Rattle.inc_dec_spf.specs.declared.reach.Dir.TheVariants.{Down, Up}
 use Rattle.inc_dec_spf.specs.LeastPath.{HaveCommonBlockOfMoreLinks}
 use Rattle.mrt_rows.proofs.HopsExist.{has_hop}
 use Rattle.mrt_rows.proofs.OrderedGraphs.{OrderedGraph, one_common}
-use Rattle.text_parts.specs.Parts.{AreParts}
 use Rattle.text_parts.proofs.Adding.{one_headed_text, one_id, one_text_of_parts, some_headed_text, some_text_of_parts}
 use Rattle.order_repair.specs.Failed.{IsWithin, LiesIn}
 use Rattle.order_repair.specs.OrderText.{AtEnd, Colored, IsHead, IsLetter, IsLine, IsOrderText, IsPartOn, Line, NoLine, NotOfIt, letter_of}

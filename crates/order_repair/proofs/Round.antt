@@ -14,8 +14,6 @@ use Rattle.mrt_graph.specs.Alternate.{UsesOn}
 use Rattle.mrt_graph.specs.Hop.{Hop, color_hop}
 use Rattle.mrt_graph.specs.Leads.{leads}
 use Rattle.mrt_graph.specs.Rows.{Rows}
-use Rattle.mrt_graph.specs.Topology.{Topology}
-use Rattle.link_direction.specs.Directions.{Directions}
 use Rattle.mrt_graph.proofs.Bridge.{color_leads}
 use Rattle.mrt_graph.proofs.Hops.{lead_back}
 use Rattle.inc_dec_spf.specs.declared.reach.Dir.{Dir}

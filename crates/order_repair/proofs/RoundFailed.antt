@@ -16,8 +16,7 @@ use Rattle.mrt_rows.proofs.Ways.{Inside, Ring, Way, head_lower, not_head}
 use Rattle.order_repair.specs.declared.order_tests.OrderTests.{OrderTests}
 use Rattle.order_repair.specs.ColorTable.{plain_color}
 use Rattle.order_repair.specs.OrderChoice.{AreTests}
-use Rattle.order_repair.proofs.MayMeet.{Crossed, IsAside, MayAfter, MayAside, MayHead, MayPast, MayPeer}
-use Rattle.order_repair.proofs.Moving.{dir_of}
+use Rattle.order_repair.proofs.MayMeet.{IsAside, MayAfter, MayAside, MayHead, MayPast, MayPeer}
 use Rattle.order_repair.proofs.Round.{IsRound, Lies, after_high, after_low, by_both, by_most, join, never_aside, never_passed, round_after, round_aside, round_head, round_past, round_peer}
 use Rattle.order_repair.proofs.RowWays.{AboveRow, BelowRow, HeadRow, RowWays, TopRow, UnorderedRow, way_of}
 use Rattle.order_repair.proofs.Steps.{beyond_on, from_itself}

@@ -1,18 +1,17 @@
 -- A failed link that the color of the table goes round.
-use Rattle.std.proofs.Common.{◌≡◌, ◌≢◌, ◌⊎◌, ◌∙◌, ◌<◌, ◌≤◌, ℕ, Some, length, refl, sym, ap, subst, inl, inr, arith}
+use Rattle.std.proofs.Common.{◌≡◌, ◌≢◌, ◌∙◌, ◌<◌, ℕ, Some, length, refl, sym, ap, subst, inl, inr, arith}
 use Rattle.std.proofs.lemmas.Bool.{iff_false}
 use Rattle.mrt_graph.specs.declared.cert.Color.{Color}
 use Rattle.mrt_graph.specs.declared.cert.Color.TheVariants.{Blue, Red}
 use Rattle.mrt_graph.specs.declared.cert.Role.TheVariants.{Closing, Plain}
 use Rattle.mrt_graph.specs.declared.cert.Tag.{Tag}
-use Rattle.mrt_graph.specs.declared.cert.Tag.TheVariants as tags
 use Rattle.mrt_graph.specs.declared.link.Element.TheVariants as elements
 use Rattle.mrt_graph.specs.Leads.{leads}
 use Rattle.mrt_graph.specs.Rows.{Rows}
 use Rattle.inc_dec_spf.specs.declared.reach.Dir.TheVariants.{Down, Up}
 use Rattle.mrt_rows.specs.RowsOf.{HasRow}
 use Rattle.mrt_rows.proofs.OrderedGraphs.{OrderedGraph}
-use Rattle.mrt_rows.proofs.Ways.{Directs, Home, Inner, Inside, Out, Ring, directs, not_head}
+use Rattle.mrt_rows.proofs.Ways.{Directs, Home, Inner, Inside, Out, Ring, directs}
 use Rattle.order_repair.specs.declared.order_tests.OrderTests.{OrderTests}
 use Rattle.order_repair.specs.ColorTable.{closing_color, plain_color}
 use Rattle.order_repair.specs.OrderChoice.{AreLinkTests, IsClosing, IsPlain, LinkLine}

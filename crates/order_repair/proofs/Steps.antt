@@ -1,5 +1,5 @@
 -- The steps of a block of more than one link: where the first links of its paths lead.
-use Rattle.std.proofs.Common.{◌≡◌, ◌≢◌, ◌⊎◌, ◌∙◌, ◌<◌, ◌≤◌, ℕ, [], ◌∷◌, Some, refl, sym, subst, inl, inr, arith}
+use Rattle.std.proofs.Common.{◌≡◌, ◌≢◌, ◌⊎◌, ◌∙◌, ◌≤◌, ℕ, [], ◌∷◌, Some, sym, subst, inl, inr, arith}
 use Rattle.mrt_graph.specs.declared.cert.Role.TheVariants.{Closing, Plain}
 use Rattle.mrt_graph.specs.declared.link.End.{End}
 use Rattle.mrt_graph.specs.Leads.{leads}

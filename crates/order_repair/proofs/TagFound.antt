@@ -1,5 +1,5 @@
 -- The tag by what two nodes are to each other, and by the hops of one of them, is that of its row for the other one.
-use Rattle.std.proofs.Common.{◌≡◌, ◌≢◌, ◌⊎◌, ◌∙◌, ◌<◌, ℕ, Option, Some, None, length, refl, sym, subst, inl, inr}
+use Rattle.std.proofs.Common.{◌≡◌, ◌≢◌, ◌∙◌, ◌<◌, ℕ, Option, Some, None, length, refl, sym, subst, inl, inr}
 use Rattle.mrt_graph.specs.declared.cert.Row.{Row}
 use Rattle.mrt_graph.specs.declared.cert.Tag.{Tag}
 use Rattle.mrt_graph.specs.declared.cert.Tag.TheVariants as tags
@@ -9,7 +9,7 @@ use Rattle.link_direction.proofs.TwoNodes.{Relates}
 use Rattle.inc_dec_spf.specs.declared.reach.Dir.{Dir}
 use Rattle.inc_dec_spf.specs.declared.reach.Dir.TheVariants.{Down, Up}
 use Rattle.inc_dec_spf.specs.declared.reach.Hop.{Hop}
-use Rattle.inc_dec_spf.specs.LeastPath.{IsHop, NotReached, Reached, HaveCommonBlockOfMoreLinks}
+use Rattle.inc_dec_spf.specs.LeastPath.{IsHop, Reached, HaveCommonBlockOfMoreLinks}
 use Rattle.mrt_rows.specs.RowLines.{LineOf}
 use Rattle.mrt_rows.proofs.OrderedGraphs.{OrderedGraph, one_is_head}
 use Rattle.mrt_rows.proofs.RowsExist.{some_rows}

@@ -1,23 +1,17 @@
--- The block of a source and a destination, as it is held.
+-- The letters of a pair's line.
 use Rattle.std.specs.Prelude.{ℕ, List}
-use Rattle.mrt_graph.specs.declared.gadag.Place.{Place}
-use Rattle.mrt_graph.specs.declared.link.Element.TheVariants as elements
 use Rattle.mrt_graph.specs.Topology.{Topology}
 use Rattle.link_direction.specs.Directions.{Directions}
 use Rattle.text_parts.specs.Parts.{AreParts}
+use Rattle.order_repair.specs.declared.kind.Members.{Members}
 use Rattle.order_repair.specs.declared.pair.Pair.{Pair}
+use Rattle.order_repair.specs.Kinds.{element_of}
 use Rattle.order_repair.specs.OrderText.{IsLetter}
 
--- a letter of the pair's line: for a node, and for a link
-abbrev pub NodeLetter : Topology → ℕ → Directions → Pair → Place → ℕ → List ℕ → Type 0
-NodeLetter g root w pair place f = IsLetter g root w pair.source pair.to place.block place.head (elements.Node f)
+-- that for a node of a block, or for a link; and those for the first so many
+abbrev pub Letter : Topology → ℕ → Directions → Pair → Members → ℕ → List ℕ → Type 0
+Letter g root w pair members n =
+    IsLetter g root w pair.source pair.to members.place.block members.place.head (element_of members.kind n)
 
-abbrev pub LinkLetter : Topology → ℕ → Directions → Pair → Place → ℕ → List ℕ → Type 0
-LinkLetter g root w pair place e = IsLetter g root w pair.source pair.to place.block place.head (elements.Link e)
-
--- those for the first so many nodes, and for the first so many links
-abbrev pub NodeLetters : Topology → ℕ → Directions → Pair → Place → ℕ → List ℕ → Type 0
-NodeLetters g root w pair place count = AreParts (NodeLetter g root w pair place) count
-
-abbrev pub LinkLetters : Topology → ℕ → Directions → Pair → Place → ℕ → List ℕ → Type 0
-LinkLetters g root w pair place count = AreParts (LinkLetter g root w pair place) count
+abbrev pub Letters : Topology → ℕ → Directions → Pair → Members → ℕ → List ℕ → Type 0
+Letters g root w pair members count = AreParts (Letter g root w pair members) count

@@ -4,6 +4,7 @@ pub mod Blocks
 pub mod Chains
 pub mod ColorTable
 pub mod Failed
+pub mod Kinds
 pub mod OrderChoice
 pub mod OrderText
 pub mod Source

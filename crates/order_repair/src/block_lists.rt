@@ -1,10 +1,13 @@
 //! The nodes and the links of each block.
 
 ghost use Rattle.std.specs.Prelude.{◌≡◌, IfOk, length};
-ghost use Rattle.order_repair.specs.BlockLists.{link_blocks, node_blocks};
+ghost use Rattle.mrt_graph.specs.GraphInvariant.{IsTopology};
+ghost use Rattle.inc_dec_spf.specs.HasDirections.{HasDirections};
+ghost use Rattle.order_repair.specs.{BlockLists.AreChainsOf, Kinds.blocks_of, Kinds.count_of};
 
 use crate::chains::Chains;
-use mrt_graph::{Directed, Graph, LinkNo, NoMemory, NodeNo};
+use crate::kind::{Kind, block_at, count_of};
+use mrt_graph::{Directed, Graph, NoMemory, NodeNo};
 use std::alloc::Global;
 
 /// The nodes and the links of each block, by number. A block's head is not among its nodes.
@@ -33,37 +36,31 @@ impl BlockLists {
         requires directed { HasDirections g.now d.now }
         ensures { IfOk result (AreBlockLists d.now) }
     {
-        let count = g.node_count() as usize;
-        let of_nodes = node_blocks(alloc, g, d)?;
-        let nodes = Chains::new(alloc, &of_nodes, count)?;
-        let of_links = link_blocks(alloc, g, d)?;
-        let links = Chains::new(alloc, &of_links, count)?;
+        let nodes = chains_of(alloc, g, d, Kind::Nodes)?;
+        let links = chains_of(alloc, g, d, Kind::Links)?;
         Ok(BlockLists { nodes, links })
     }
 }
 
-/// Of each node its block.
-fn node_blocks(alloc: Global, g: &Graph, d: &Directed) -> Result<Vec<NodeNo>, NoMemory>
-    requires one_each { length d.now.places ≡ length g.now.ids }
-    ensures { IfOk result (λ blocks. blocks.items ≡ node_blocks d.now) }
+/// Those of a kind, in chains.
+fn chains_of(alloc: Global, g: &Graph, d: &Directed, kind: Kind) -> Result<Chains, NoMemory>
+    requires kept { IsTopology g.now }
+    requires directed { HasDirections g.now d.now }
+    ensures { IfOk result (AreChainsOf d.now kind) }
 {
-    let count = g.node_count();
-    let mut blocks = Vec::with_capacity(alloc, count as usize)?;
-    for n in 0..count {
-        blocks.push_reserved(d.place(NodeNo::new(n)).block);
-    }
-    Ok(blocks)
+    let blocks = blocks_of(alloc, g, d, kind)?;
+    Chains::new(alloc, &blocks, g.node_count() as usize)
 }
 
-/// Of each link its block.
-fn link_blocks(alloc: Global, g: &Graph, d: &Directed) -> Result<Vec<NodeNo>, NoMemory>
-    requires one_each { length d.now.marks ≡ length g.now.links }
-    ensures { IfOk result (λ blocks. blocks.items ≡ link_blocks d.now) }
+/// Of each its block.
+fn blocks_of(alloc: Global, g: &Graph, d: &Directed, kind: Kind) -> Result<Vec<NodeNo>, NoMemory>
+    requires one_each { length (blocks_of kind d.now) ≡ count_of kind g.now }
+    ensures { IfOk result (λ blocks. blocks.items ≡ blocks_of kind d.now) }
 {
-    let count = g.link_count();
+    let count = count_of(g, kind);
     let mut blocks = Vec::with_capacity(alloc, count as usize)?;
-    for e in 0..count {
-        blocks.push_reserved(d.mark(LinkNo::new(e)).block);
+    for number in 0..count {
+        blocks.push_reserved(block_at(d, kind, number));
     }
     Ok(blocks)
 }

@@ -6,6 +6,7 @@ mod block_lists;
 mod chains;
 mod choice;
 mod color_table;
+mod kind;
 mod line;
 mod order_law;
 mod order_tests;

@@ -5,15 +5,17 @@ ghost use Rattle.mrt_graph.specs.{declared.gadag.Place.Place, Separates.IsNeithe
 ghost use Rattle.link_direction.specs.Directions.{Directions};
 ghost use Rattle.inc_dec_spf.specs.{HasDirections.AreDirections, HasDirections.HasDirections, LeastPath.HaveCommonBlockOfMoreLinks};
 ghost use Rattle.text_parts.specs.Adds.{Adds};
-ghost use Rattle.order_repair.specs.{BlockLists.AreBlockLists, BlockLists.node_blocks, Chains.IsNext, Failed.IsWithin, Failed.LiesIn};
+ghost use Rattle.order_repair.specs.{BlockLists.AreBlockLists, BlockLists.AreChainsOf, Chains.IsNext, Failed.IsWithin, Failed.LiesIn};
 ghost use Rattle.order_repair.specs.{OrderText.IsLetter, OrderText.IsLine, OrderText.letter_of, SourceView.AreHopsIn, SourceView.IsSourceIn};
-ghost use Rattle.order_repair.specs.{Tagging.IsPair, Blocks.LinkLetters, Blocks.NodeLetters};
+ghost use Rattle.order_repair.specs.{Tagging.IsPair, Blocks.Letters, Kinds.blocks_of, Kinds.count_of, Kinds.IsHeadWithin};
 
 use crate::block_lists::BlockLists;
+use crate::chains::Chains;
 use crate::choice::color_for;
+use crate::kind::{Kind, Members, count_of, element, members_of};
 use crate::pair::Pair;
 use crate::source_view::SourceView;
-use mrt_graph::{Color, Directed, Element, Graph, LinkNo, NoMemory, NodeNo, Place};
+use mrt_graph::{Color, Directed, Element, Graph, NoMemory, Place};
 use text_parts::{push, push_node};
 
 /// Puts the line on a pair's destination at the end of a text.
@@ -34,9 +36,21 @@ pub fn push_line(
     let place = block_of(view.graph, view.directed, pair);
     push_node(text, view.graph.id(pair.to))?;
     push(text, b" ")?;
-    push_node_letters(text, view, lists, pair, &place)?;
+    push_letters(
+        text,
+        view,
+        &lists.nodes,
+        pair,
+        &members_of(Kind::Nodes, &place),
+    )?;
     push(text, b" ")?;
-    push_link_letters(text, view, lists, pair, &place)?;
+    push_letters(
+        text,
+        view,
+        &lists.links,
+        pair,
+        &members_of(Kind::Links, &place),
+    )?;
     push(text, b"\n")?;
     Ok(())
 }
@@ -57,93 +71,69 @@ fn block_of(g: &Graph, d: &Directed, pair: &Pair) -> Place
     d.place(pair.source)
 }
 
-/// Puts the letters of the block's nodes at the end of a text.
-fn push_node_letters(
+/// Puts the letters of the block's nodes, or of its links, at the end of a text.
+fn push_letters(
     text: &mut Vec<u8>,
     view: &SourceView,
-    lists: &BlockLists,
+    chains: &Chains,
     pair: &Pair,
-    place: &Place,
+    members: &Members,
 ) -> Result<(), NoMemory>
     requires source { IsSourceIn view.now pair.now.source }
-    requires lists { AreBlockLists view.now.directed.now lists.now }
+    requires chains { AreChainsOf view.now.directed.now members.now.kind chains.now }
     requires to { pair.now.to < length view.now.graph.now.ids }
-    requires block { place.now.block < length view.now.graph.now.ids }
+    requires block { members.now.place.block < length view.now.graph.now.ids }
     ensures { (root : ℕ) (w : Directions) → AreHopsIn view.now root w pair.now.source
-        → IsPair view.now.graph.now root w pair.now.source pair.now.to pair.now.tag place.now.block place.now.head
+        → IsPair view.now.graph.now root w pair.now.source pair.now.to pair.now.tag members.now.place.block members.now.place.head
         → IfOk result (λ _. Adds
-        (NodeLetters view.now.graph.now root w pair.now place.now (length view.now.graph.now.ids))
+        (Letters view.now.graph.now root w pair.now members.now (count_of members.now.kind view.now.graph.now))
         text.old.items text.new.items) }
 {
-    let count = view.graph.node_count();
+    let count = count_of(view.graph, members.kind);
     let mut from = 0;
-    let mut next = lists.nodes.first(place.block);
+    let mut next = chains.first(members.place.block);
     while next < count {
-        push_head_letter(text, view, pair, place, from, next)?;
-        push_letter(text, view, pair, &Element::Node(NodeNo::new(next)))?;
+        push_head_letter(text, view, pair, members, from, next)?;
+        push_letter(text, view, pair, &element(members.kind, next))?;
         from = next + 1;
-        next = lists.nodes.next(next);
+        next = chains.next(next);
     }
-    push_head_letter(text, view, pair, place, from, next)
+    push_head_letter(text, view, pair, members, from, next)
 }
 
-/// Puts the letter of the block's head at the end of a text, where its number lies from the one on and before the other.
-/// The block has no other node there.
+/// Puts the letter of the block's head at the end of a text, where it is a node whose number lies from the one on and
+/// before the other. The block has no other one there.
 fn push_head_letter(
     text: &mut Vec<u8>,
     view: &SourceView,
     pair: &Pair,
-    place: &Place,
+    members: &Members,
     from: u16,
     until: u16,
 ) -> Result<(), NoMemory>
     requires source { IsSourceIn view.now pair.now.source }
     requires to { pair.now.to < length view.now.graph.now.ids }
-    requires none { IsNext (node_blocks view.now.directed.now) place.now.block from until }
+    requires none { IsNext (blocks_of members.now.kind view.now.directed.now) members.now.place.block from until }
     ensures { (root : ℕ) (w : Directions) (before : List ℕ) → AreHopsIn view.now root w pair.now.source
-        → IsPair view.now.graph.now root w pair.now.source pair.now.to pair.now.tag place.now.block place.now.head
-        → Adds (NodeLetters view.now.graph.now root w pair.now place.now from) before text.old.items
-        → IfOk result (λ _. Adds (NodeLetters view.now.graph.now root w pair.now place.now until)
+        → IsPair view.now.graph.now root w pair.now.source pair.now.to pair.now.tag members.now.place.block members.now.place.head
+        → Adds (Letters view.now.graph.now root w pair.now members.now from) before text.old.items
+        → IfOk result (λ _. Adds (Letters view.now.graph.now root w pair.now members.now until)
         before text.new.items) }
 {
-    if is_between(place.head, from, until) {
-        return push_letter(text, view, pair, &Element::Node(place.head));
+    if is_head_within(members, from, until) {
+        return push_letter(text, view, pair, &Element::Node(members.place.head));
     }
     Ok(())
 }
 
-/// Whether a node's number lies from the one on and before the other.
-fn is_between(n: NodeNo, from: u16, until: u16) -> bool
-    ensures { IsTrue result ↔ ((from ≤ n) × (n < until)) }
+/// Whether the block's head is a node whose number lies from the one on and before the other.
+fn is_head_within(members: &Members, from: u16, until: u16) -> bool
+    ensures { IsTrue result ↔ IsHeadWithin members.now.kind members.now.place.head from until }
 {
-    from <= n.get() && n.get() < until
-}
-
-/// Puts the letters of the block's links at the end of a text.
-fn push_link_letters(
-    text: &mut Vec<u8>,
-    view: &SourceView,
-    lists: &BlockLists,
-    pair: &Pair,
-    place: &Place,
-) -> Result<(), NoMemory>
-    requires source { IsSourceIn view.now pair.now.source }
-    requires lists { AreBlockLists view.now.directed.now lists.now }
-    requires to { pair.now.to < length view.now.graph.now.ids }
-    requires block { place.now.block < length view.now.graph.now.ids }
-    ensures { (root : ℕ) (w : Directions) → AreHopsIn view.now root w pair.now.source
-        → IsPair view.now.graph.now root w pair.now.source pair.now.to pair.now.tag place.now.block place.now.head
-        → IfOk result (λ _. Adds
-        (LinkLetters view.now.graph.now root w pair.now place.now (length view.now.graph.now.links))
-        text.old.items text.new.items) }
-{
-    let count = view.graph.link_count();
-    let mut next = lists.links.first(place.block);
-    while next < count {
-        push_letter(text, view, pair, &Element::Link(LinkNo::new(next)))?;
-        next = lists.links.next(next);
+    match members.kind {
+        Kind::Nodes => from <= members.place.head.get() && members.place.head.get() < until,
+        Kind::Links => false,
     }
-    Ok(())
 }
 
 /// Puts the letter of a node or a link of the block at the end of a text.

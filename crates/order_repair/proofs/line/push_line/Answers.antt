@@ -11,8 +11,8 @@ returns c = λ root w hops k h of_pair.
     let pair =
     subst (λ (x : ℕ). IsPair g root w c.args.pair.now.source c.args.pair.now.to c.args.pair.now.tag place.block x) (sym same.1)
     (subst (λ (x : ℕ). IsPair g root w c.args.pair.now.source c.args.pair.now.to c.args.pair.now.tag x h) (sym same.0) of_pair) in
-    let nodes = c.in_ok-push_node_letters.ensures root w hops pair in
-    let links = c.in_ok-push_link_letters.ensures root w hops pair in
+    let nodes = rw c.members_of.ensures at (c.in_ok-push_letters.ensures root w hops (rw c.members_of.ensures pair)) in
+    let links = rw c.members_of-2.ensures at (c.in_ok-push_letters-2.ensures root w hops (rw c.members_of-2.ensures pair)) in
     record {
       part = _;
       is = record {
