@@ -36,7 +36,7 @@ use Rattle.proxy_rows.specs.declared.standing.Standing.TheVariants as places
 use Rattle.proxy_rows.specs.ProxyRows.{IsBlue, IsHeadBlue, IsHeadRed, IsLinkFor, IsOnward, IsPlainToLow, IsProxyRow, IsRed, IsSideOut, Here, Over}
 use Rattle.proxy_rows.specs.Sides.{IsIn, IsMember, IsOfBlock}
 use Rattle.proxy_rows.proofs.Attaching.{words}
-use Rattle.proxy_rows.proofs.BlockRows.{HeadHops, head_hops, high_more, link_is, low_more, low_not_high, side_member, stays, to_high}
+use Rattle.proxy_rows.proofs.BlockRows.{HeadHops, head_hops, high_more, link_is, low_more, side_member, stays, to_high}
 use Rattle.proxy_rows.proofs.Grounds.{apart, b, counts, head_is, head_no_member, is_higher, is_lower, is_member, member_at, upper_member}
 use Rattle.proxy_rows.proofs.HeadLinks.{red_link, same_as_red}
 use Rattle.proxy_rows.proofs.NewLinks.{lower_leads, old_leads, upper_leads}

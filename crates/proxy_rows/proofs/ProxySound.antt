@@ -3,11 +3,10 @@ use Rattle.std.proofs.Common.{◌≡◌, ◌≢◌, ◌<◌, ◌==◌, ◌+◌, 
 use Rattle.std.proofs.lemmas.Bool.{cases_eq, eq-eqb, ne_eqb}
 use Rattle.mrt_graph.specs.declared.cert.Color.{Color}
 use Rattle.mrt_graph.specs.declared.cert.Color.TheVariants.{Blue, Red}
-use Rattle.mrt_graph.specs.declared.cert.Row.{Row}
 use Rattle.mrt_graph.specs.declared.link.Element.{Element}
 use Rattle.mrt_graph.specs.declared.link.Element.TheVariants as elements
 use Rattle.mrt_graph.specs.declared.link.Link.{Link}
-use Rattle.mrt_graph.specs.Certificate.{Certificate, row_of}
+use Rattle.mrt_graph.specs.Certificate.{Certificate}
 use Rattle.mrt_graph.specs.Hop.{Hop, color_hop}
 use Rattle.mrt_graph.specs.Leads.{leads}
 use Rattle.mrt_graph.specs.Rows.{Rows, link_of_color}
@@ -35,7 +34,7 @@ use Rattle.proxy_rows.specs.declared.standing.Standing.TheVariants as places
 use Rattle.proxy_rows.specs.ProxyRows.{BelongsTo, IsBlue, IsEntry, First, None as none_of_it, IsLinkFor, IsLinkIn, IsProxyRow, IsRed}
 use Rattle.proxy_rows.specs.Sides.{IsMember}
 use Rattle.proxy_rows.proofs.Attaching.{words}
-use Rattle.proxy_rows.proofs.BlockRows.{link_is, side_member}
+use Rattle.proxy_rows.proofs.BlockRows.{side_member}
 use Rattle.proxy_rows.proofs.BlockSteps.{from_block, takes}
 use Rattle.proxy_rows.proofs.Entries.{Entry, Inside, ByMember, ByHead, at_or_not, before_head, before_member, entry, head_parts, last_on, member_parts, nodes_within, outside_hops}
 use Rattle.proxy_rows.proofs.FirstVisit.{PartsBoth, on_front_too, parts_on, visit}

@@ -27,8 +27,7 @@ use Rattle.proxy_rows.specs.declared.standing.Standing.TheVariants as places
 use Rattle.proxy_rows.specs.ProxyRows.{AreProxyRows, IsBlue, IsFirstOut, IsHeadRed, IsLinkFor, IsOnward, IsPlainToLow, IsRed, Here, Over}
 use Rattle.proxy_rows.specs.Touches.{AllTouch, Touches}
 use Rattle.proxy_rows.proofs.Attaching.{words}
-use Rattle.proxy_rows.proofs.BlockRows.{link_is, to_high}
-use Rattle.proxy_rows.proofs.Grounds.{rows}
+use Rattle.proxy_rows.proofs.BlockRows.{to_high}
 use Rattle.proxy_rows.proofs.HeadLinks.{red_link}
 use Rattle.proxy_rows.proofs.OutsideRows.{begins, good, hop_leads, link_over, way_of}
 use Rattle.proxy_rows.proofs.Stands.{Tells, tells}
