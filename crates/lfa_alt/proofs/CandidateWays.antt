@@ -1,6 +1,7 @@
 -- What leads to a neighbour for a destination are the ways that serve it.
-use Rattle.std.proofs.Common.{◌≡◌, ◌<◌, ℕ, Some, None, length, inl, inr, refl, sym, subst}
-use Rattle.std.proofs.lemmas.Bool.{cases_Bool}
+use Rattle.std.proofs.Common.{◌≡◌, ◌<◌, ◌==◌, ℕ, not, Some, None, length, inl, inr, refl, sym, ap, subst}
+use Rattle.std.specs.Prelude.{IsTrue}
+use Rattle.std.proofs.lemmas.Bool.{cases_Bool, eq-eqb, eqb-false, eqb-true, ne_eqb, not-true}
 use Rattle.area_graph.specs.declared.area_types.Arc.{Arc}
 use Rattle.area_graph.specs.AreaInvariant.{IsArea}
 use Rattle.area_graph.specs.Parts.{AreaParts}
@@ -12,14 +13,14 @@ use Rattle.primary_alt.proofs.ArcWalks.{arc_kept, network_by_test, no_network_by
 use Rattle.primary_alt.proofs.RouterFacts.{router_alone, router_from}
 use Rattle.lfa_alt.specs.declared.way.Way.{Way}
 use Rattle.lfa_alt.specs.Candidates.{Across, Candidate, Leaves, Straight, ToNeighbour}
-use Rattle.lfa_alt.specs.Ways.{AcrossNetwork, IsWayOver, Serves, ToNetwork, ToRouter, candidate_of, way_across, way_over}
+use Rattle.lfa_alt.specs.Ways.{AcrossNetwork, IsWayOver, ToNetwork, ToRouter, candidate_of, serves, way_across, way_over}
 
 -- a way that serves t, and is told so
 pub record IsServed (area : AreaParts) (s t : ℕ) (candidate : Candidate) : Type 0 where
   pub way : Way
   pub number : ℕ
   pub over : IsWayOver area s number way
-  pub serves : Serves way.network way.second t
+  pub fits : IsTrue (serves way.network way.second t)
   pub same : candidate_of way ≡ candidate
 
 module _ (area : AreaParts) (kept : IsArea area) (s t : ℕ) where
@@ -29,16 +30,16 @@ module _ (area : AreaParts) (kept : IsArea area) (s t : ℕ) where
       router_from area.ids onward.to ((arcs_between area kept).tos second onward on.there)
       (λ net. to_network area onward kept (arc_kept area second onward kept on.there) net (subst (λ (u : ℕ). IsNetwork area.ids u) (sym on.from) network))
 
-  pub served : (number : ℕ) (way : Way) → IsWayOver area s number way → Serves way.network way.second t → ToNeighbour area s t (candidate_of way)
-  served number way (ToRouter arc leaves router) serves =
+  pub served : (number : ℕ) (way : Way) → IsWayOver area s number way → IsTrue (serves way.network way.second t) → ToNeighbour area s t (candidate_of way)
+  served number way (ToRouter arc leaves router) fits =
       Straight number arc leaves (inl (router_from area.ids arc.to ((arcs_between area kept).tos number arc leaves.there) router))
-  served number way (ToNetwork arc leaves network) serves = Straight number arc leaves (inr serves)
-  served number way (AcrossNetwork second arc onward leaves network on further) serves =
-      Across number second arc onward leaves (record { network = network; other = serves }) on (from_network second arc.to onward network on) further
+  served number way (ToNetwork arc leaves network) fits = Straight number arc leaves (inr (eqb-true arc.to t fits))
+  served number way (AcrossNetwork second arc onward leaves network on further) fits =
+      Across number second arc onward leaves (record { network = network; other = eqb-false arc.to t (not-true (arc.to == t) fits) }) on (from_network second arc.to onward network on) further
 
   straight : (number : ℕ) (arc : Arc) → Leaves area s number arc → ¬ IsNetwork area.ids arc.to
       → IsServed area s t (record { first = number; second = None; next = arc.to; bond = arc.bond; metric = arc.metric })
-  straight number arc leaves router = record { way = way_over number arc None; number = number; over = ToRouter arc leaves router; serves = tt; same = refl }
+  straight number arc leaves router = record { way = way_over number arc None; number = number; over = ToRouter arc leaves router; fits = refl; same = refl }
 
   pub serving : (candidate : Candidate) → ToNeighbour area s t candidate → IsServed area s t candidate
   serving candidate (Straight number arc leaves which) = elim (cases_Bool (is_network area.ids arc.to)) [
@@ -48,7 +49,7 @@ module _ (area : AreaParts) (kept : IsArea area) (s t : ℕ) where
         way = way_over number arc (Some arc.to);
         number = number;
         over = ToNetwork arc leaves (network_by_test area.ids arc.to network);
-        serves = here;
+        fits = eq-eqb arc.to t here;
         same = refl;
       }
     ]
@@ -58,7 +59,7 @@ module _ (area : AreaParts) (kept : IsArea area) (s t : ℕ) where
     way = way_across number arc (Some second) onward;
     number = number;
     over = AcrossNetwork second arc onward leaves leads.network on further;
-    serves = leads.other;
+    fits = ap not (ne_eqb arc.to t leads.other);
     same = refl;
   }
 

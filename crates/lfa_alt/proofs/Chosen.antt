@@ -1,6 +1,6 @@
 -- A loop-free alternate, and the candidate that it is.
-use Rattle.std.proofs.Common.{◌≡◌, ◌≢◌, ◌<◌, ◌∙◌, ℕ, List, [], ◌∷◌, Option, Some, None, length, slice_get, inl, inr, refl, sym, ap, subst}
-use Rattle.std.specs.Prelude.{IfSome}
+use Rattle.std.proofs.Common.{◌≡◌, ◌≢◌, ◌<◌, ◌∙◌, ℕ, Bool, List, [], ◌∷◌, Option, Some, None, length, slice_get, inl, inr, refl, sym, ap, subst}
+use Rattle.std.specs.Prelude.{◌↔◌, IfSome, IsTrue}
 use Rattle.std.proofs.lemmas.Option.{same_Some, slice_get_within}
 use Rattle.area_graph.specs.declared.area_types.Arc.{Arc}
 use Rattle.area_graph.specs.AreaInvariant.{IsArea}
@@ -14,30 +14,46 @@ use Rattle.primary_alt.specs.Routers.{IsRouter}
 use Rattle.primary_alt.proofs.AreaArcs.{arcs_between}
 use Rattle.primary_alt.proofs.PrimariesLead.{one_entry}
 use Rattle.primary_alt.proofs.RouterFacts.{router_alone}
-use Rattle.lfa_alt.specs.declared.alternate.FreeCandidate.{FreeCandidate}
 use Rattle.lfa_alt.specs.declared.alternate.Lfa.{Lfa}
-use Rattle.lfa_alt.specs.Candidates.{Across, Candidate, Straight, ToNeighbour}
-use Rattle.lfa_alt.specs.HopWalks.{AreHopArcs, OneArc, TwoArcs, UsesBond}
-use Rattle.lfa_alt.specs.LoopFree.{IsLfa, IsLoopFree, NoPrimary, NoneIsLoopFree, TheFirst, alternate_of}
+use Rattle.lfa_alt.specs.Candidates.{Across, Candidate, IsOtherBond, Straight, ToNeighbour}
+use Rattle.lfa_alt.specs.HopWalks.{AreHopArcs, UsesBond}
+use Rattle.lfa_alt.specs.LoopFree.{ByPrimary, IsLfa, IsNearerThanOver, NoPrimary, Protects, TheBest, alternate_of}
 use Rattle.lfa_alt.proofs.HopsLead.{IsAt}
 use Rattle.lfa_alt.proofs.ShortestWalks.{touches}
+
+-- the alternate that a candidate is
+abbrev lfa_of : Candidate → Bool → Lfa
+lfa_of candidate node = record { first = candidate.first; second = candidate.second; next = candidate.next; node = node }
 
 -- the loop-free candidate that an alternate is
 pub record IsChosen (area : AreaParts) (s t : ℕ) (lfa : Lfa) : Type 0 where
   pub primary : Primary
   pub is : IsPrimary area s t (Some primary)
-  pub choice : FreeCandidate
-  pub free : IsLoopFree area s t primary choice
-  pub same : alternate_of choice ≡ lfa
-
-chosen_by : (area : AreaParts) (s t : ℕ) (lfa : Lfa) (entry : Option Lfa) → IsLfa area s t entry → entry ≡ Some lfa → IsChosen area s t lfa
-chosen_by area s t lfa entry (NoPrimary none) is = cc
-chosen_by area s t lfa entry (NoneIsLoopFree primary p none) is = cc
-chosen_by area s t lfa entry (TheFirst primary choice p free first) is =
-    record { primary = primary; is = p; choice = choice; free = free; same = same_Some (alternate_of choice) lfa is }
+  pub candidate : Candidate
+  pub leads : ToNeighbour area s t candidate
+  pub bond : IsOtherBond area.arcs primary candidate.bond
+  pub loop_free : IsNearerThanOver area.arcs s candidate.next t
+  pub node : Bool
+  pub node_is : IsTrue node ↔ Protects area.arcs t primary candidate.next
+  pub same : lfa_of candidate node ≡ lfa
 
 pub chosen : (area : AreaParts) (s t : ℕ) (lfa : Lfa) → IsLfa area s t (Some lfa) → IsChosen area s t lfa
-chosen area s t lfa is = chosen_by area s t lfa (Some lfa) is refl
+chosen area s t lfa is = go is refl
+  where
+    go : {entry : Option Lfa} → IsLfa area s t entry → entry ≡ Some lfa → IsChosen area s t lfa
+    go (NoPrimary none) is = cc
+    go (ByPrimary primary None p none) is = cc
+    go (ByPrimary primary (Some same) p (TheBest choice free first)) is = record {
+      primary = primary;
+      is = p;
+      candidate = free.candidate;
+      leads = free.is.leads;
+      bond = free.is.other_bond;
+      loop_free = free.loop_free.loop_free;
+      node = free.loop_free.node;
+      node_is = free.loop_free.node_is;
+      same = ap alternate_of (sym free.loop_free.is) ∙ same_Some (alternate_of choice) lfa is;
+    }
 
 -- the primary is the one that there is
 pub its_primary : (area : AreaParts) (s t : ℕ) (one other : Primary) → IsPrimary area s t (Some one) → IsPrimary area s t (Some other) → one ≡ other
@@ -55,21 +71,16 @@ module _ (area : AreaParts) (kept : IsArea area) (s t : ℕ) where
 
   -- its arcs do not use a bond of s that is not that of its first arc
   pub own_bonds : IsRouter area.ids s → (j : ℕ) (base : Arc) → slice_get area.arcs j ≡ Some base → base.tail ≡ s → (c : Candidate) → ToNeighbour area s t c → c.bond ≢ base.bond
-      → (first : ℕ) (second : Option ℕ) (own : List Arc) → AreHopArcs area.arcs first second own → first ≡ c.first → second ≡ c.second → ¬ UsesBond own base.bond
-  own_bonds router j base at from c (Straight number arc leaves which) other first second own (OneArc f one there) is none uses =
-      let same : one ≡ arc = same_Some one arc (sym there ∙ ap (λ (n : ℕ). slice_get area.arcs n) is ∙ leaves.there) in
-      elim uses [ inl bond ↦ other (ap (λ (a : Arc). a.bond) (sym same) ∙ bond) | inr nothing ↦ nothing ]
-  own_bonds router j base at from c (Straight number arc leaves which) other first second own (TwoArcs f k one two there there') is some uses =
-      let clash : ◌≡◌ {A = Option ℕ} (Some k) None = some in cc
-  own_bonds router j base at from c (Across number k arc onward leaves leads on far further) other first second own (OneArc f one there) is none uses =
-      let clash : ◌≡◌ {A = Option ℕ} None (Some k) = none in cc
-  own_bonds router j base at from c (Across number k arc onward leaves leads on far further) other first second own (TwoArcs f k' one two there there') is some uses =
-      let same : one ≡ arc = same_Some one arc (sym there ∙ ap (λ (n : ℕ). slice_get area.arcs n) is ∙ leaves.there) in
-      let same' : two ≡ onward = same_Some two onward (sym there' ∙ ap (λ (n : ℕ). slice_get area.arcs n) (same_Some k' k some) ∙ on.there) in
-      elim uses [
-        | inl bond ↦ other (ap (λ (a : Arc). a.bond) (sym same) ∙ bond)
+      → (own : List Arc) → AreHopArcs area.arcs c.first c.second own → ¬ UsesBond own base.bond
+  own_bonds router j base at from c (Straight number arc leaves which) other own are uses =
+      let same : arc ∷ [] ≡ own = same_Some _ _ (rw leaves.there at are) in
+      elim (subst (λ (o : List Arc). UsesBond o base.bond) (sym same) uses) [ inl bond ↦ other bond | inr nothing ↦ nothing ]
+  own_bonds router j base at from c (Across number k arc onward leaves leads on far further) other own are uses =
+      let same : arc ∷ onward ∷ [] ≡ own = same_Some _ _ (rw (leaves.there, on.there) at are) in
+      elim (subst (λ (o : List Arc). UsesBond o base.bond) (sym same) uses) [
+        | inl bond ↦ other bond
         | inr later ↦ elim later [
-          | inl bond ↦ elim (touches area kept j k s base onward at on.there from (ap (λ (a : Arc). a.bond) (sym same') ∙ bond)) [
+          | inl bond ↦ elim (touches area kept j k s base onward at on.there from bond) [
             | inl tail ↦ router_alone area.ids s router (subst (λ (v : ℕ). IsNetwork area.ids v) (sym on.from ∙ tail) leads.network)
             | inr to ↦ further to
           ]
@@ -78,41 +89,33 @@ module _ (area : AreaParts) (kept : IsArea area) (s t : ℕ) where
       ]
 
 -- its arcs lead from s to its next
-own_there : (area : AreaParts) (s t : ℕ) (c : Candidate) → ToNeighbour area s t c → (own : List Arc) × AreHopArcs area.arcs c.first c.second own
-own_there area s t c (Straight number arc leaves which) = (arc ∷ [], OneArc number arc leaves.there)
-own_there area s t c (Across number second arc onward leaves leads on router further) = (arc ∷ onward ∷ [], TwoArcs number second arc onward leaves.there on.there)
+record Own (area : AreaParts) (s : ℕ) (c : Candidate) : Type 0 where
+  own : List Arc
+  are : AreHopArcs area.arcs c.first c.second own
+  leads : ArcWalk area.arcs s own c.next
 
-own_leads : (area : AreaParts) (s t : ℕ) (c : Candidate) → ToNeighbour area s t c → (first : ℕ) (second : Option ℕ) (own : List Arc) → AreHopArcs area.arcs first second own
-    → first ≡ c.first → second ≡ c.second → ArcWalk area.arcs s own c.next
-own_leads area s t c (Straight number arc leaves which) first second own (OneArc f one there) is none =
-    let same : arc ≡ one = same_Some arc one (sym leaves.there ∙ ap (λ (n : ℕ). slice_get area.arcs n) (sym is) ∙ there) in
-    subst (λ (a : Arc). ArcWalk area.arcs s (a ∷ []) arc.to) same (contains_at area.arcs number arc leaves.there, leaves.from, refl)
-own_leads area s t c (Straight number arc leaves which) first second own (TwoArcs f k one two there there') is some =
-    let clash : ◌≡◌ {A = Option ℕ} (Some k) None = some in cc
-own_leads area s t c (Across number k arc onward leaves leads on far further) first second own (OneArc f one there) is none =
-    let clash : ◌≡◌ {A = Option ℕ} None (Some k) = none in cc
-own_leads area s t c (Across number k arc onward leaves leads on far further) first second own (TwoArcs f k' one two there there') is some =
-    let same : arc ≡ one = same_Some arc one (sym leaves.there ∙ ap (λ (n : ℕ). slice_get area.arcs n) (sym is) ∙ there) in
-    let same' : onward ≡ two = same_Some onward two (sym on.there ∙ ap (λ (n : ℕ). slice_get area.arcs n) (sym (same_Some k' k some)) ∙ there') in
-    subst (λ (a : Arc). ArcWalk area.arcs s (a ∷ two ∷ []) onward.to) same
-    (subst (λ (a : Arc). ArcWalk area.arcs s (arc ∷ a ∷ []) onward.to) same'
-    (contains_at area.arcs number arc leaves.there, leaves.from, (contains_at area.arcs k onward on.there, on.from, refl)))
+own_of : (area : AreaParts) (s t : ℕ) (c : Candidate) → ToNeighbour area s t c → Own area s c
+own_of area s t c (Straight number arc leaves which) =
+    record { own = arc ∷ []; are = rw leaves.there refl; leads = (contains_at area.arcs number arc leaves.there, leaves.from, refl) }
+own_of area s t c (Across number second arc onward leaves leads on router further) = record {
+  own = arc ∷ onward ∷ [];
+  are = rw (leaves.there, on.there) refl;
+  leads = (contains_at area.arcs number arc leaves.there, leaves.from, (contains_at area.arcs second onward on.there, on.from, refl));
+}
 
 pub its_own : (area : AreaParts) (s t : ℕ) (lfa : Lfa) → IsLfa area s t (Some lfa) → (own : List Arc) × AreHopArcs area.arcs lfa.first lfa.second own
 its_own area s t lfa is =
     let by = chosen area s t lfa is in
-    let own = own_there area s t by.free.candidate by.free.is.leads in
-    let first : by.free.candidate.first ≡ lfa.first = sym by.free.loop_free.first ∙ ap (λ (l : Lfa). l.first) by.same in
-    let second : by.free.candidate.second ≡ lfa.second = sym by.free.loop_free.second ∙ ap (λ (l : Lfa). l.second) by.same in
-    (own.0, subst (λ (o : Option ℕ). AreHopArcs area.arcs lfa.first o own.0) second (subst (λ (n : ℕ). AreHopArcs area.arcs n by.free.candidate.second own.0) first own.1))
+    let own = own_of area s t by.candidate by.leads in
+    (own.own, subst (λ (l : Lfa). AreHopArcs area.arcs l.first l.second own.own) by.same own.are)
 
 pub its_own_leads : (area : AreaParts) (s t : ℕ) (lfa : Lfa) → IsLfa area s t (Some lfa) → (own : List Arc) → AreHopArcs area.arcs lfa.first lfa.second own
     → ArcWalk area.arcs s own lfa.next
-its_own_leads area s t lfa is own are =
+its_own_leads area s t lfa is own =
     let by = chosen area s t lfa is in
-    subst (λ (v : ℕ). ArcWalk area.arcs s own v) (sym by.free.loop_free.next ∙ ap (λ (l : Lfa). l.next) by.same)
-    (own_leads area s t by.free.candidate by.free.is.leads lfa.first lfa.second own are
-    (ap (λ (l : Lfa). l.first) (sym by.same) ∙ by.free.loop_free.first) (ap (λ (l : Lfa). l.second) (sym by.same) ∙ by.free.loop_free.second))
+    let its = own_of area s t by.candidate by.leads in
+    subst (λ (l : Lfa). AreHopArcs area.arcs l.first l.second own → ArcWalk area.arcs s own l.next) by.same
+    (λ are. subst (λ (o : List Arc). ArcWalk area.arcs s o by.candidate.next) (same_Some its.own own (sym its.are ∙ are)) its.leads)
 
 first_within : (area : AreaParts) (s t : ℕ) (c : Candidate) → ToNeighbour area s t c → c.first < length area.arcs
 first_within area s t c (Straight number arc leaves which) = slice_get_within area.arcs number arc leaves.there
@@ -123,10 +126,10 @@ pub arc_there : (area : AreaParts) (s t : ℕ) (entry : Option Lfa) → IsLfa ar
 arc_there area s t None is = tt
 arc_there area s t (Some lfa) is =
     let by = chosen area s t lfa is in
-    subst (λ (n : ℕ). n < length area.arcs) (sym by.free.loop_free.first ∙ ap (λ (l : Lfa). l.first) by.same) (first_within area s t by.free.candidate by.free.is.leads)
+    subst (λ (l : Lfa). l.first < length area.arcs) by.same (first_within area s t by.candidate by.leads)
 
 pub next_there : (area : AreaParts) → IsArea area → (s t : ℕ) (entry : Option Lfa) → IsLfa area s t entry → IfSome entry (λ lfa. lfa.next < length area.ids)
 next_there area kept s t None is = tt
 next_there area kept s t (Some lfa) is =
     let by = chosen area s t lfa is in
-    subst (λ (n : ℕ). n < length area.ids) (sym by.free.loop_free.next ∙ ap (λ (l : Lfa). l.next) by.same) (next_within area kept s t by.free.candidate by.free.is.leads)
+    subst (λ (l : Lfa). l.next < length area.ids) by.same (next_within area kept s t by.candidate by.leads)

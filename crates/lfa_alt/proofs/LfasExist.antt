@@ -1,25 +1,20 @@
 -- There is an answer for each node.
-use Rattle.std.proofs.Common.{◌≡◌, ◌≢◌, ◌<◌, ◌≤◌, ◌+◌, ◌∙◌, ◌⊎◌, ◌++◌, ℕ, zero, suc, Bool, true, false, List, [], ◌∷◌, Option, Some, None, length, map, slice_get, get_or, inl, inr, refl, sym, ap, subst, arith}
-use Rattle.std.specs.Prelude.{◌↔◌, IsTrue}
-use Rattle.std.specs.List.{range_with_len}
+use Rattle.std.proofs.Common.{◌≡◌, ◌≢◌, ◌<◌, ◌≤◌, ◌+◌, ◌∙◌, ◌++◌, ℕ, zero, suc, List, [], ◌∷◌, Option, Some, None, length, slice_get, inl, inr, refl, sym, subst, arith}
+use Rattle.std.specs.Prelude.{◌↔◌}
 use Rattle.std.specs.Option.{option_map}
-use Rattle.std.proofs.lemmas.Bool.{cases_Bool, cases_eq, cases_lt}
-use Rattle.std.proofs.lemmas.List.FromFn.{get_or-map-range_with_len, length-map-range_with_len}
+use Rattle.std.proofs.lemmas.Bool.{cases_Bool, cases_eq}
 use Rattle.std.proofs.lemmas.List.Sorted.{IsPermutation-refl}
-use Rattle.std.proofs.lemmas.Option.{get_or_from_slice_get, same_Some, slice_get-get_or, slice_get_within}
+use Rattle.std.proofs.lemmas.Option.{same_Some}
 use Rattle.area_graph.specs.declared.area_types.Arc.{Arc}
 use Rattle.area_graph.specs.AreaInvariant.{IsArea}
 use Rattle.area_graph.specs.Parts.{AreaParts}
 use Rattle.mrt_graph.proofs.ListPlaces.{place_of}
 use Rattle.mrt_graph.proofs.ListTests.{there}
 use Rattle.primary_alt.specs.declared.shortest.Primary.{Primary}
-use Rattle.primary_alt.specs.ArcWalk.{ArcWalk}
-use Rattle.primary_alt.specs.Distance.{IsDistance}
 use Rattle.primary_alt.specs.Offers.{is_network}
 use Rattle.primary_alt.specs.Primaries.{IsPrimary}
 use Rattle.primary_alt.specs.Routers.{IsRouter}
 use Rattle.primary_alt.specs.Distances.{AreDistances}
-use Rattle.primary_alt.specs.DistancesFrom.{AreDistancesFrom}
 use Rattle.primary_alt.proofs.AreaArcs.{arcs_between}
 use Rattle.primary_alt.proofs.ArcWalks.{network_by_test, no_network_by_test}
 use Rattle.primary_alt.proofs.DistancesExist.{distances_exist}
@@ -29,17 +24,16 @@ use Rattle.lfa_alt.specs.declared.alternate.FreeCandidate.{FreeCandidate}
 use Rattle.lfa_alt.specs.declared.alternate.Lfa.{Lfa}
 use Rattle.lfa_alt.specs.declared.destination.Destination.{Destination}
 use Rattle.lfa_alt.specs.declared.way.Way.{Way}
-use Rattle.lfa_alt.specs.Best.{IsBest, IsOfferedBy}
+use Rattle.lfa_alt.specs.Best.{IsOfferedBy, better}
 use Rattle.lfa_alt.specs.Candidates.{Leaves}
-use Rattle.lfa_alt.specs.LoopFree.{IsLfa, NoPrimary, alternate_of}
-use Rattle.lfa_alt.specs.Nearer.{IsNearer, ProtectsBy}
+use Rattle.lfa_alt.specs.LoopFree.{ByPrimary, IsBest, IsLfa, NoPrimary, alternate_of}
 use Rattle.lfa_alt.specs.Destinations.{IsDestination, Offers}
-use Rattle.lfa_alt.specs.Ways.{AddsAcross, AddsOver, AreWays, Serves, way_across, way_over}
-use Rattle.lfa_alt.specs.Best.{better}
+use Rattle.lfa_alt.specs.Offer.{offer}
+use Rattle.lfa_alt.specs.Ways.{AddsAcross, AddsOver, AreWays, way_across, way_over}
 use Rattle.lfa_alt.proofs.Bettering.{none_yet, one_more}
 use Rattle.lfa_alt.proofs.Beyond.{part_of}
 use Rattle.lfa_alt.proofs.LfasFound.{best_free, ways_within}
-use Rattle.lfa_alt.proofs.Offered.{no_offer, one_offer}
+use Rattle.lfa_alt.proofs.Offered.{IsTold, offer_told}
 use Rattle.lfa_alt.proofs.WaysFound.{AreWaysTo, across_left, across_more, across_none, all_ways, arc_left, arc_more, network_adds, no_way, router_adds}
 
 -- one more
@@ -95,107 +89,23 @@ module _ (area : AreaParts) (kept : IsArea area) (s : ℕ) where
       (all.0, all_ways area s (length area.arcs) all.0 all.0 (omega arith) all.1 (IsPermutation-refl all.0))
 
 -- there are distances from each node
-abbrev IsTold : List Arc → ℕ → ℕ → Option ℕ → Type 0
-IsTold arcs n v None = (walk : List Arc) → ¬ ArcWalk arcs n walk v
-IsTold arcs n v (Some d) = IsDistance arcs n v d
-
-module _ (area : AreaParts) (kept : IsArea area) where
-  told : (n v : ℕ) → n < length area.ids → (o : Option ℕ) × (v < length area.ids → IsTold area.arcs n v o)
-  told n v from = elim (cases_lt v (length area.ids)) [
-    | inr past ↦ (None, λ low. absurd (omega (arith, past, low)))
-    | inl low ↦
-        let known = distances_exist area.arcs v (length area.ids) (λ arc has. let at = place_of area.arcs arc has in (arcs_between area kept).tails at.0 arc at.1) low in
-        let is = there known.0 n (omega (arith, from, known.1)) in
-        by_option known.0 known.2 is.0 is.1
-  ]
-    where
-      by_option : (known : List (Option ℕ)) → AreDistances area.arcs v known → (o : Option ℕ) → slice_get known n ≡ Some o
-          → (o : Option ℕ) × (v < length area.ids → IsTold area.arcs n v o)
-      by_option known are None at = (None, λ low. are.none n at)
-      by_option known are (Some d) at = (Some d, λ low. are.some n d at)
-
-  from_exist : (n : ℕ) → n < length area.ids → (known : List (Option ℕ)) × (length known ≡ length area.ids) × AreDistancesFrom area.arcs n known
-  from_exist n from = (known, many, record { some = λ v d has. is v (Some d) has; none = λ v has. is v None has })
-    where
-      entry : ℕ → Option ℕ
-      entry v = (told n v from).0
-
-      known : List (Option ℕ)
-      known = map entry (range_with_len 0 (length area.ids))
-
-      many : length known ≡ length area.ids
-      many = length-map-range_with_len entry 0 (length area.ids)
-
-      is : (v : ℕ) (o : Option ℕ) → slice_get known v ≡ Some o → IsTold area.arcs n v o
-      is v o at =
-          let low : v < length area.ids = omega (arith, slice_get_within known v o at, many) in
-          let same : entry v ≡ o = sym (get_or-map-range_with_len entry 0 (length area.ids) v v None low (omega arith)) ∙ get_or_from_slice_get known v o None at in
-          subst (λ (x : Option ℕ). IsTold area.arcs n v x) same ((told n v from).1 low)
-
--- what is offered, or that nothing is
-abbrev IsExactly : (FreeCandidate → Type 0) → Option FreeCandidate → Type 0
-IsExactly Is o = (choice : FreeCandidate) → (o ≡ Some choice) ↔ Is choice
-
-nothing_is : (Is : FreeCandidate → Type 0) → ((choice : FreeCandidate) → ¬ Is choice) → (o : Option FreeCandidate) × IsExactly Is o
-nothing_is Is not = (None, λ choice. (λ same. cc, λ is. absurd (not choice is)))
-
-serves_or_not : (network second : Option ℕ) (t : ℕ) → Serves network second t ⊎ (¬ Serves network second t)
-serves_or_not None second t = inl tt
-serves_or_not (Some network) None t = cases_eq network t
-serves_or_not (Some network) (Some second) t = elim (cases_eq network t) [ inl same ↦ inr (λ apart. apart same) | inr apart ↦ inl apart ]
-
-nearer_or_not : (rest : ℕ) (out : Option ℕ) (back : ℕ) → IsNearer rest out back ⊎ (¬ IsNearer rest out back)
-nearer_or_not rest None back = inl tt
-nearer_or_not rest (Some out) back = elim (cases_lt rest (out + back)) [ inl low ↦ inl low | inr past ↦ inr (λ low. omega (arith, past, low)) ]
-
-protects_or_not : (known : List (Option ℕ)) (t : ℕ) (destination : Destination) (rest : ℕ) → destination.primary.next < length known → (node : Bool) × (IsTrue node ↔ ProtectsBy known t destination rest)
-protects_or_not known t destination rest through = elim (cases_eq destination.primary.next t) [
-  | inl same ↦ (false, (λ holds. cc, λ by. absurd (by.further same)))
-  | inr further ↦ elim (nearer_or_not rest (get_or known destination.primary.next None) destination.beyond) [
-    | inl nearer ↦ (
-      true,
-      (
-        λ holds. record { further = further; out = get_or known destination.primary.next None; there = slice_get-get_or known destination.primary.next None through; nearer = nearer },
-        λ by. refl,
-      ),
-    )
-    | inr not ↦ (false, (λ holds. cc, λ by. absurd (not (subst (λ (o : Option ℕ). IsNearer rest o destination.beyond) (sym (get_or_from_slice_get known destination.primary.next by.out None by.there)) by.nearer))))
-  ]
-]
+told : (area : AreaParts) → IsArea area → (n v : ℕ) → n < length area.ids → v < length area.ids → (o : Option ℕ) × IsTold area.arcs n v o
+told area kept n v from to =
+    let known = distances_exist area.arcs v (length area.ids) (λ arc has. let at = place_of area.arcs arc has in (arcs_between area kept).tails at.0 arc at.1) to in
+    let is = there known.0 n (omega (arith, from, known.1)) in
+    go known.0 known.2 is.0 is.1
+  where
+    go : (known : List (Option ℕ)) → AreDistances area.arcs v known → (o : Option ℕ) → slice_get known n ≡ Some o → (o : Option ℕ) × IsTold area.arcs n v o
+    go known are None at = (None, are.none n at)
+    go known are (Some d) at = (Some d, are.some n d at)
 
 module _ (area : AreaParts) (kept : IsArea area) (s t : ℕ) (source : s < length area.ids) (to : t < length area.ids) (destination : Destination) (is : IsDestination area s t destination) where
-  offered_near : (way : Way) (known : List (Option ℕ)) → length known ≡ length area.ids → AreDistancesFrom area.arcs way.next known → Serves way.network way.second t → way.bond ≢ destination.bond
-      → (near : Option ℕ) → get_or known t None ≡ near → (o : Option FreeCandidate) × IsExactly (Offers area s t (Some destination) way) o
-  offered_near way known many are serves other None at =
-      nothing_is (Offers area s t (Some destination) way)
-      (λ choice offers.
-      let near = offers.2.loop_free.near in
-      are.none t (slice_get-get_or known t None (omega (arith, to, many)) ∙ ap (λ (o : Option ℕ). Some o) at) near.walk near.leads)
-  offered_near way known many are serves other (Some rest) at =
-      let source' : s < length known = omega (arith, source, many) in
-      let to' : t < length known = omega (arith, to, many) in
-      let through : destination.primary.next < length known = omega (arith, (part_of area kept s t destination.primary is.primary).next, many) in
-      elim (nearer_or_not rest (get_or known s None) destination.distance) [
-        | inr not ↦ nothing_is (Offers area s t (Some destination) way) (no_offer area s t rest way known destination are is source' to' through at not)
-        | inl nearer ↦
-            let node = protects_or_not known t destination rest through in (
-              Some (record { first = way.first; second = way.second; next = way.next; node = node.0; cost = way.metric + rest }),
-              one_offer area s t rest way known destination are is source' to' through at (serves, other) nearer node.0 node.1,
-            )
-      ]
-
-  offered : (way : Way) → way.next < length area.ids → (o : Option FreeCandidate) × IsExactly (Offers area s t (Some destination) way) o
-  offered way within = elim (serves_or_not way.network way.second t) [
-    | inr not ↦ nothing_is (Offers area s t (Some destination) way) (λ choice offers. not offers.0)
-    | inl serves ↦ elim (cases_eq way.bond destination.bond) [
-      | inl same ↦
-          nothing_is (Offers area s t (Some destination) way)
-          (λ choice offers.
-          let bond = offers.1 in
-          bond.other (same ∙ is.bond ∙ ap (λ (a : Arc). a.bond) (same_Some is.arc bond.arc (sym is.there ∙ bond.there))))
-      | inr other ↦ let known = from_exist area kept way.next within in offered_near way known.0 known.1 known.2 serves other (get_or known.0 t None) refl
-    ]
-  ]
+  offered : (way : Way) → way.next < length area.ids → (o : Option FreeCandidate) × ((choice : FreeCandidate) → (o ≡ Some choice) ↔ Offers area s t (Some destination) way choice)
+  offered way within =
+      let rest = told area kept way.next t within to in
+      let out = told area kept way.next s within source in
+      let through = told area kept way.next destination.primary.next within (part_of area kept s t destination.primary is.primary).next in
+      (offer way destination t rest.0 out.0 through.0, offer_told area s t way destination is rest.0 out.0 through.0 rest.1 out.1 through.1)
 
   best_to : (ways : List Way) → AreWays area s ways → (count : ℕ) → count ≤ length ways → (best : Option FreeCandidate) × IsBest (IsOfferedBy area s t (Some destination) ways count) best
   best_to ways are zero low = (None, none_yet area s t (Some destination) ways)
@@ -216,7 +126,7 @@ by_primary area kept s t source to (Some primary) is =
     let destination_is : IsDestination area s t destination = record { primary = is; arc = part.arc; there = part.there; bond = refl; far = part.near; beyond = part.far } in
     let ways = ways_exist area kept s in
     let best = best_to area kept s t source to destination destination_is ways.0 ways.1 (length ways.0) (omega arith) in
-    (option_map alternate_of best.0, best_free area kept s ways.0 ways.1 t destination destination_is best.0 best.1)
+    (option_map alternate_of best.0, ByPrimary primary best.0 is (best_free area kept s ways.0 ways.1 t destination best.0 best.1))
 
 pub lfa_exists : (area : AreaParts) → IsArea area → (s t : ℕ) → IsRouter area.ids s → t < length area.ids → (entry : Option Lfa) × IsLfa area s t entry
 lfa_exists area kept s t router to =

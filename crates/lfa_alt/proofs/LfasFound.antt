@@ -15,25 +15,22 @@ use Rattle.lfa_alt.specs.declared.alternate.FreeCandidate.{FreeCandidate}
 use Rattle.lfa_alt.specs.declared.alternate.Lfa.{Lfa}
 use Rattle.lfa_alt.specs.declared.destination.Destination.{Destination}
 use Rattle.lfa_alt.specs.declared.way.Way.{Way}
-use Rattle.lfa_alt.specs.Best.{AreBest, IsBest, IsOfferedBy, NoneIs, TheBest}
+use Rattle.lfa_alt.specs.Best.{AreBest, IsOfferedBy}
 use Rattle.lfa_alt.specs.Candidates.{Candidate}
-use Rattle.lfa_alt.specs.LoopFree.{AreLfas, IsLfa, IsLoopFree, NoPrimary, NoneIsLoopFree, Protects, TheFirst, alternate_of, candidate_cmp}
+use Rattle.lfa_alt.specs.LoopFree.{AreLfas, ByPrimary, IsBest, IsLfa, IsLoopFree, NoPrimary, NoneIs, Protects, TheBest, alternate_of, candidate_cmp, free_choice}
 use Rattle.lfa_alt.specs.Destinations.{AreDestinations, IsDestination, IsDestinationFor}
-use Rattle.lfa_alt.specs.Ways.{AreWays, NotLater, Serves}
+use Rattle.lfa_alt.specs.Ways.{AreWays, NotLater, candidate_of, serves}
 use Rattle.lfa_alt.proofs.Bettering.{candidate_total, not_after}
 use Rattle.lfa_alt.proofs.Beyond.{part_of}
 use Rattle.lfa_alt.proofs.CandidateWays.{leads_within, served, serving}
 
 -- the one serves what the other one serves
-serves_alike : (network network' second second' : Option ℕ) (t : ℕ) → network ≡ network' → NotLater second second' → Serves network' second' t → Serves network second t
-serves_alike network network' second second' t same low serves = subst (λ (o : Option ℕ). Serves o second t) (sym same) (go network' second second' low serves)
-  where
-    go : (network second second' : Option ℕ) → NotLater second second' → Serves network second' t → Serves network second t
-    go None second second' low serves = tt
-    go (Some network) None None low serves = serves
-    go (Some network) (Some second) (Some second') low serves = serves
-    go (Some network) None (Some second') low serves = absurd low
-    go (Some network) (Some second) None low serves = absurd low
+serves_alike : (network second second' : Option ℕ) (t : ℕ) → NotLater second second' → serves network second t ≡ serves network second' t
+serves_alike None second second' t low = refl
+serves_alike (Some network) None None t low = refl
+serves_alike (Some network) (Some second) (Some second') t low = refl
+serves_alike (Some network) None (Some second') t low = absurd low
+serves_alike (Some network) (Some second) None t low = absurd low
 
 module _ (area : AreaParts) (kept : IsArea area) (s : ℕ) (ways : List Way) (are : AreWays area s ways) where
   pub ways_within : (number : ℕ) (way : Way) → slice_get ways number ≡ Some way → way.next < length area.ids
@@ -58,52 +55,48 @@ module _ (area : AreaParts) (kept : IsArea area) (s : ℕ) (ways : List Way) (ar
         let has = are.all by.number by.way by.over in
         let way = has.way in
         let at = place_of ways way has.there in
-        let first : way.first ≡ is.candidate.first = has.stands.first ∙ ap (λ (c : Candidate). c.first) by.same in
-        let second : by.way.second ≡ is.candidate.second = ap (λ (c : Candidate). c.second) by.same in
+        let free = is.loop_free in
+        let left = free.loop_free in
         let next : way.next ≡ is.candidate.next = has.stands.next ∙ ap (λ (c : Candidate). c.next) by.same in
         let bond : way.bond ≡ is.candidate.bond = has.stands.bond ∙ ap (λ (c : Candidate). c.bond) by.same in
-        let metric : way.metric ≡ is.candidate.metric = has.stands.metric ∙ ap (λ (c : Candidate). c.metric) by.same in
-        let free = is.loop_free in
+        let metric : is.candidate.metric ≡ way.metric = sym (has.stands.metric ∙ ap (λ (c : Candidate). c.metric) by.same) in
         record {
-          offer = record { first = way.first; second = way.second; next = way.next; node = choice.node; cost = choice.cost };
+          offer = free_choice (candidate_of way) free.node left.rest;
           is = record {
             number = at.0;
             way = way;
             low = slice_get_within ways at.0 way at.1;
             there = at.1;
             offers = (
-              serves_alike way.network by.way.network way.second by.way.second t has.stands.network has.stands.second by.serves,
+              ap (λ (o : Option ℕ). serves o way.second t) has.stands.network ∙ serves_alike by.way.network way.second by.way.second t has.stands.second ∙ by.fits,
               record { arc = is.is.other_bond.arc; there = is.is.other_bond.there; other = λ same. is.is.other_bond.other (sym bond ∙ same) },
               record {
                 loop_free = record {
-                  rest = free.loop_free.rest;
-                  near = subst (λ (n : ℕ). IsDistance area.arcs n t free.loop_free.rest) (sym next) free.loop_free.near;
-                  less = λ out back to from. free.loop_free.less out back (subst (λ (n : ℕ). IsDistance area.arcs n s out) next to) from;
+                  rest = left.rest;
+                  near = subst (λ (n : ℕ). IsDistance area.arcs n t left.rest) (sym next) left.near;
+                  less = λ out back to from. left.less out back (subst (λ (n : ℕ). IsDistance area.arcs n s out) next to) from;
                 };
-                first = refl;
-                second = refl;
-                next = refl;
-                node = subst (λ (n : ℕ). IsTrue choice.node ↔ Protects area.arcs t destination.primary n) (sym next) free.node;
-                cost = free.cost ∙ ap (λ (m : ℕ). m + free.loop_free.rest) (sym metric);
+                node = free.node;
+                node_is = subst (λ (n : ℕ). IsTrue free.node ↔ Protects area.arcs t destination.primary n) (sym next) free.node_is;
+                is = refl;
               },
             );
           };
-          upto = not_after (record { first = way.first; second = way.second; next = way.next; node = choice.node; cost = choice.cost }) choice refl refl (first ∙ sym free.first)
-              (subst (λ (o : Option ℕ). NotLater way.second o) (second ∙ sym free.second) has.stands.second);
+          upto = rw free.is (not_after (free_choice (candidate_of way) free.node left.rest) (free_choice is.candidate free.node left.rest) refl
+              (ap (λ (m : ℕ). m + left.rest) (sym metric)) (has.stands.first ∙ ap (λ (c : Candidate). c.first) by.same)
+              (subst (λ (c : Candidate). NotLater way.second c.second) by.same has.stands.second));
         }
 
-    pub best_free : IsDestination area s t destination → (best : Option FreeCandidate) → IsBest (IsOfferedBy area s t (Some destination) ways (length ways)) best
-        → IsLfa area s t (option_map alternate_of best)
-    best_free is None (NoneIs none) = NoneIsLoopFree destination.primary is.primary (λ choice free. let by = offered_by choice free in none by.offer by.is)
-    best_free is (Some same) (TheBest choice offered first) =
-        TheFirst destination.primary choice is.primary (free_by choice offered)
-        (λ other free. let by = offered_by other free in upto candidate_total choice by.offer other (first by.offer by.is) by.upto)
+    pub best_free : (best : Option FreeCandidate) → IsBest (IsOfferedBy area s t (Some destination) ways (length ways)) best → IsBest (IsLoopFree area s t destination.primary) best
+    best_free None (NoneIs none) = NoneIs (λ choice free. let by = offered_by choice free in none by.offer by.is)
+    best_free (Some same) (TheBest choice offered first) =
+        TheBest choice (free_by choice offered) (λ other free. let by = offered_by other free in upto candidate_total choice by.offer other (first by.offer by.is) by.upto)
 
   best_for : (t : ℕ) (entry : Option Destination) → IsDestinationFor area s t entry → (best : Option FreeCandidate) → IsBest (IsOfferedBy area s t entry ways (length ways)) best
       → IsLfa area s t (option_map alternate_of best)
   best_for t None is None (NoneIs none) = NoPrimary is
   best_for t None is (Some same) (TheBest choice offered first) = absurd offered.offers
-  best_for t (Some destination) is best by = best_free t destination is best by
+  best_for t (Some destination) is best by = ByPrimary destination.primary best is.primary (best_free t destination best by)
 
   pub are_lfas : (destinations : List (Option Destination)) (best : List (Option FreeCandidate)) (entries : List (Option Lfa)) → AreDestinations area s destinations
       → AreBest area s destinations ways (length ways) best → entries ≡ map (option_map alternate_of) best → AreLfas area s entries

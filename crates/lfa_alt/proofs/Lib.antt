@@ -5,7 +5,6 @@ pub mod Chosen
 pub mod HopsLead
 pub mod LfasExist
 pub mod LfasFound
-pub mod Nearer
 pub mod NetworkWays
 pub mod Offered
 pub mod OneLfa

@@ -1,78 +1,98 @@
--- What a way offers for a destination.
-use Rattle.std.proofs.Common.{◌≡◌, ◌≢◌, ◌<◌, ◌+◌, ◌∙◌, ℕ, Bool, List, Option, Some, None, length, slice_get, get_or, sym, ap, subst, refl}
+-- What a way offers for a destination: what the table gives is the candidate that the way is, if it is loop-free.
+use Rattle.std.proofs.Common.{◌≡◌, ◌≢◌, ◌<◌, ◌+◌, ◌==◌, ◌∙◌, ℕ, not, List, Option, Some, None, length, slice_get, get_or, inl, inr, refl, sym, ap, subst, arith}
 use Rattle.std.specs.Prelude.{◌↔◌, IsTrue}
+use Rattle.std.proofs.lemmas.Bool.{both_ways, cases_Bool, cases_eq, eq-eqb, lt-ltb, ltb-true, ne_eqb}
+use Rattle.std.proofs.lemmas.Bool.Decides.{Decides-and, Decides-eqb, Decides-like, Decides-not, same_from_decides}
 use Rattle.std.proofs.lemmas.Option.{same_Some, slice_get-get_or}
-use Rattle.mrt_graph.proofs.Members.{same_tests}
+use Rattle.area_graph.specs.declared.area_types.Arc.{Arc}
 use Rattle.area_graph.specs.Parts.{AreaParts}
+use Rattle.primary_alt.specs.ArcWalk.{ArcWalk}
+use Rattle.primary_alt.specs.Distance.{IsDistance}
 use Rattle.primary_alt.specs.DistancesFrom.{AreDistancesFrom}
+use Rattle.primary_alt.proofs.ArcWalks.{one_distance}
 use Rattle.lfa_alt.specs.declared.alternate.FreeCandidate.{FreeCandidate}
 use Rattle.lfa_alt.specs.declared.destination.Destination.{Destination}
 use Rattle.lfa_alt.specs.declared.way.Way.{Way}
-use Rattle.lfa_alt.specs.LoopFree.{IsNearerThanOver, Protects}
-use Rattle.lfa_alt.specs.Nearer.{IsNearer, ProtectsBy}
+use Rattle.lfa_alt.specs.Candidates.{IsOtherBond}
+use Rattle.lfa_alt.specs.LoopFree.{IsNearerThanOver, Protects, free_choice}
 use Rattle.lfa_alt.specs.Destinations.{IsDestination, Offers}
-use Rattle.lfa_alt.specs.Ways.{Serves}
-use Rattle.lfa_alt.proofs.Nearer.{nearer_by, nearer_told, rest_is}
+use Rattle.lfa_alt.specs.Offer.{is_nearer, may_serve, offer, protects}
+use Rattle.lfa_alt.specs.Ways.{candidate_of, serves}
 
-module _ (area : AreaParts) (s t rest : ℕ) (way : Way) (known : List (Option ℕ)) (destination : Destination) (are : AreDistancesFrom area.arcs way.next known)
-    (is : IsDestination area s t destination) (source : s < length known) (to : t < length known) (through : destination.primary.next < length known)
-    (at : get_or known t None ≡ Some rest) where
-  near : slice_get known t ≡ Some (Some rest)
-  near = slice_get-get_or known t None to ∙ ap (λ (o : Option ℕ). Some o) at
+-- the distance from n to v, or that no walk leads there
+abbrev pub IsTold : List Arc → ℕ → ℕ → Option ℕ → Type 0
+IsTold arcs n v None = (walk : List Arc) → ¬ ArcWalk arcs n walk v
+IsTold arcs n v (Some d) = IsDistance arcs n v d
 
-  -- what is not nearer is not offered
-  pub no_offer : ¬ IsNearer rest (get_or known s None) destination.distance → (choice : FreeCandidate) → ¬ Offers area s t (Some destination) way choice
-  no_offer not choice offers =
-      not (nearer_told area.arcs way.next known are t rest near s destination.distance (get_or known s None) (slice_get-get_or known s None source) is.far offers.2.loop_free)
+-- what is read of the distances from n
+pub told_at : (arcs : List Arc) (n : ℕ) (known : List (Option ℕ)) → AreDistancesFrom arcs n known → (place v : ℕ) → place ≡ v → v < length known → IsTold arcs n v (get_or known place None)
+told_at arcs n known are place v here low =
+    go (get_or known place None) (slice_get-get_or known v None low ∙ ap (λ (i : ℕ). Some (get_or known i None)) (sym here))
+  where
+    go : (o : Option ℕ) → slice_get known v ≡ Some o → IsTold arcs n v o
+    go None at = are.none v at
+    go (Some d) at = are.some v d at
 
-  protects_by : ProtectsBy known t destination rest → Protects area.arcs t destination.primary way.next
-  protects_by by = record {
-    further = by.further;
-    nearer = nearer_by area.arcs way.next known are t rest near destination.primary.next destination.beyond by.out by.there is.beyond by.nearer;
-  }
+-- the basic condition, by the distances from a candidate's next
+nearer_is : (arcs : List Arc) (n t rest x back : ℕ) (out : Option ℕ) → IsDistance arcs n t rest → IsTold arcs n x out → IsDistance arcs x t back
+    → IsTrue (is_nearer rest out back) ↔ IsNearerThanOver arcs x n t
+nearer_is arcs n t rest x back None near none far =
+    (λ holds. record { rest = rest; near = near; less = λ out back' to from. absurd (none to.walk to.leads) }, λ is. refl)
+nearer_is arcs n t rest x back (Some out) near at far = (
+  λ holds. record {
+    rest = rest;
+    near = near;
+    less = λ out' back' to from. omega (arith, ltb-true rest (out + back) holds, one_distance arcs n x out out' at to, one_distance arcs x t back back' far from);
+  },
+  λ is. lt-ltb rest (out + back) (omega (arith, is.less out back at far, one_distance arcs n t is.rest rest is.near near)),
+)
 
-  protects_told : Protects area.arcs t destination.primary way.next → ProtectsBy known t destination rest
-  protects_told told = record {
-    further = told.further;
-    out = get_or known destination.primary.next None;
-    there = slice_get-get_or known destination.primary.next None through;
-    nearer = nearer_told area.arcs way.next known are t rest near destination.primary.next destination.beyond (get_or known destination.primary.next None)
-        (slice_get-get_or known destination.primary.next None through) is.beyond told.nearer;
-  }
+module _ (area : AreaParts) (s t : ℕ) (way : Way) (destination : Destination) (is : IsDestination area s t destination) where
+  other_is : IsTrue (not (way.bond == destination.bond)) ↔ IsOtherBond area.arcs destination.primary way.bond
+  other_is =
+      Decides-like (not (way.bond == destination.bond))
+      (λ apart. record { arc = is.arc; there = is.there; other = λ same. apart (same ∙ sym is.bond) })
+      (λ bond same. bond.other (same ∙ is.bond ∙ ap (λ (a : Arc). a.bond) (same_Some is.arc bond.arc (sym is.there ∙ bond.there))))
+      (Decides-not (way.bond == destination.bond) (Decides-eqb way.bond destination.bond))
 
-  -- what is nearer is offered, and nothing else
-  pub one_offer : Serves way.network way.second t × (way.bond ≢ destination.bond) → IsNearer rest (get_or known s None) destination.distance
-      → (node : Bool) → (IsTrue node ↔ ProtectsBy known t destination rest) → (choice : FreeCandidate)
-      → (Some (record { first = way.first; second = way.second; next = way.next; node = node; cost = way.metric + rest }) ≡ Some choice)
-      ↔ Offers area s t (Some destination) way choice
-  one_offer serves nearer node protects choice = (given, only)
-    where
-      made : FreeCandidate
-      made = record { first = way.first; second = way.second; next = way.next; node = node; cost = way.metric + rest }
+  module _ (rest : ℕ) (out through : Option ℕ) (near : IsDistance area.arcs way.next t rest)
+      (nearer : IsTrue (is_nearer rest out destination.distance) ↔ IsNearerThanOver area.arcs s way.next t)
+      (beyond : destination.primary.next ≢ t → IsTrue (is_nearer rest through destination.beyond) ↔ IsNearerThanOver area.arcs destination.primary.next way.next t) where
+    protects_is : IsTrue (protects destination t rest through) ↔ Protects area.arcs t destination.primary way.next
+    protects_is = elim (cases_eq destination.primary.next t) [
+      | inl same ↦ rw (eq-eqb destination.primary.next t same) (λ holds. cc, λ by. absurd (by.further same))
+      | inr apart ↦ rw (ne_eqb destination.primary.next t apart) (λ holds. record { further = apart; nearer = (beyond apart).0 holds }, λ by. (beyond apart).1 by.nearer)
+    ]
 
-      held : IsNearerThanOver area.arcs s way.next t
-      held = nearer_by area.arcs way.next known are t rest near s destination.distance (get_or known s None) (slice_get-get_or known s None source) is.far nearer
+    may_serve_is : IsTrue (may_serve way destination t rest out)
+        ↔ (IsTrue (serves way.network way.second t) × (IsOtherBond area.arcs destination.primary way.bond × IsNearerThanOver area.arcs s way.next t))
+    may_serve_is =
+        Decides-and (serves way.network way.second t) _ (λ holds. holds, λ holds. holds)
+        (Decides-and (not (way.bond == destination.bond)) (is_nearer rest out destination.distance) other_is nearer)
 
-      offers : Offers area s t (Some destination) way made
-      offers = (
-        serves.0,
-        record { arc = is.arc; there = is.there; other = λ same. serves.1 (same ∙ sym is.bond) },
-        record {
-          loop_free = held;
-          first = refl;
-          second = refl;
-          next = refl;
-          node = (λ holds. protects_by (protects.0 holds), λ holds. protects.1 (protects_told holds));
-          cost = ap (λ (n : ℕ). way.metric + n) (sym (rest_is area.arcs way.next known are t rest near s held));
-        },
-      )
+    pub offer_is : (choice : FreeCandidate) → (offer way destination t (Some rest) out through ≡ Some choice) ↔ Offers area s t (Some destination) way choice
+    offer_is choice = elim (cases_Bool (may_serve way destination t rest out)) [
+      | inr not ↦ rw not (λ same. cc, λ offers. absurd (both_ways _ not (may_serve_is.1 (offers.0, (offers.1, offers.2.loop_free)))))
+      | inl serving ↦
+          let fits = may_serve_is.0 serving in
+          let node = protects destination t rest through in
+          let left = one_distance area.arcs way.next t rest fits.1.1.rest near fits.1.1.near in
+          rw serving (
+            λ same.
+                subst (λ (c : FreeCandidate). Offers area s t (Some destination) way c) (same_Some (free_choice (candidate_of way) node rest) choice same)
+                (fits.0, fits.1.0, record { loop_free = fits.1.1; node = node; node_is = protects_is; is = ap (free_choice (candidate_of way) node) left }),
+            λ offers.
+                let by = offers.2 in
+                let same_node = same_from_decides node by.node protects_is by.node_is in
+                let same_rest = one_distance area.arcs way.next t rest by.loop_free.rest near by.loop_free.near in
+                rw (same_node, same_rest) (ap (λ (c : FreeCandidate). Some c) (sym by.is)),
+          )
+    ]
 
-      given : Some made ≡ Some choice → Offers area s t (Some destination) way choice
-      given same = subst (λ (c : FreeCandidate). Offers area s t (Some destination) way c) (same_Some made choice same) offers
-
-      only : Offers area s t (Some destination) way choice → Some made ≡ Some choice
-      only offer =
-          let by = offer.2 in
-          let same_node : choice.node ≡ node = same_tests choice.node node (λ holds. protects.1 (protects_told (by.node.0 holds))) (λ holds. by.node.1 (protects_by (protects.0 holds))) in
-          let same_cost : choice.cost ≡ way.metric + rest = by.cost ∙ ap (λ (n : ℕ). way.metric + n) (rest_is area.arcs way.next known are t rest near s by.loop_free) in
-          rw (sym by.first, sym by.second, sym by.next, sym same_node, sym same_cost) refl
+  -- by the distances from its next
+  pub offer_told : (rest out through : Option ℕ) → IsTold area.arcs way.next t rest → IsTold area.arcs way.next s out → IsTold area.arcs way.next destination.primary.next through
+      → (choice : FreeCandidate) → (offer way destination t rest out through ≡ Some choice) ↔ Offers area s t (Some destination) way choice
+  offer_told None out through none to_s to_next choice = (λ same. cc, λ offers. absurd (none offers.2.loop_free.near.walk offers.2.loop_free.near.leads))
+  offer_told (Some rest) out through near to_s to_next choice =
+      offer_is rest out through near (nearer_is area.arcs way.next t rest s destination.distance out near to_s is.far)
+      (λ apart. nearer_is area.arcs way.next t rest destination.primary.next destination.beyond through near to_next is.beyond) choice

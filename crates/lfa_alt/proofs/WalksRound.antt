@@ -22,29 +22,29 @@ module _ (area : AreaParts) (kept : IsArea area) (s t : ℕ) (router : IsRouter 
   by : IsChosen area s t lfa
   by = chosen area s t lfa is
 
-  next_is : by.free.candidate.next ≡ lfa.next
-  next_is = sym by.free.loop_free.next ∙ ap (λ (l : Lfa). l.next) by.same
+  next_is : by.candidate.next ≡ lfa.next
+  next_is = ap (λ (l : Lfa). l.next) by.same
 
   at : IsAt area kept t lfa.next
-  at = subst (λ (v : ℕ). IsAt area kept t v) next_is (next_at area kept s t by.free.candidate by.free.is.leads)
+  at = subst (λ (v : ℕ). IsAt area kept t v) next_is (next_at area kept s t by.candidate by.leads)
 
   pub arrives : (hops : List (List Arc)) × HopWalk area.arcs entries t lfa.next hops
   arrives =
-      let near = by.free.loop_free.loop_free.near in
+      let near = by.loop_free.near in
       hops_there area kept t entries are lfa.next at near.walk (subst (λ (v : ℕ). ArcWalk area.arcs v near.walk t) next_is near.leads)
 
   pub leads : (hops : List (List Arc)) → HopWalk area.arcs entries t lfa.next hops → ArcWalk area.arcs lfa.next (arcs_of hops) t
   leads hops walk = (hops_shortest area kept t entries are lfa.next hops at walk).leads
 
-  shortest : (hops : List (List Arc)) → HopWalk area.arcs entries t lfa.next hops → IsShortest area.arcs by.free.candidate.next t (arcs_of hops)
+  shortest : (hops : List (List Arc)) → HopWalk area.arcs entries t lfa.next hops → IsShortest area.arcs by.candidate.next t (arcs_of hops)
   shortest hops walk = subst (λ (v : ℕ). IsShortest area.arcs v t (arcs_of hops)) (sym next_is) (hops_shortest area kept t entries are lfa.next hops at walk)
 
   pub not_source : (hops : List (List Arc)) → HopWalk area.arcs entries t lfa.next hops → Meets lfa.next (arcs_of hops) s → ⊥
   not_source hops walk meets =
       let best = shortest hops walk in
       let part = part_of area kept s t by.primary by.is in
-      goes_round area kept (arcs_of hops) by.free.candidate.next s t _ (next_within area kept s t by.free.candidate by.free.is.leads) (router_within area.ids s router) part.near
-      by.free.loop_free.loop_free best.leads best.least (subst (λ (v : ℕ). Meets v (arcs_of hops) s) (sym next_is) meets)
+      goes_round area kept (arcs_of hops) by.candidate.next s t _ (next_within area kept s t by.candidate by.leads) (router_within area.ids s router) part.near
+      by.loop_free best.leads best.least (subst (λ (v : ℕ). Meets v (arcs_of hops) s) (sym next_is) meets)
 
   pub not_bond : (hops : List (List Arc)) → HopWalk area.arcs entries t lfa.next hops → (own : List Arc) → AreHopArcs area.arcs lfa.first lfa.second own
       → (primary : Primary) (arc : Arc) → IsPrimary area s t (Some primary) → slice_get area.arcs primary.first ≡ Some arc → UsesBond (own ++ arcs_of hops) arc.bond → ⊥
@@ -52,12 +52,12 @@ module _ (area : AreaParts) (kept : IsArea area) (s t : ℕ) (router : IsRouter 
       let one : primary ≡ by.primary = its_primary area s t primary by.primary prim by.is in
       let part = part_of area kept s t primary prim in
       let from : arc.tail ≡ s = ap (λ (a : Arc). a.tail) (same_Some arc part.arc (sym there ∙ part.there)) ∙ part.from in
-      let bond = by.free.is.other_bond in
+      let bond = by.bond in
       let base : bond.arc ≡ arc = same_Some bond.arc arc (sym bond.there ∙ ap (λ (p : Primary). slice_get area.arcs p.first) (sym one) ∙ there) in
       elim (uses_either own (arcs_of hops) arc.bond uses) [
         | inl first ↦
-            own_bonds area kept s t router primary.first arc there from by.free.candidate by.free.is.leads (λ same. bond.other (same ∙ ap (λ (a : Arc). a.bond) (sym base)))
-            lfa.first lfa.second own arcs (ap (λ (l : Lfa). l.first) (sym by.same) ∙ by.free.loop_free.first) (ap (λ (l : Lfa). l.second) (sym by.same) ∙ by.free.loop_free.second) first
+            own_bonds area kept s t router primary.first arc there from by.candidate by.leads (λ same. bond.other (same ∙ ap (λ (a : Arc). a.bond) (sym base)))
+            own (subst (λ (l : Lfa). AreHopArcs area.arcs l.first l.second own) (sym by.same) arcs) first
         | inr later ↦ not_source hops walk (uses_meets area kept (arcs_of hops) lfa.next t primary.first s arc there from (leads hops walk) later)
       ]
 
@@ -67,7 +67,7 @@ module _ (area : AreaParts) (kept : IsArea area) (s t : ℕ) (router : IsRouter 
       let one : primary ≡ by.primary = its_primary area s t primary by.primary prim by.is in
       let best = shortest hops walk in
       let part = part_of area kept s t by.primary by.is in
-      let protects = by.free.loop_free.node.0 (ap (λ (l : Lfa). l.node) by.same ∙ holds) in
-      goes_round area kept (arcs_of hops) by.free.candidate.next by.primary.next t part.rest (next_within area kept s t by.free.candidate by.free.is.leads) part.next part.far
+      let protects = by.node_is.0 (ap (λ (l : Lfa). l.node) by.same ∙ holds) in
+      goes_round area kept (arcs_of hops) by.candidate.next by.primary.next t part.rest (next_within area kept s t by.candidate by.leads) part.next part.far
       protects.nearer best.leads best.least
       (subst (λ (v : ℕ). Meets v (arcs_of hops) by.primary.next) (sym next_is) (subst (λ (p : Primary). Meets lfa.next (arcs_of hops) p.next) one meets))

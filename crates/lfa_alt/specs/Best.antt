@@ -1,17 +1,12 @@
 -- The first one of the loop-free candidates so far.
-use Rattle.std.specs.Prelude.{◌≡◌, ◌<◌, ℕ, List, Option, Some, None, length, slice_get, if◌then◌else◌}
+use Rattle.std.specs.Prelude.{◌≡◌, ◌<◌, ◌↔◌, ℕ, List, Option, Some, None, length, slice_get, if◌then◌else◌}
 use Rattle.std.specs.Ordering.{is_gt}
 use Rattle.area_graph.specs.Parts.{AreaParts}
 use Rattle.lfa_alt.specs.declared.alternate.FreeCandidate.{FreeCandidate}
 use Rattle.lfa_alt.specs.declared.destination.Destination.{Destination}
 use Rattle.lfa_alt.specs.declared.way.Way.{Way}
-use Rattle.lfa_alt.specs.LoopFree.{IsFirstOf, candidate_cmp}
+use Rattle.lfa_alt.specs.LoopFree.{IsBest, candidate_cmp}
 use Rattle.lfa_alt.specs.Destinations.{Offers}
-
--- of these candidates the first one; none where there is none
-pub data IsBest (Is : FreeCandidate → Type 0) : Option FreeCandidate → Type 0 where
-  NoneIs : ((choice : FreeCandidate) → ¬ Is choice) → IsBest Is None
-  TheBest : (choice : FreeCandidate) → Is choice → IsFirstOf Is choice → IsBest Is (Some choice)
 
 -- the one that comes first; the former where they come together
 abbrev pub better : Option FreeCandidate → Option FreeCandidate → Option FreeCandidate
@@ -34,3 +29,9 @@ pub record AreBest (area : AreaParts) (s : ℕ) (destinations : List (Option Des
   pub one_each : length best ≡ length destinations
   pub each : (t : ℕ) (entry : Option Destination) (choice : Option FreeCandidate) → slice_get destinations t ≡ Some entry
       → slice_get best t ≡ Some choice → IsBest (IsOfferedBy area s t entry ways count) choice
+
+-- the new candidate is the old one or one that is offered, whichever comes first
+pub record IsBetterBy (Is : FreeCandidate → Type 0) (old new : Option FreeCandidate) : Type 0 where
+  pub offered : Option FreeCandidate
+  pub exactly : (choice : FreeCandidate) → (offered ≡ Some choice) ↔ Is choice
+  pub is : new ≡ better old offered

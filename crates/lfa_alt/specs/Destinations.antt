@@ -1,5 +1,5 @@
 -- What is asked of a destination.
-use Rattle.std.specs.Prelude.{◌≡◌, ℕ, List, Option, Some, None, length, slice_get}
+use Rattle.std.specs.Prelude.{◌≡◌, ℕ, List, Option, Some, None, IsTrue, length, slice_get}
 use Rattle.area_graph.specs.declared.area_types.Arc.{Arc}
 use Rattle.area_graph.specs.Parts.{AreaParts}
 use Rattle.primary_alt.specs.Distance.{IsDistance}
@@ -9,7 +9,7 @@ use Rattle.lfa_alt.specs.declared.destination.Destination.{Destination}
 use Rattle.lfa_alt.specs.declared.way.Way.{Way}
 use Rattle.lfa_alt.specs.Candidates.{IsOtherBond}
 use Rattle.lfa_alt.specs.LoopFree.{IsLoopFreeBy}
-use Rattle.lfa_alt.specs.Ways.{Serves, candidate_of}
+use Rattle.lfa_alt.specs.Ways.{candidate_of, serves}
 
 -- the primary of s for t, the bond of its first arc, the distance from s, and that from the primary's next
 pub record IsDestination (area : AreaParts) (s t : ℕ) (destination : Destination) : Type 0 where
@@ -34,6 +34,6 @@ pub record AreDestinations (area : AreaParts) (s : ℕ) (destinations : List (Op
 abbrev pub Offers : AreaParts → ℕ → ℕ → Option Destination → Way → FreeCandidate → Type 0
 Offers area s t None way choice = ⊥
 Offers area s t (Some destination) way choice =
-    Serves way.network way.second t
+    IsTrue (serves way.network way.second t)
     × IsOtherBond area.arcs destination.primary way.bond
     × IsLoopFreeBy area s t destination.primary (candidate_of way) choice

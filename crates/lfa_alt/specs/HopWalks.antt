@@ -1,13 +1,17 @@
 -- The walk that a packet takes along primaries.
 use Rattle.std.specs.Prelude.{◌≡◌, ◌≢◌, ◌⊎◌, ◌++◌, ℕ, List, [], ◌∷◌, Option, Some, None, slice_get}
+use Rattle.std.specs.Option.{option_and_then, option_map}
 use Rattle.area_graph.specs.declared.area_types.Arc.{Arc}
 use Rattle.primary_alt.specs.declared.shortest.Primary.{Primary}
 
--- one hop: the first arc, and the second one where there is one
-pub data AreHopArcs (arcs : List Arc) : ℕ → Option ℕ → List Arc → Type 0 where
-  OneArc : (first : ℕ) (arc : Arc) → slice_get arcs first ≡ Some arc → AreHopArcs arcs first None (arc ∷ [])
-  TwoArcs : (first second : ℕ) (arc onward : Arc) → slice_get arcs first ≡ Some arc → slice_get arcs second ≡ Some onward
-      → AreHopArcs arcs first (Some second) (arc ∷ onward ∷ [])
+-- the arcs of one hop: the first one, and the second one where there is one; none where one of them is not there
+abbrev pub hop_arcs : List Arc → ℕ → Option ℕ → Option (List Arc)
+hop_arcs arcs first None = option_map (λ arc. arc ∷ []) (slice_get arcs first)
+hop_arcs arcs first (Some second) =
+    option_and_then (λ arc. option_map (λ onward. arc ∷ onward ∷ []) (slice_get arcs second)) (slice_get arcs first)
+
+abbrev pub AreHopArcs : List Arc → ℕ → Option ℕ → List Arc → Type 0
+AreHopArcs arcs first second own = hop_arcs arcs first second ≡ Some own
 
 -- by the entries that the nodes have for t, the walk from s to t, hop by hop
 pub data HopWalk (arcs : List Arc) (entries : ℕ → Option Primary) (t : ℕ) : ℕ → List (List Arc) → Type 0 where

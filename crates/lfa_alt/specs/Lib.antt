@@ -4,6 +4,6 @@ pub mod HopWalks
 pub mod LfaText
 pub mod LfaWords
 pub mod LoopFree
-pub mod Nearer
+pub mod Offer
 pub mod Destinations
 pub mod Ways

@@ -1,6 +1,6 @@
 -- Loop-free alternates (RFC 5286, sections 3.1 and 3.2).
 use Rattle.std.specs.Prelude.{◌≡◌, ◌≢◌, ◌<◌, ◌+◌, ◌↔◌, ℕ, Bool, true, false, List, Option, Some, None, IsTrue, length, slice_get}
-use Rattle.std.specs.Option.{option_cmp}
+use Rattle.std.specs.Option.{option_cmp, option_map}
 use Rattle.std.specs.Ordering.{is_gt, nat_cmp, on, then_cmp}
 use Rattle.std.specs.declared.cmp.Ordering.{Ordering}
 use Rattle.area_graph.specs.declared.area_types.Arc.{Arc}
@@ -25,17 +25,20 @@ pub record Protects (arcs : List Arc) (t : ℕ) (primary : Primary) (n : ℕ) : 
   pub further : primary.next ≢ t
   pub nearer : IsNearerThanOver arcs primary.next n t
 
+-- what is told of a loop-free candidate: its arcs and its next, whether it protects the primary's next, and the cost of
+-- the way over it, of which so much is left at its next
+abbrev pub free_choice : Candidate → Bool → ℕ → FreeCandidate
+free_choice candidate node rest =
+    record { first = candidate.first; second = candidate.second; next = candidate.next; node = node; cost = candidate.metric + rest }
+
 -- a candidate is loop-free: dist(n, t) < dist(n, s) + dist(s, t), n being its next (inequality 1: the basic condition).
--- What is told of it: its arcs and its next, whether it protects the primary's next, and the sum of its arcs' metrics and
--- dist(n, t)
+-- What is told of it tells the sum of its arcs' metrics and dist(n, t)
 pub record IsLoopFreeBy (area : AreaParts) (s t : ℕ) (primary : Primary) (candidate : Candidate) (choice : FreeCandidate)
     : Type 0 where
   pub loop_free : IsNearerThanOver area.arcs s candidate.next t
-  pub first : choice.first ≡ candidate.first
-  pub second : choice.second ≡ candidate.second
-  pub next : choice.next ≡ candidate.next
-  pub node : IsTrue choice.node ↔ Protects area.arcs t primary candidate.next
-  pub cost : choice.cost ≡ candidate.metric + loop_free.rest
+  pub node : Bool
+  pub node_is : IsTrue node ↔ Protects area.arcs t primary candidate.next
+  pub is : choice ≡ free_choice candidate node loop_free.rest
 
 -- what is told of one of the loop-free candidates of s for t
 pub record IsLoopFree (area : AreaParts) (s t : ℕ) (primary : Primary) (choice : FreeCandidate) : Type 0 where
@@ -61,19 +64,18 @@ candidate_cmp =
 abbrev pub alternate_of : FreeCandidate → Lfa
 alternate_of choice = record { first = choice.first; second = choice.second; next = choice.next; node = choice.node }
 
--- no other of these comes before it
-abbrev pub IsFirstOf : (FreeCandidate → Type 0) → FreeCandidate → Type 0
-IsFirstOf Is choice = (other : FreeCandidate) → Is other → is_gt (candidate_cmp choice other) ≡ false
+-- of these candidates the first one, before which no other comes; none where there is none
+pub data IsBest (Is : FreeCandidate → Type 0) : Option FreeCandidate → Type 0 where
+  NoneIs : ((choice : FreeCandidate) → ¬ Is choice) → IsBest Is None
+  TheBest : (choice : FreeCandidate) → Is choice
+      → ((other : FreeCandidate) → Is other → is_gt (candidate_cmp choice other) ≡ false) → IsBest Is (Some choice)
 
 -- the loop-free alternate of router s for t: the first one of the loop-free candidates. There is none where t has no
 -- primary, as where s is t, and where no candidate is loop-free
 pub data IsLfa (area : AreaParts) (s t : ℕ) : Option Lfa → Type 0 where
   NoPrimary : IsPrimary area s t None → IsLfa area s t None
-  NoneIsLoopFree : (primary : Primary) → IsPrimary area s t (Some primary)
-      → ((choice : FreeCandidate) → ¬ IsLoopFree area s t primary choice) → IsLfa area s t None
-  TheFirst : (primary : Primary) (choice : FreeCandidate) → IsPrimary area s t (Some primary)
-      → IsLoopFree area s t primary choice → IsFirstOf (IsLoopFree area s t primary) choice
-      → IsLfa area s t (Some (alternate_of choice))
+  ByPrimary : (primary : Primary) (best : Option FreeCandidate) → IsPrimary area s t (Some primary)
+      → IsBest (IsLoopFree area s t primary) best → IsLfa area s t (option_map alternate_of best)
 
 -- the loop-free alternates of router s for all nodes, by number
 pub record AreLfas (area : AreaParts) (s : ℕ) (entries : List (Option Lfa)) : Type 0 where

@@ -1,5 +1,5 @@
 -- The ways from a router over which its candidates lead, whatever the destination.
-use Rattle.std.specs.Prelude.{◌≡◌, ◌≢◌, ◌+◌, ◌<◌, ◌≤◌, ◌⊎◌, ⊤, ℕ, List, Option, Some, None, Contains, slice_get}
+use Rattle.std.specs.Prelude.{◌≡◌, ◌≢◌, ◌==◌, ◌+◌, ◌<◌, ◌≤◌, ◌⊎◌, ⊤, ℕ, Bool, true, not, List, Option, Some, None, Contains, slice_get}
 use Rattle.area_graph.specs.declared.area_types.Arc.{Arc}
 use Rattle.area_graph.specs.Parts.{AreaParts}
 use Rattle.mrt_graph.specs.GraphInvariant.{IsNetwork}
@@ -42,11 +42,12 @@ pub record IsWayToNetwork (area : AreaParts) (s : ℕ) (way : Way) : Type 0 wher
   pub network : IsNetwork area.ids arc.to
   pub is : way ≡ way_over number arc (Some arc.to)
 
--- a way serves a destination
-abbrev pub Serves : Option ℕ → Option ℕ → ℕ → Type 0
-Serves None second t = ⊤
-Serves (Some network) None t = network ≡ t
-Serves (Some network) (Some second) t = network ≢ t
+-- whether a way over an arc to that network, if it is one, and over that second arc, if there is one, serves t: an arc to
+-- a router serves any node, one to a network that network, and a way across a network any other node
+abbrev pub serves : Option ℕ → Option ℕ → ℕ → Bool
+serves None second t = true
+serves (Some network) None t = network == t
+serves (Some network) (Some second) t = not (network == t)
 
 -- a way, as what is told of a candidate
 abbrev pub candidate_of : Way → Candidate

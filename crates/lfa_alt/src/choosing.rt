@@ -1,18 +1,18 @@
 //! What loop-free candidate a way is for a destination, and which of two comes first.
 
-ghost use Rattle.std.specs.Prelude.{◌≡◌, ◌≢◌, ◌<◌, ◌+◌, ◌↔◌, ℕ, IfSome, IsTrue, None, Some, ◌&&◌, is_none, is_some, length, slice_index_or};
+ghost use Rattle.std.specs.Prelude.{◌≡◌, ◌<◌, ◌↔◌, ℕ, IfSome, None, Some, ◌&&◌, is_none, is_some, length};
 ghost use Rattle.std.specs.Ordering.{is_gt};
 ghost use Rattle.area_graph.specs.{AreaInvariant.IsArea, Parts.AreaParts};
 ghost use Rattle.primary_alt.specs.DistancesFrom.{AreDistancesFrom};
-ghost use Rattle.lfa_alt.specs.{declared.alternate.FreeCandidate.FreeCandidate, Best.better, LoopFree.IsLoopFreeBy, LoopFree.candidate_cmp};
-ghost use Rattle.lfa_alt.specs.Nearer.{IsNearer, ProtectsBy};
-ghost use Rattle.lfa_alt.specs.Destinations.{IsDestination, IsDestinationFor, Offers};
-ghost use Rattle.lfa_alt.specs.Ways.{IsWayToNetwork, Serves, candidate_of};
+ghost use Rattle.lfa_alt.specs.{declared.alternate.FreeCandidate.FreeCandidate, Best.better, LoopFree.candidate_cmp, LoopFree.free_choice};
+ghost use Rattle.lfa_alt.specs.Destinations.{IsDestinationFor, Offers};
+ghost use Rattle.lfa_alt.specs.Offer.{is_nearer, may_serve, offer, protects};
+ghost use Rattle.lfa_alt.specs.Ways.{IsWayToNetwork, candidate_of, serves};
 
 use crate::alternate::FreeCandidate;
 use crate::destination::Destination;
 use crate::way::Way;
-use area_graph::{BondNo, Spot};
+use area_graph::Spot;
 
 /// The loop-free candidate that a way is for a node, if it is one, by the distances from its next.
 pub fn candidate_for(
@@ -30,7 +30,11 @@ pub fn candidate_for(
         → (result ≡ Some choice) ↔ Offers area source t destination.now way.now choice }
 {
     match destination {
-        Some(destination) => offered(way, source, known, t, destination),
+        Some(destination) => {
+            let out = known[source.get() as usize];
+            let through = known[destination.primary.next.get() as usize];
+            offer(way, destination, t, known[t], out, through)
+        }
         None => None,
     }
 }
@@ -50,87 +54,71 @@ pub fn candidate_there(way: &Way, destination: &Option<Destination>) -> Option<F
         → (result ≡ Some choice) ↔ Offers area source way.now.next destination.now way.now choice }
 {
     match destination {
-        Some(destination) => offered_there(way, destination),
+        Some(destination) => {
+            let t = way.next.get() as usize;
+            offer(way, destination, t, Some(0), None, None)
+        }
         None => None,
     }
 }
 
-fn offered_there(way: &Way, destination: &Destination) -> Option<FreeCandidate>
-    ensures { (area : AreaParts) (source : ℕ) → IsArea area → IsWayToNetwork area source way.now
-        → IsDestination area source way.now.next destination.now → (choice : FreeCandidate)
-        → (result ≡ Some choice) ↔ Offers area source way.now.next (Some destination.now) way.now choice }
-{
-    if way.bond == destination.bond {
-        return None;
-    }
-    Some(candidate_over(way, 0, destination.primary.next != way.next))
-}
-
-/// The loop-free candidate that a way is for a node with a primary, if it is one.
-fn offered(
+/// What a way offers for a node with a primary, by the distances from its next to the node, to the source and to the
+/// primary's next.
+fn offer(
     way: &Way,
-    source: Spot,
-    known: &[Option<u32>],
-    t: usize,
     destination: &Destination,
+    t: usize,
+    rest: Option<u32>,
+    out: Option<u32>,
+    through: Option<u32>,
 ) -> Option<FreeCandidate>
-    requires source { source < length known.now }
-    requires to { t < length known.now }
-    requires through { destination.now.primary.next < length known.now }
-    ensures { (area : AreaParts) → AreDistancesFrom area.arcs way.now.next known.now
-        → IsDestination area source t destination.now → (choice : FreeCandidate)
-        → (result ≡ Some choice) ↔ Offers area source t (Some destination.now) way.now choice }
+    ensures { result ≡ offer way.now destination.now t rest out through }
 {
-    if !may_serve(way, t, destination.bond) {
-        return None;
+    let rest = rest?;
+    if may_serve(way, destination, t, rest, out) {
+        Some(free_choice(way, protects(destination, t, rest, through), rest))
+    } else {
+        None
     }
-    let rest = known[t]?;
-    if !is_nearer(rest, &known[source.get() as usize], destination.distance) {
-        return None;
-    }
-    Some(candidate_over(way, rest, protects(known, t, destination, rest)))
 }
 
-/// Whether a way serves a node, and does not begin with that bond.
-fn may_serve(way: &Way, t: usize, bond: BondNo) -> bool
-    ensures { IsTrue result ↔ (Serves way.now.network way.now.second t × (way.now.bond ≢ bond)) }
+/// Whether a way may stand in for the primary.
+fn may_serve(way: &Way, destination: &Destination, t: usize, rest: u32, out: Option<u32>) -> bool
+    ensures { result ≡ may_serve way.now destination.now t rest out }
 {
-    if way.bond == bond {
-        return false;
-    }
-    match way.network {
-        Some(network) => (network.get() as usize == t) == way.second.is_none(),
-        None => true,
+    serves(way, t) && way.bond != destination.bond && is_nearer(rest, out, destination.distance)
+}
+
+/// Whether a way serves a node.
+fn serves(way: &Way, t: usize) -> bool
+    ensures { result ≡ serves way.now.network way.now.second t }
+{
+    match (way.network, way.second) {
+        (None, _) => true,
+        (Some(network), None) => network.get() as usize == t,
+        (Some(network), Some(_)) => network.get() as usize != t,
     }
 }
 
 /// Whether a distance is less than two together, the first of which may be missing.
-fn is_nearer(rest: u32, out: &Option<u32>, back: u32) -> bool
-    ensures { IsTrue result ↔ IsNearer rest out.now back }
+fn is_nearer(rest: u32, out: Option<u32>, back: u32) -> bool
+    ensures { result ≡ is_nearer rest out back }
 {
     match out {
-        Some(out) => (rest as u64) < *out as u64 + back as u64,
+        Some(out) => (rest as u64) < out as u64 + back as u64,
         None => true,
     }
 }
 
 /// Whether the way protects the primary's next.
-fn protects(known: &[Option<u32>], t: usize, destination: &Destination, rest: u32) -> bool
-    requires through { destination.now.primary.next < length known.now }
-    ensures { IsTrue result ↔ ProtectsBy known.now t destination.now rest }
+fn protects(destination: &Destination, t: usize, rest: u32, through: Option<u32>) -> bool
+    ensures { result ≡ protects destination.now t rest through }
 {
-    let through = destination.primary.next.get() as usize;
-    through != t && is_nearer(rest, &known[through], destination.beyond)
+    destination.primary.next.get() as usize != t && is_nearer(rest, through, destination.beyond)
 }
 
-fn candidate_over(way: &Way, rest: u32, node: bool) -> FreeCandidate
-    ensures { result ≡ record {
-      first = way.now.first;
-      second = way.now.second;
-      next = way.now.next;
-      node = node;
-      cost = way.now.metric + rest;
-    } }
+fn free_choice(way: &Way, node: bool, rest: u32) -> FreeCandidate
+    ensures { result ≡ free_choice (candidate_of way.now) node rest }
 {
     FreeCandidate {
         first: way.first,

@@ -1,10 +1,10 @@
-use Rattle.std.proofs.Common.{Option, Some, sym, subst}
-use Rattle.std.specs.Prelude.{◌≡◌, ◌↔◌}
-use Rattle.lfa_alt.specs.declared.destination.Destination.{Destination}
-use Rattle.lfa_alt.specs.Destinations.{IsDestinationFor, Offers}
+use Rattle.std.proofs.Common.{refl}
+use Rattle.lfa_alt.proofs.Offered.{offer_told, told_at}
 use Rattle.lfa_alt.proofs.choosing.candidate_for.Goals as goal
 
 pub returns-in-Some : goal.returns-in-Some
 returns-in-Some c = λ area are is choice.
-    subst (λ (o : Option Destination). (c.offered.result ≡ Some choice) ↔ Offers area c.args.source c.args.t o c.args.way.now choice) (sym c.in-Some.is)
-    (c.offered.ensures area are (subst (λ (o : Option Destination). IsDestinationFor area c.args.source c.args.t o) c.in-Some.is is) choice)
+    let told = told_at area.arcs c.args.way.now.next c.args.known.now are in
+    rw (c.offer.ensures, c.in-Some.is) (offer_told area c.args.source c.args.t c.args.way.now c.in-Some.destination (rw c.in-Some.is at is) _ _ _
+    (told c.args.t c.args.t refl c.requires.to) (told c.get.result c.args.source c.get.ensures.value c.requires.source)
+    (told c.get-in-Some.result c.in-Some.destination.primary.next c.get-in-Some.ensures.value (rw c.in-Some.is at c.requires.through)) choice)

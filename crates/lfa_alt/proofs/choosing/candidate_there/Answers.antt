@@ -1,10 +1,6 @@
-use Rattle.std.proofs.Common.{Option, Some, sym, subst}
-use Rattle.std.specs.Prelude.{◌≡◌, ◌↔◌}
-use Rattle.lfa_alt.specs.declared.destination.Destination.{Destination}
-use Rattle.lfa_alt.specs.Destinations.{IsDestinationFor, Offers}
+use Rattle.lfa_alt.proofs.NetworkWays.{offer_there}
 use Rattle.lfa_alt.proofs.choosing.candidate_there.Goals as goal
 
 pub returns-in-Some : goal.returns-in-Some
 returns-in-Some c = λ area source kept to is choice.
-    subst (λ (o : Option Destination). (c.offered_there.result ≡ Some choice) ↔ Offers area source c.args.way.now.next o c.args.way.now choice) (sym c.in-Some.is)
-    (c.offered_there.ensures area source kept to (subst (λ (o : Option Destination). IsDestinationFor area source c.args.way.now.next o) c.in-Some.is is) choice)
+    rw (c.offer.ensures, c.get-t.ensures.value, c.in-Some.is) (offer_there area kept source c.args.way.now to c.in-Some.destination (rw c.in-Some.is at is) choice)

@@ -5,7 +5,8 @@ use Rattle.mrt_graph.proofs.ListTests.{there}
 use Rattle.area_graph.specs.Parts.{AreaParts}
 use Rattle.primary_alt.specs.DistancesFrom.{AreDistancesFrom}
 use Rattle.lfa_alt.specs.declared.alternate.FreeCandidate.{FreeCandidate}
-use Rattle.lfa_alt.specs.Best.{IsBest, IsOfferedBy}
+use Rattle.lfa_alt.specs.Best.{IsOfferedBy}
+use Rattle.lfa_alt.specs.LoopFree.{IsBest}
 use Rattle.lfa_alt.proofs.Bettering.{none_yet, nothing_each, nothing_there, one_more}
 use Rattle.lfa_alt.proofs.LfasFound.{throughs, ways_within}
 use Rattle.lfa_alt.proofs.NetworkWays.{to_network_by_test}

@@ -5,7 +5,7 @@ use Rattle.std.proofs.lemmas.Option.{get_or_from_slice_get, slice_get_within}
 use Rattle.mrt_graph.proofs.ListPlaces.{set_elsewhere}
 use Rattle.lfa_alt.specs.declared.alternate.FreeCandidate.{FreeCandidate}
 use Rattle.lfa_alt.specs.declared.destination.Destination.{Destination}
-use Rattle.lfa_alt.specs.Nearer.{IsBetterBy}
+use Rattle.lfa_alt.specs.Best.{IsBetterBy}
 use Rattle.lfa_alt.specs.Destinations.{IsDestinationFor, Offers}
 use Rattle.lfa_alt.proofs.Bettering.{better_there}
 use Rattle.std.specs.Prelude.{◌↔◌}
