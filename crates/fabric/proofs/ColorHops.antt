@@ -1,13 +1,15 @@
 -- A packet's hop on a color is over the beginning of its way.
-use Rattle.std.proofs.Common.{◌≡◌, ◌≢◌, ◌⊎◌, ◌<◌, ◌∙◌, ℕ, List, [], ◌∷◌, Option, Some, None, length, slice_get, inl, inr, refl, sym, ap, subst, arith}
-use Rattle.std.specs.Prelude.{Contains}
+use Rattle.std.proofs.Common.{◌≡◌, ◌≢◌, ◌⊎◌, ◌<◌, ◌∙◌, ℕ, false, List, [], ◌∷◌, Option, Some, None, length, slice_get, inl, inr, refl, sym, ap, subst, arith}
+use Rattle.std.specs.Prelude.{IsTrue}
 use Rattle.std.specs.Option.{option_and_then, option_map}
-use Rattle.std.proofs.lemmas.Bool.{cases_eq}
+use Rattle.std.proofs.lemmas.Bool.{cases_eq, eqb-true, or_cases}
 use Rattle.std.proofs.lemmas.Option.{same_Some}
-use Rattle.fabric.specs.FabricParts.{ArePartsKept, FabricParts, element_at, link_at, node_at}
-use Rattle.fabric.specs.PacketHop.{IsColorHop, IsOver, OverNetwork, PacketHop, Straight}
+use Rattle.fabric.specs.FabricParts.{ArePartsKept, FabricParts, element_at, element_of, link_at, node_at}
+use Rattle.fabric.specs.PacketHop.{IsColorHop, IsOver, OverNetwork, Straight, cuts, is_on}
 use Rattle.fabric.specs.declared.event.Failure.{Failure}
 use Rattle.fabric.specs.declared.event.Failure.TheVariants as failures
+use Rattle.fabric.specs.declared.next_hop.Crossing.{Crossing}
+use Rattle.fabric.specs.declared.next_hop.NextHop.{NextHop}
 use Rattle.fabric.proofs.ColorWays.{next_on}
 use Rattle.fabric.proofs.Islands.{network_inside, one_spot}
 use Rattle.mrt_graph.specs.declared.cert.Color.{Color}
@@ -20,7 +22,7 @@ use Rattle.mrt_graph.specs.Leads.{far_node}
 use Rattle.mrt_graph.proofs.Bridge.{color_leads}
 use Rattle.mrt_graph.proofs.Hops.{far_ends}
 use Rattle.mrt_graph.proofs.ListTests.{all_at}
-use Rattle.mrt_graph.proofs.Members.{Has, contains_cases, contains_none}
+use Rattle.mrt_graph.proofs.Members.{Has}
 use Rattle.mrt_graph.proofs.Trails.{Differ, Follows, On, links_on, nodes_behind, nodes_on}
 
 -- an element that hops go over, or a node that they lead to
@@ -28,10 +30,10 @@ abbrev pub Ahead : List Hop → Element → Type 0
 Ahead hops (elements.Link e) = Has (links_on hops) e
 Ahead hops (elements.Node x) = Has (nodes_behind hops) x
 
--- the failure is an element of the island that these hops go over
-pub record IsAhead (parts : FabricParts) (hops : List Hop) (failed : Failure) : Type 0 where
+-- what has failed is an element of the island that these hops go over
+pub record IsAhead (parts : FabricParts) (hops : List Hop) (failure : Option Failure) : Type 0 where
   pub x : Element
-  pub is : element_at parts failed ≡ Some x
+  pub is : element_of parts failure ≡ Some x
   pub ahead : Ahead hops x
 
 pub on_ahead : (n : ℕ) (hops : List Hop) (x : Element) → Ahead hops x → On n hops x
@@ -39,7 +41,7 @@ on_ahead n hops (elements.Link e) ahead = ahead
 on_ahead n hops (elements.Node y) ahead = inr ahead
 
 -- the hop leads to node m, and the rest of the way goes on from there
-pub record Onward (parts : FabricParts) (color : Color) (t : ℕ) (hop : PacketHop) (d : ℕ) (hops : List Hop) : Type 0 where
+pub record Onward (parts : FabricParts) (color : Color) (t : ℕ) (hop : NextHop) (d : ℕ) (hops : List Hop) : Type 0 where
   pub m : ℕ
   pub at : node_at parts hop.next ≡ Some m
   pub rest : List Hop
@@ -48,13 +50,12 @@ pub record Onward (parts : FabricParts) (color : Color) (t : ℕ) (hop : PacketH
   pub links : (e : ℕ) → Has (links_on rest) e → Has (links_on hops) e
   pub differ : (n : ℕ) → Differ (nodes_on n hops) → Differ (nodes_on m rest)
   pub shorter : length rest < length hops
-  pub ahead : (failed : Failure) → Contains hop.elements failed → IsAhead parts hops failed
+  pub ahead : (failure : Option Failure) → IsTrue (cuts failure hop) → IsAhead parts hops failure
   pub ends : (hop.next ≡ t) ⊎ (¬ IsNetwork parts.area.ids hop.next)
 
 module _ (parts : FabricParts) (are : ArePartsKept parts) (color : Color) where
-  same_over : (n d b v n' d' : ℕ) → n' ≡ n → d' ≡ d → IsOver parts color n' d' b v → IsOver parts color n d b v
-  same_over n d b v n' d' one other over =
-      subst (λ (y : ℕ). IsOver parts color n y b v) other (subst (λ (y : ℕ). IsOver parts color y d' b v) one over)
+  same_over : (n d n' d' : ℕ) (c : Crossing) → n' ≡ n → d' ≡ d → IsOver parts color n' d' c → IsOver parts color n d c
+  same_over n d n' d' c one other over = subst (λ (y : ℕ). IsOver parts color n y c) other (subst (λ (y : ℕ). IsOver parts color y d' c) one over)
 
   -- a link of a network leads to a router
   to_router : (d n v next : ℕ) (hop : Hop) → next_on parts color d n ≡ Some hop → node_at parts v ≡ Some n → IsNetwork parts.area.ids v
@@ -77,89 +78,90 @@ module _ (parts : FabricParts) (are : ArePartsKept parts) (color : Color) where
             | inr down ↦ kept.not_both_networks (subst (λ (y : ℕ). IsNetwork parts.island.ids y) (sym down.1) far) (subst (λ (y : ℕ). IsNetwork parts.island.ids y) (sym down.0) near)
           ]
 
-  -- the bond and the node of a hop of the way are ahead
-  bond_ahead : (b e : ℕ) (hops : List Hop) → link_at parts b ≡ Some e → Has (links_on hops) e → IsAhead parts hops (failures.Bond b)
-  bond_ahead b e hops is has = record { x = elements.Link e; is = ap (λ (o : Option ℕ). option_map (λ e. elements.Link e) o) is; ahead = has }
+  -- what is on a crossing of the way is ahead
+  crossed : (failed : Failure) (c : Crossing) (h : Hop) (hops : List Hop) → link_at parts c.bond ≡ Some h.link → node_at parts c.node ≡ Some h.to → Has (links_on hops) h.link
+      → Has (nodes_behind hops) h.to → IsTrue (is_on failed c) → IsAhead parts hops (Some failed)
+  crossed (failures.Bond b) c h hops link node e v on = record {
+    x = elements.Link h.link;
+    is = ap (λ (y : ℕ). element_at parts (failures.Bond y)) (eqb-true b c.bond on) ∙ ap (λ (o : Option ℕ). option_map (λ e. elements.Link e) o) link;
+    ahead = e;
+  }
+  crossed (failures.Node s) c h hops link node e v on = record {
+    x = elements.Node h.to;
+    is = ap (λ (y : ℕ). element_at parts (failures.Node y)) (eqb-true s c.node on) ∙ ap (λ (o : Option ℕ). option_map (λ n. elements.Node n) o) node;
+    ahead = v;
+  }
 
-  node_ahead : (v m : ℕ) (hops : List Hop) → node_at parts v ≡ Some m → Has (nodes_behind hops) m → IsAhead parts hops (failures.Node v)
-  node_ahead v m hops is has = record { x = elements.Node m; is = ap (λ (o : Option ℕ). option_map (λ n. elements.Node n) o) is; ahead = has }
+  -- a crossing, and the hop of the way that it is
+  record IsAt (c : Crossing) (h : Hop) : Type 0 where
+    link : link_at parts c.bond ≡ Some h.link
+    node : node_at parts c.node ≡ Some h.to
 
-  ahead_is : (hops : List Hop) (one failed : Failure) → failed ≡ one → IsAhead parts hops one → IsAhead parts hops failed
-  ahead_is hops one failed same ahead = subst (λ (f : Failure). IsAhead parts hops f) (sym same) ahead
+  at_hop : (n d : ℕ) (c : Crossing) (h : Hop) → next_on parts color d n ≡ Some h → IsOver parts color n d c → IsAt c h
+  at_hop n d c h row over =
+      let same : over.hop ≡ h = same_Some _ _ (sym over.row ∙ row) in
+      record { link = over.link ∙ ap (λ (k : Hop). Some k.link) same; node = over.node ∙ ap (λ (k : Hop). Some k.to) same }
 
-  straight : (x t n d b v : ℕ) (h : Hop) (rest : List Hop) → Follows (next_on parts color d) d n (h ∷ rest) → IsOver parts color n d b v
-      → ¬ (IsNetwork parts.area.ids v × (v ≢ t)) → Onward parts color t (record { elements = failures.Bond b ∷ failures.Node v ∷ []; next = v }) d (h ∷ rest)
-  straight x t n d b v h rest f over direct =
-      let same : over.hop ≡ h = same_Some _ _ (sym over.row ∙ f.1.0) in
-      let link : link_at parts b ≡ Some h.link = over.link ∙ ap (λ (k : Hop). Some k.link) same in
-      let node : node_at parts v ≡ Some h.to = over.node ∙ ap (λ (k : Hop). Some k.to) same in
+  straight : (t n d : ℕ) (first : Crossing) (h : Hop) (rest : List Hop) → Follows (next_on parts color d) d n (h ∷ rest) → IsOver parts color n d first
+      → ¬ (IsNetwork parts.area.ids first.node × (first.node ≢ t)) → Onward parts color t (record { first = first; second = None; next = first.node }) d (h ∷ rest)
+  straight t n d first h rest f over direct =
+      let one = at_hop n d first h f.1.0 over in
       record {
         m = h.to;
-        at = node;
+        at = one.node;
         rest = rest;
         follows = f.1.1;
         nodes = λ y has. has;
         links = λ e has. inr has;
         differ = λ n differ. differ.1;
         shorter = omega arith;
-        ahead = λ failed among. elim (contains_cases (failures.Bond b) failed (failures.Node v ∷ []) among) [
-          | inl same ↦ ahead_is (h ∷ rest) (failures.Bond b) failed same (bond_ahead b h.link (h ∷ rest) link (inl refl))
-          | inr later ↦ elim (contains_cases (failures.Node v) failed [] later) [
-            | inl same ↦ ahead_is (h ∷ rest) (failures.Node v) failed same (node_ahead v h.to (h ∷ rest) node (inl refl))
-            | inr none ↦ absurd (contains_none failed none)
-          ]
-        ];
-        ends = elim (cases_eq v t) [ inl here ↦ inl here | inr other ↦ inr (λ network. direct (network, other)) ];
+        ahead = ahead;
+        ends = elim (cases_eq first.node t) [ inl here ↦ inl here | inr other ↦ inr (λ network. direct (network, other)) ];
       }
+    where
+      ahead : (failure : Option Failure) → IsTrue (cuts failure (record { first = first; second = None; next = first.node })) → IsAhead parts (h ∷ rest) failure
+      ahead None cut = cc
+      ahead (Some failed) cut =
+          let one = at_hop n d first h f.1.0 over in
+          elim (or_cases (is_on failed first) false cut) [ inl on ↦ crossed failed first h (h ∷ rest) one.link one.node (inl refl) (inl refl) on | inr none ↦ cc ]
 
-  over_network : (x t n d b v m bond next : ℕ) (h h' : Hop) (rest : List Hop) → Follows (next_on parts color d) d n (h ∷ h' ∷ rest)
-      → IsOver parts color n d b v → IsNetwork parts.area.ids v → node_at parts v ≡ Some m → IsOver parts color m d bond next
-      → Onward parts color t (record { elements = failures.Bond b ∷ failures.Node v ∷ failures.Bond bond ∷ failures.Node next ∷ []; next = next }) d (h ∷ h' ∷ rest)
-  over_network x t n d b v m bond next h h' rest f over network at second =
-      let same : over.hop ≡ h = same_Some _ _ (sym over.row ∙ f.1.0) in
-      let link : link_at parts b ≡ Some h.link = over.link ∙ ap (λ (k : Hop). Some k.link) same in
-      let node : node_at parts v ≡ Some h.to = over.node ∙ ap (λ (k : Hop). Some k.to) same in
-      let here : m ≡ h.to = same_Some _ _ (sym at ∙ node) in
-      let row : next_on parts color d h.to ≡ Some second.hop = subst (λ (y : ℕ). next_on parts color d y ≡ Some second.hop) here second.row in
-      let same' : second.hop ≡ h' = same_Some _ _ (sym row ∙ f.1.1.1.0) in
-      let link' : link_at parts bond ≡ Some h'.link = second.link ∙ ap (λ (k : Hop). Some k.link) same' in
-      let node' : node_at parts next ≡ Some h'.to = second.node ∙ ap (λ (k : Hop). Some k.to) same' in
-      let hops : List Hop = h ∷ h' ∷ rest in
-      record {
-        m = h'.to;
-        at = node';
-        rest = rest;
-        follows = f.1.1.1.1;
-        nodes = λ y has. inr has;
-        links = λ e has. inr (inr has);
-        differ = λ n differ. differ.1.1;
-        shorter = omega arith;
-        ahead = λ failed among. elim (contains_cases (failures.Bond b) failed (failures.Node v ∷ failures.Bond bond ∷ failures.Node next ∷ []) among) [
-          | inl same ↦ ahead_is hops (failures.Bond b) failed same (bond_ahead b h.link hops link (inl refl))
-          | inr later ↦ elim (contains_cases (failures.Node v) failed (failures.Bond bond ∷ failures.Node next ∷ []) later) [
-            | inl same ↦ ahead_is hops (failures.Node v) failed same (node_ahead v h.to hops node (inl refl))
-            | inr third ↦ elim (contains_cases (failures.Bond bond) failed (failures.Node next ∷ []) third) [
-              | inl same ↦ ahead_is hops (failures.Bond bond) failed same (bond_ahead bond h'.link hops link' (inr (inl refl)))
-              | inr fourth ↦ elim (contains_cases (failures.Node next) failed [] fourth) [
-                | inl same ↦ ahead_is hops (failures.Node next) failed same (node_ahead next h'.to hops node' (inr (inl refl)))
-                | inr none ↦ absurd (contains_none failed none)
-              ]
-            ]
-          ]
-        ];
-        ends = inr (to_router d m v next second.hop second.row at network second.node);
-      }
+  over_network : (t n d m : ℕ) (first second : Crossing) (h h' : Hop) (rest : List Hop) → Follows (next_on parts color d) d n (h ∷ h' ∷ rest)
+      → IsOver parts color n d first → IsNetwork parts.area.ids first.node → node_at parts first.node ≡ Some m → IsOver parts color m d second
+      → Onward parts color t (record { first = first; second = Some second; next = second.node }) d (h ∷ h' ∷ rest)
+  over_network t n d m first second h h' rest f over network at on = record {
+    m = h'.to;
+    at = two.node;
+    rest = rest;
+    follows = f.1.1.1.1;
+    nodes = λ y has. inr has;
+    links = λ e has. inr (inr has);
+    differ = λ n differ. differ.1.1;
+    shorter = omega arith;
+    ahead = ahead;
+    ends = inr (to_router d m first.node second.node on.hop on.row at network on.node);
+  }
+    where
+      one : IsAt first h
+      one = at_hop n d first h f.1.0 over
 
-  pub onward : (x t n d : ℕ) (hop : PacketHop) (hops : List Hop) → node_at parts x ≡ Some n → node_at parts t ≡ Some d → x ≢ t
+      two : IsAt second h'
+      two = at_hop h.to d second h' f.1.1.1.0 (subst (λ (y : ℕ). IsOver parts color y d second) (same_Some _ _ (sym at ∙ one.node)) on)
+
+      ahead : (failure : Option Failure) → IsTrue (cuts failure (record { first = first; second = Some second; next = second.node })) → IsAhead parts (h ∷ h' ∷ rest) failure
+      ahead None cut = cc
+      ahead (Some failed) cut = elim (or_cases (is_on failed first) (is_on failed second) cut) [
+        | inl before ↦ crossed failed first h (h ∷ h' ∷ rest) one.link one.node (inl refl) (inl refl) before
+        | inr after ↦ crossed failed second h' (h ∷ h' ∷ rest) two.link two.node (inr (inl refl)) (inr (inl refl)) after
+      ]
+
+  pub onward : (x t n d : ℕ) (hop : NextHop) (hops : List Hop) → node_at parts x ≡ Some n → node_at parts t ≡ Some d → x ≢ t
       → Follows (next_on parts color d) d n hops → IsColorHop parts color x t hop → Onward parts color t hop d hops
   onward x t n d hop [] at to apart f is = absurd (apart (one_spot parts are x t d (at ∙ ap (λ (y : ℕ). Some y) f) to))
-  onward x t n d hop (h ∷ rest) at to apart f (Straight n' d' b v at' to' over direct) =
-      straight x t n d b v h rest f (same_over n d b v n' d' (same_Some _ _ (sym at' ∙ at)) (same_Some _ _ (sym to' ∙ to)) over) direct
-  onward x t n d hop (h ∷ []) at to apart f (OverNetwork n' d' b v m bond next at' to' over network other at_v second) =
-      let over' = same_over n d b v n' d' (same_Some _ _ (sym at' ∙ at)) (same_Some _ _ (sym to' ∙ to)) over in
-      let same : over'.hop ≡ h = same_Some _ _ (sym over'.row ∙ f.1.0) in
-      let node : node_at parts v ≡ Some d = over'.node ∙ ap (λ (k : Hop). Some k.to) same ∙ ap (λ (y : ℕ). Some y) f.1.1 in
-      absurd (other (one_spot parts are v t d node to))
-  onward x t n d hop (h ∷ h' ∷ rest) at to apart f (OverNetwork n' d' b v m bond next at' to' over network other at_v second) =
-      over_network x t n d b v m bond next h h' rest f (same_over n d b v n' d' (same_Some _ _ (sym at' ∙ at)) (same_Some _ _ (sym to' ∙ to)) over) network at_v
-      (same_over m d bond next m d' refl (same_Some _ _ (sym to' ∙ to)) second)
+  onward x t n d hop (h ∷ rest) at to apart f (Straight n' d' first at' to' over direct) =
+      straight t n d first h rest f (same_over n d n' d' first (same_Some _ _ (sym at' ∙ at)) (same_Some _ _ (sym to' ∙ to)) over) direct
+  onward x t n d hop (h ∷ []) at to apart f (OverNetwork n' d' m first second at' to' over network other at_v on) =
+      let one = at_hop n d first h f.1.0 (same_over n d n' d' first (same_Some _ _ (sym at' ∙ at)) (same_Some _ _ (sym to' ∙ to)) over) in
+      absurd (other (one_spot parts are first.node t d (one.node ∙ ap (λ (y : ℕ). Some y) f.1.1) to))
+  onward x t n d hop (h ∷ h' ∷ rest) at to apart f (OverNetwork n' d' m first second at' to' over network other at_v on) =
+      over_network t n d m first second h h' rest f (same_over n d n' d' first (same_Some _ _ (sym at' ∙ at)) (same_Some _ _ (sym to' ∙ to)) over) network at_v
+      (same_over m d m d' second refl (same_Some _ _ (sym to' ∙ to)) on)

@@ -10,10 +10,10 @@ pub mod Life
 pub mod LifeSteps
 pub mod Nearer
 pub mod CourseChains
-pub mod Crossings
 pub mod LossesCaused
 pub mod OneHop
 pub mod OneOutcome
+pub mod Outcomes
 pub mod OwnRuns
 pub mod PacketChains
 pub mod PacketVisits
@@ -24,5 +24,3 @@ pub mod SmallIslands
 pub mod SomeAnswer
 pub mod SomeHop
 pub mod Staying
-pub mod Tellable
-pub mod Uncut

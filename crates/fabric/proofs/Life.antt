@@ -1,17 +1,15 @@
 -- What holds of a packet on its way, whatever happens to it.
-use Rattle.std.proofs.Common.{◌≡◌, ◌≢◌, ◌⊎◌, ◌<◌, ◌≤◌, ◌+◌, ◌*◌, ◌-◌, ◌∙◌, ℕ, List, [], ◌∷◌, Option, Some, None, length, inl, inr, refl, sym, ap, subst, arith}
-use Rattle.std.specs.Prelude.{IsSome}
+use Rattle.std.proofs.Common.{◌≡◌, ◌≢◌, ◌⊎◌, ◌<◌, ◌≤◌, ◌+◌, ◌*◌, ◌-◌, ◌∙◌, ℕ, List, [], ◌∷◌, Option, Some, None, length, inl, inr, refl, ap, subst, arith}
+use Rattle.std.specs.Prelude.{IsSome, IsTrue}
 use Rattle.std.specs.Option.{option_map}
-use Rattle.std.proofs.lemmas.Option.{same_Some}
-use Rattle.fabric.specs.FabricParts.{ArePartsKept, FabricParts, element_at, node_at}
-use Rattle.fabric.specs.Handling.{Arrives, AtDestination, AtFailed, HasHop, IsHandled, Moves, OnColor, OutsideIsland, Repaired, Unreachable, Unrepaired}
+use Rattle.fabric.specs.FabricParts.{ArePartsKept, FabricParts, element_of, node_at}
+use Rattle.fabric.specs.Causes.{HasHop}
 use Rattle.fabric.specs.KeptState.{IsKeptPacket}
-use Rattle.fabric.specs.PacketHop.{IsColorHop, IsCut, IsHop, PacketHop}
+use Rattle.fabric.specs.PacketHop.{IsColorHop, IsHop, cuts}
 use Rattle.fabric.specs.declared.event.Failure.{Failure}
-use Rattle.fabric.specs.declared.event.Failure.TheVariants as failures
-use Rattle.fabric.specs.declared.event.Outcome.{Outcome}
-use Rattle.fabric.specs.declared.event.Outcome.TheVariants as outcomes
+use Rattle.fabric.specs.declared.next_hop.NextHop.{NextHop}
 use Rattle.fabric.specs.declared.packet.Loss.{Loss}
+use Rattle.fabric.specs.declared.packet.Loss.TheVariants.{ColorCut, Inside, IsDestination, NoAlternate, NoRoute, Outside}
 use Rattle.fabric.specs.declared.packet.Mode.{Mode}
 use Rattle.fabric.specs.declared.packet.Mode.TheVariants as modes
 use Rattle.fabric.specs.declared.packet.Packet.{Packet}
@@ -19,6 +17,7 @@ use Rattle.fabric.specs.declared.packet.State.TheVariants as states
 use Rattle.fabric.proofs.ColorHops.{Onward, on_ahead, onward}
 use Rattle.fabric.proofs.ColorWays.{next_on}
 use Rattle.fabric.proofs.Islands.{one_spot}
+use Rattle.fabric.proofs.Outcomes.{Why}
 use Rattle.mrt_graph.specs.declared.cert.Color.{Color}
 use Rattle.mrt_graph.specs.declared.link.Element.{Element}
 use Rattle.mrt_graph.specs.declared.link.Element.TheVariants as elements
@@ -38,11 +37,10 @@ pub record IsLeft (parts : FabricParts) (color : Color) (q : Packet) : Type 0 wh
   pub follows : Follows (next_on parts color d) d n hops
   pub differ : Differ (nodes_on n hops)
 
--- the failure is there, and is no element of what is left
+-- there is a failure, and it is no element of what is left
 pub record Avoids (parts : FabricParts) (failure : Option Failure) (n : ℕ) (hops : List Hop) : Type 0 where
-  pub failed : Failure
-  pub kept : failure ≡ Some failed
-  pub not_on : (x : Element) → element_at parts failed ≡ Some x → On n hops x → ⊥
+  pub failed : failure ≢ None
+  pub not_on : (x : Element) → element_of parts failure ≡ Some x → On n hops x → ⊥
 
 -- one node is farther from t than another
 pub record IsFarther (parts : FabricParts) (t v x : ℕ) : Type 0 where
@@ -80,10 +78,10 @@ life_fails parts failed q steps lives = record { kept = lives.kept; life = go li
     go (HasEnded ended few never) = HasEnded ended few never
     go (OnPrimary visited mode going differ below count farther) = OnPrimary visited mode going differ below count farther
     go (OnEntered color mode going left few) = OnEntered color mode going left few
-    go (OnSwitched color mode going left few avoids) = absurd (let none = avoids.kept in cc)
+    go (OnSwitched color mode going left few avoids) = absurd (avoids.failed refl)
 
 -- the hop of a packet on a color
-pub color_hop_of : (parts : FabricParts) (color : Color) (mode : Mode) (x t : ℕ) (hop : PacketHop) → (mode ≡ modes.Entered color) ⊎ (mode ≡ modes.Switched color)
+pub color_hop_of : (parts : FabricParts) (color : Color) (mode : Mode) (x t : ℕ) (hop : NextHop) → (mode ≡ modes.Entered color) ⊎ (mode ≡ modes.Switched color)
     → IsHop parts mode x t hop → IsColorHop parts color x t hop
 color_hop_of parts color mode x t hop (inl same) is = subst (λ (m : Mode). IsHop parts m x t hop) same is
 color_hop_of parts color mode x t hop (inr same) is = subst (λ (m : Mode). IsHop parts m x t hop) same is
@@ -146,12 +144,12 @@ module _ (parts : FabricParts) (are : ArePartsKept parts) (small : length parts.
       go (OnSwitched color mode going left few avoids) = let less = life_below failure q steps lives going in omega (arith, less)
 
   -- the rest of a way
-  pub step_on : (color : Color) (q : Packet) → IsKeptPacket parts q → q.state ≡ states.Going → (left : IsLeft parts color q) (hop : PacketHop)
+  pub step_on : (color : Color) (q : Packet) → IsKeptPacket parts q → q.state ≡ states.Going → (left : IsLeft parts color q) (hop : NextHop)
       → IsColorHop parts color q.place q.to hop → Onward parts color q.to hop left.d left.hops
   step_on color q kept going left hop is =
       onward parts are color q.place q.to left.n left.d hop left.hops left.at left.to (kept.apart going) left.follows is
 
-  abbrev pub left_after : (color : Color) (q : Packet) (left : IsLeft parts color q) (hop : PacketHop) (on : Onward parts color q.to hop left.d left.hops)
+  abbrev pub left_after : (color : Color) (q : Packet) (left : IsLeft parts color q) (hop : NextHop) (on : Onward parts color q.to hop left.d left.hops)
       → IsLeft parts color (record q { place = hop.next })
   left_after color q left hop on = record {
     n = on.m;
@@ -163,47 +161,35 @@ module _ (parts : FabricParts) (are : ArePartsKept parts) (small : length parts.
     differ = on.differ left.n left.differ;
   }
 
-  pub avoids_after : (color : Color) (failure : Option Failure) (q : Packet) (left : IsLeft parts color q) (hop : PacketHop) (on : Onward parts color q.to hop left.d left.hops)
+  pub avoids_after : (color : Color) (failure : Option Failure) (q : Packet) (left : IsLeft parts color q) (hop : NextHop) (on : Onward parts color q.to hop left.d left.hops)
       → Avoids parts failure left.n left.hops → Avoids parts failure on.m on.rest
   avoids_after color failure q left hop on avoids = record {
     failed = avoids.failed;
-    kept = avoids.kept;
-    not_on = λ x is. go x is;
+    not_on = go;
   }
     where
-      go : (x : Element) → element_at parts avoids.failed ≡ Some x → On on.m on.rest x → ⊥
+      go : (x : Element) → element_of parts failure ≡ Some x → On on.m on.rest x → ⊥
       go (elements.Link e) is has = avoids.not_on (elements.Link e) is (on.links e has)
       go (elements.Node y) is has = avoids.not_on (elements.Node y) is (inr (on.nodes y has))
 
   -- what is switched is not lost
   pub switched_stays : (color : Color) (failure : Option Failure) (q : Packet) (left : IsLeft parts color q) → IsKeptPacket parts q → q.state ≡ states.Going
-      → q.mode ≡ modes.Switched color → Avoids parts failure left.n left.hops → (outcome : Outcome) (loss : Loss) → outcome ≡ outcomes.Lost loss → IsHandled parts failure q outcome → ⊥
-  switched_stays color failure q left kept going mode avoids outcome loss lost handled = go handled lost
+      → q.mode ≡ modes.Switched color → Avoids parts failure left.n left.hops → (loss : Loss) → Why parts failure q loss → ⊥
+  switched_stays color failure q left kept going mode avoids = go
     where
-      same : (failed : Failure) → failure ≡ Some failed → avoids.failed ≡ failed
-      same failed is = same_Some _ _ (sym avoids.kept ∙ is)
+      cut : (hop : NextHop) → HasHop parts failure q hop → IsTrue (cuts failure hop) → ⊥
+      cut hop has there =
+          let ahead = (step_on color q kept going left hop (color_hop_of parts color q.mode q.place q.to hop (inr mode) has.is)).ahead failure there in
+          avoids.not_on ahead.x ahead.is (on_ahead left.n left.hops ahead.x ahead.ahead)
 
-      node_is : (s n : ℕ) → node_at parts s ≡ Some n → failure ≡ Some (failures.Node s) → element_at parts avoids.failed ≡ Some (elements.Node n)
-      node_is s n at is =
-          ap (λ (f : Failure). element_at parts f) (same (failures.Node s) is) ∙ ap (λ (o : Option ℕ). option_map (λ n. elements.Node n) o) at
-
-      cut : (failure' : Option Failure) (hop : PacketHop) → failure ≡ failure' → HasHop parts failure q hop → IsCut failure' hop → ⊥
-      cut None hop is has there = there
-      cut (Some failed) hop is has there =
-          let on = step_on color q kept going left hop (color_hop_of parts color q.mode q.place q.to hop (inr mode) has.is) in
-          let ahead = on.ahead failed there in
-          avoids.not_on ahead.x (ap (λ (f : Failure). element_at parts f) (same failed is) ∙ ahead.is) (on_ahead left.n left.hops ahead.x ahead.ahead)
-
-      go : {outcome : Outcome} → IsHandled parts failure q outcome → outcome ≡ outcomes.Lost loss → ⊥
-      go (AtFailed is) lost = avoids.not_on (elements.Node left.n) (node_is q.place left.n left.at is) (inl refl)
-      go (Unreachable stands primary none) lost = cc
-      go (Moves hop has uncut other) lost = cc
-      go (Arrives hop has uncut here) lost = cc
-      go (AtDestination hop has there destination) lost = cut failure hop refl has there
-      go (OnColor off other) lost = cut failure off.hop refl off.has off.cut
-      go (OutsideIsland off primary outside) lost = cc
-      go (Unrepaired off primary by) lost = cc
-      go (Repaired c off primary by) lost = cc
+      go : (loss : Loss) → Why parts failure q loss → ⊥
+      go Inside is =
+          avoids.not_on (elements.Node left.n) (ap (element_of parts) is ∙ ap (λ (o : Option ℕ). option_map (λ n. elements.Node n) o) left.at) (inl refl)
+      go NoRoute why = let primary = why.0 in cc
+      go IsDestination why = cut why.hop why.has why.cut
+      go ColorCut why = cut why.1.hop why.1.has why.1.cut
+      go Outside why = let primary = why.0 in cc
+      go NoAlternate why = let primary = why.0 in cc
 
   -- a packet that is lost, or delivered
   pub ended_kept : (q : Packet) → IsKeptPacket parts q → (loss : Loss) → IsKeptPacket parts (record q { state = states.Lost loss })
@@ -216,9 +202,9 @@ module _ (parts : FabricParts) (are : ArePartsKept parts) (small : length parts.
     apart = λ going. cc;
   }
 
-  pub lost_life : (failure : Option Failure) (q : Packet) (steps : ℕ) (loss : Loss) → Lives parts failure q steps → q.state ≡ states.Going → IsHandled parts failure q (outcomes.Lost loss)
+  pub lost_life : (failure : Option Failure) (q : Packet) (steps : ℕ) (loss : Loss) → Lives parts failure q steps → q.state ≡ states.Going → Why parts failure q loss
       → Lives parts failure (record q { state = states.Lost loss }) (steps + 1)
-  lost_life failure q steps loss lives going handled = record {
+  lost_life failure q steps loss lives going why = record {
     kept = ended_kept q lives.kept loss;
     life = HasEnded (λ state. cc) (let less = life_below failure q steps lives going in omega (arith, less)) (λ color loss' switched lost. never lives.life color switched);
   }
@@ -228,4 +214,4 @@ module _ (parts : FabricParts) (are : ArePartsKept parts) (small : length parts.
       never (OnPrimary visited mode going' differ below count farther) color switched = cc
       never (OnEntered c mode going' left few) color switched = cc
       never (OnSwitched c mode going' left few avoids) color switched =
-          switched_stays c failure q left lives.kept going mode avoids (outcomes.Lost loss) loss refl handled
+          switched_stays c failure q left lives.kept going mode avoids loss why

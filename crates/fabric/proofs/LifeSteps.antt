@@ -3,16 +3,17 @@ use Rattle.std.proofs.Common.{◌≡◌, ◌≢◌, ◌⊎◌, ◌<◌, ◌≤�
 use Rattle.std.specs.Prelude.{IsSome}
 use Rattle.std.proofs.lemmas.Option.{same_Some}
 use Rattle.fabric.specs.Answers.{AreInside, IsOpen, MayEnter}
-use Rattle.fabric.specs.FabricParts.{ArePartsKept, AreRowsFor, FabricParts, element_at, node_at}
+use Rattle.fabric.specs.FabricParts.{ArePartsKept, AreRowsFor, FabricParts, element_of, node_at}
 use Rattle.fabric.specs.FabricState.{entering, mode_of, packet_after}
-use Rattle.fabric.specs.Handling.{Arrives, AtDestination, AtFailed, IsHandled, IsRepairedBy, Moves, OnColor, OutsideIsland, Repaired, Unreachable, Unrepaired}
+use Rattle.fabric.specs.Causes.{IsCutOff}
+use Rattle.fabric.specs.Handling.{IsHandled, IsInside, IsRepair}
 use Rattle.fabric.specs.KeptState.{IsKeptPacket}
-use Rattle.fabric.specs.PacketHop.{IsHop, PacketHop}
+use Rattle.fabric.specs.PacketHop.{IsHop}
 use Rattle.fabric.specs.declared.event.Failure.{Failure}
 use Rattle.fabric.specs.declared.event.Outcome.{Outcome}
 use Rattle.fabric_script.specs.declared.entry.Entry.{Entry}
 use Rattle.fabric_script.specs.declared.entry.Entry.TheVariants as entries
-use Rattle.fabric.specs.declared.packet.Loss.TheVariants as losses
+use Rattle.fabric.specs.declared.next_hop.NextHop.{NextHop}
 use Rattle.fabric.specs.declared.packet.Mode.{Mode}
 use Rattle.fabric.specs.declared.packet.Mode.TheVariants as modes
 use Rattle.fabric.specs.declared.packet.Packet.{Packet}
@@ -22,6 +23,7 @@ use Rattle.fabric.proofs.ColorWays.{on_walk, way, way_short}
 use Rattle.fabric.proofs.Islands.{node_within, one_spot, spot_within}
 use Rattle.fabric.proofs.Life.{HasEnded, IsFarther, IsLeft, Life, Lives, OnEntered, OnPrimary, OnSwitched, avoids_after, color_hop_of, inside_is, left_after, life_below, lost_life, step_on, visited_few}
 use Rattle.fabric.proofs.Nearer.{Nearer, nearer_hop}
+use Rattle.fabric.proofs.Outcomes.{Arrives, Becomes, IsLost, IsSwitched, Moves, becomes}
 use Rattle.mrt_graph.specs.declared.cert.Color.{Color}
 use Rattle.mrt_graph.specs.declared.cert.Color.TheVariants.{Blue, Red}
 use Rattle.mrt_graph.specs.declared.link.Element.{Element}
@@ -37,7 +39,7 @@ some_inside parts v m at = rw at refl
 
 module _ (parts : FabricParts) (are : ArePartsKept parts) (small : length parts.island.ids ≤ length parts.area.ids) where
   -- a packet that moves
-  pub moved_kept : (q : Packet) (hop : PacketHop) → IsKeptPacket parts q → hop.next < length parts.area.ids → (q.mode ≢ modes.Primary → IsSome (node_at parts hop.next))
+  pub moved_kept : (q : Packet) (hop : NextHop) → IsKeptPacket parts q → hop.next < length parts.area.ids → (q.mode ≢ modes.Primary → IsSome (node_at parts hop.next))
       → ¬ IsNetwork parts.area.ids hop.next → hop.next ≢ q.to → IsKeptPacket parts (record q { place = hop.next })
   moved_kept q hop kept within inside router other = record {
     place = within;
@@ -53,7 +55,7 @@ module _ (parts : FabricParts) (are : ArePartsKept parts) (small : length parts.
   router_there t v (inr router) other = router
 
   -- by its primary: it is farther from all places before
-  by_primary : (failure : Option Failure) (q : Packet) (steps : ℕ) (visited : List ℕ) (hop : PacketHop) → IsKeptPacket parts q → q.mode ≡ modes.Primary → q.state ≡ states.Going
+  by_primary : (failure : Option Failure) (q : Packet) (steps : ℕ) (visited : List ℕ) (hop : NextHop) → IsKeptPacket parts q → q.mode ≡ modes.Primary → q.state ≡ states.Going
       → Differ (q.to ∷ q.place ∷ visited) → ((v : ℕ) → Has visited v → v < length parts.area.ids) → length visited ≡ steps → ((v : ℕ) → Has visited v → IsFarther parts q.to v q.place)
       → Nearer parts q.place q.to hop → hop.next ≢ q.to → Lives parts failure (record q { place = hop.next }) (steps + 1)
   by_primary failure q steps visited hop kept mode going differ below count farther near other = record {
@@ -91,12 +93,12 @@ module _ (parts : FabricParts) (are : ArePartsKept parts) (small : length parts.
           omega (arith, same, falls)
 
   -- on a color: less of its way is left
-  pub color_kept : (color : Color) (q : Packet) (left : IsLeft parts color q) (hop : PacketHop) → IsKeptPacket parts q → (on : Onward parts color q.to hop left.d left.hops)
+  pub color_kept : (color : Color) (q : Packet) (left : IsLeft parts color q) (hop : NextHop) → IsKeptPacket parts q → (on : Onward parts color q.to hop left.d left.hops)
       → hop.next ≢ q.to → IsKeptPacket parts (record q { place = hop.next })
   color_kept color q left hop kept on other =
       moved_kept q hop kept (spot_within parts are hop.next on.m on.at) (λ c. some_inside parts hop.next on.m on.at) (router_there q.to hop.next on.ends other) other
 
-  moved_life : (failure : Option Failure) (q : Packet) (steps : ℕ) (hop : PacketHop) → Lives parts failure q steps → q.state ≡ states.Going → IsHop parts q.mode q.place q.to hop
+  moved_life : (failure : Option Failure) (q : Packet) (steps : ℕ) (hop : NextHop) → Lives parts failure q steps → q.state ≡ states.Going → IsHop parts q.mode q.place q.to hop
       → hop.next ≢ q.to → Lives parts failure (record q { place = hop.next }) (steps + 1)
   moved_life failure q steps hop lives going is other = go lives.life
     where
@@ -181,26 +183,25 @@ module _ (parts : FabricParts) (are : ArePartsKept parts) (small : length parts.
   }
 
   switched_life : (failure : Option Failure) (q : Packet) (steps : ℕ) (color : Color) → AreRowsFor parts q.to → Lives parts failure q steps → q.state ≡ states.Going → q.mode ≡ modes.Primary
-      → IsRepairedBy parts failure q (Some color) → Lives parts failure (record q { mode = modes.Switched color }) (steps + 1)
+      → IsCutOff parts failure q → IsRepair parts failure q (Some (Some color)) → Lives parts failure (record q { mode = modes.Switched color }) (steps + 1)
   unfolding whole_way
-  switched_life failure q steps color rows lives going mode by = go lives.life
+  switched_life failure q steps color rows lives going mode off (IsInside at to _ place destination is) = go lives.life
     where
       kept' : IsKeptPacket parts (record q { mode = modes.Switched color })
-      kept' = switched_kept q color lives.kept (some_inside parts q.place by.at by.place) (some_inside parts q.to by.to by.destination)
+      kept' = switched_kept q color lives.kept (some_inside parts q.place at place) (some_inside parts q.to to destination)
 
       go : Life parts failure q steps → Lives parts failure (record q { mode = modes.Switched color }) (steps + 1)
       go (HasEnded ended few never) = absurd (ended going)
       go (OnPrimary visited mode' going' differ below count farther) =
-          let left = whole_way color (record q { mode = modes.Switched color }) by.at by.to rows kept' (lives.kept.apart going) by.place by.destination in
+          let left = whole_way color (record q { mode = modes.Switched color }) at to rows kept' (lives.kept.apart going) place destination in
           let short = whole_short color (record q { mode = modes.Switched color }) left in
           let few = visited_few parts are small q visited lives.kept differ below in
           record {
             kept = kept';
             life = OnSwitched color refl going left (omega (arith, short, few, count)) (record {
-              failed = by.failed;
-              kept = by.kept;
-              not_on = λ x is on. given_avoids x by.at by.to color (element_at parts by.failed) (Some color) is refl by.is
-                  (on_walk parts are color by.to by.at left.hops (node_within parts are q.place by.at by.place) left.follows left.differ x on);
+              failed = λ none. let cut = rw none at off.cut in cc;
+              not_on = λ x failed on. given_avoids x at to color (element_of parts failure) (Some color) failed refl is
+                  (on_walk parts are color to at left.hops (node_within parts are q.place at place) left.follows left.differ x on);
             });
           }
       go (OnEntered c mode' going' left few) = cc
@@ -209,16 +210,13 @@ module _ (parts : FabricParts) (are : ArePartsKept parts) (small : length parts.
   -- each outcome
   pub life_after : (failure : Option Failure) (q : Packet) (steps : ℕ) → AreRowsFor parts q.to → Lives parts failure q steps → q.state ≡ states.Going → (outcome : Outcome) → IsHandled parts failure q outcome
       → Lives parts failure (packet_after outcome q) (steps + 1)
-  life_after failure q steps rows lives going outcome (AtFailed is) = lost_life parts are small failure q steps losses.Inside lives going (AtFailed is)
-  life_after failure q steps rows lives going outcome (Unreachable stands primary none) = lost_life parts are small failure q steps losses.NoRoute lives going (Unreachable stands primary none)
-  life_after failure q steps rows lives going outcome (Moves hop has uncut other) = moved_life failure q steps hop lives going has.is other
-  life_after failure q steps rows lives going outcome (Arrives hop has uncut here) = delivered_life failure q steps lives going
-  life_after failure q steps rows lives going outcome (AtDestination hop has there destination) =
-      lost_life parts are small failure q steps losses.IsDestination lives going (AtDestination hop has there destination)
-  life_after failure q steps rows lives going outcome (OnColor off other) = lost_life parts are small failure q steps losses.ColorCut lives going (OnColor off other)
-  life_after failure q steps rows lives going outcome (OutsideIsland off primary outside) = lost_life parts are small failure q steps losses.Outside lives going (OutsideIsland off primary outside)
-  life_after failure q steps rows lives going outcome (Unrepaired off primary by) = lost_life parts are small failure q steps losses.NoAlternate lives going (Unrepaired off primary by)
-  life_after failure q steps rows lives going outcome (Repaired color off primary by) = switched_life failure q steps color rows lives going primary by
+  life_after failure q steps rows lives going outcome handled = go (becomes parts failure q outcome handled)
+    where
+      go : {o : Outcome} → Becomes parts failure q o → Lives parts failure (packet_after o q) (steps + 1)
+      go (Moves hop is other) = moved_life failure q steps hop lives going is other
+      go (Arrives hop is here) = delivered_life failure q steps lives going
+      go (IsLost loss why) = lost_life parts are small failure q steps loss lives going why
+      go (IsSwitched color primary off by) = switched_life failure q steps color rows lives going primary off by
 
   -- where it enters
   pub entering_kept : (at to : ℕ) (entry : Entry) → MayEnter parts at to entry → IsKeptPacket parts (entering at to entry)

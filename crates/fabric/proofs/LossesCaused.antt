@@ -1,14 +1,15 @@
 -- Each loss of a packet comes exactly where its cause stands.
-use Rattle.std.proofs.Common.{◌≡◌, ◌≢◌, ◌⊎◌, ◌≤◌, ◌∙◌, ℕ, List, Option, Some, None, Ok, length, slice_get, inl, refl, sym, ap, subst}
+use Rattle.std.proofs.Common.{◌≡◌, ◌≢◌, ◌≤◌, ◌∙◌, ℕ, List, Option, Some, None, Ok, length, slice_get, inl, refl, sym, ap, subst}
 use Rattle.std.specs.Option.{option_map}
+use Rattle.std.proofs.lemmas.Bool.{false_from_ne_true}
 use Rattle.std.proofs.lemmas.Option.{same_Some}
 use Rattle.fabric.specs.Answers.{Answered, HasEnded as EndedBefore, IsStepAnswer, NoPacket}
-use Rattle.fabric.specs.Causes.{IsCutFromFailed, IsOnWalk, IsSeparated, LossCauses}
-use Rattle.fabric.specs.FabricParts.{ArePartsKept, AreRowsFor, FabricParts, element_at, link_at, node_at}
+use Rattle.fabric.specs.Causes.{Cause, HasHop, IsCutOff, IsOnWalk, IsSeparated, LossCauses}
+use Rattle.fabric.specs.FabricParts.{ArePartsKept, AreRowsFor, FabricParts, element_of, link_at, node_at}
 use Rattle.fabric.specs.FabricState.{Answer, FabricState, start}
 use Rattle.fabric.specs.FabricStep.{FabricStep}
-use Rattle.fabric.specs.Handling.{Arrives, AtDestination, AtFailed, IsCutOff, IsHandled, IsRepairedBy, IsUnreachable, Moves, OnColor, OutsideIsland, Repaired, Unreachable, Unrepaired}
-use Rattle.fabric.specs.PacketHop.{IsCut}
+use Rattle.fabric.specs.Handling.{IsHandled, IsInside, IsOutside, IsRepair, has_failed, repaired, sent}
+use Rattle.fabric.specs.PacketHop.{cuts}
 use Rattle.fabric.specs.Runs.{IsRun}
 use Rattle.fabric.specs.Served.{AreRowsOn}
 use Rattle.fabric.specs.Course.{steps_of}
@@ -18,8 +19,9 @@ use Rattle.fabric.specs.declared.event.Failure.{Failure}
 use Rattle.fabric.specs.declared.event.Failure.TheVariants as failures
 use Rattle.fabric.specs.declared.event.Outcome.{Outcome}
 use Rattle.fabric.specs.declared.event.Outcome.TheVariants.{Lost}
+use Rattle.fabric.specs.declared.next_hop.NextHop.{NextHop}
 use Rattle.fabric.specs.declared.packet.Loss.{Loss}
-use Rattle.fabric.specs.declared.packet.Loss.TheVariants as losses
+use Rattle.fabric.specs.declared.packet.Loss.TheVariants.{ColorCut, Inside, IsDestination, NoAlternate, NoRoute, Outside}
 use Rattle.fabric.specs.declared.packet.Mode.{Mode}
 use Rattle.fabric.specs.declared.packet.Mode.TheVariants as modes
 use Rattle.fabric.specs.declared.packet.Packet.{Packet}
@@ -27,13 +29,14 @@ use Rattle.fabric.specs.declared.packet.State.TheVariants as states
 use Rattle.fabric.proofs.ColorHops.{on_ahead}
 use Rattle.fabric.proofs.ColorWays.{on_walk}
 use Rattle.fabric.proofs.Islands.{node_within, one_spot}
-use Rattle.fabric.proofs.Life.{HasEnded, IsLeft, Life, Lives, OnEntered, OnPrimary, OnSwitched, color_hop_of, step_on, switched_stays}
-use Rattle.fabric.proofs.OneOutcome.{one_outcome}
+use Rattle.fabric.proofs.Life.{HasEnded, Life, Lives, OnEntered, OnPrimary, OnSwitched, color_hop_of, step_on, switched_stays}
+use Rattle.fabric.proofs.OneHop.{one_hop_or_none, one_repair}
+use Rattle.fabric.proofs.Outcomes.{Arrives, Becomes, IsLost, IsSwitched, Moves, Why, becomes, failed_is}
 use Rattle.fabric.proofs.PacketChains.{left_now}
 use Rattle.fabric.proofs.RunLives.{IsAt, Living, Unmade, run_lives}
 use Rattle.fabric.proofs.AcceptedRows.{sound_for}
 use Rattle.fabric.proofs.SmallIslands.{island_small}
-use Rattle.mrt_graph.specs.Alternate.{AtEnd, ByBlue, ByRed, IsAlternate, OnBoth, Outside}
+use Rattle.mrt_graph.specs.Alternate.{AtEnd, IsAlternate, OnBoth}
 use Rattle.mrt_graph.specs.Separates.{IsNeitherEnd}
 use Rattle.mrt_graph.specs.Sound.{SoundFor}
 use Rattle.mrt_graph.specs.declared.cert.Color.{Color}
@@ -44,87 +47,29 @@ module _ (parts : FabricParts) (are : ArePartsKept parts) (failure : Option Fail
   small : length parts.island.ids ≤ length parts.area.ids
   small = island_small parts are
 
-  -- why it is lost, by the loss
-  inside_then : (outcome : Outcome) → IsHandled parts failure q outcome → outcome ≡ Lost losses.Inside → failure ≡ Some (failures.Node q.place)
-  inside_then outcome (AtFailed is) e = is
-  inside_then outcome (Unreachable stands primary none) e = cc
-  inside_then outcome (Moves hop has uncut other) e = cc
-  inside_then outcome (Arrives hop has uncut here) e = cc
-  inside_then outcome (AtDestination hop has cut destination) e = cc
-  inside_then outcome (OnColor off other) e = cc
-  inside_then outcome (OutsideIsland off primary outside) e = cc
-  inside_then outcome (Unrepaired off primary by) e = cc
-  inside_then outcome (Repaired color off primary by) e = cc
-
-  no_route_then : (outcome : Outcome) → IsHandled parts failure q outcome → outcome ≡ Lost losses.NoRoute
-      → (q.mode ≡ modes.Primary) × (failure ≢ Some (failures.Node q.place)) × IsUnreachable parts.area q.place q.to
-  no_route_then outcome (AtFailed is) e = cc
-  no_route_then outcome (Unreachable stands primary none) e = (primary, stands, none)
-  no_route_then outcome (Moves hop has uncut other) e = cc
-  no_route_then outcome (Arrives hop has uncut here) e = cc
-  no_route_then outcome (AtDestination hop has cut destination) e = cc
-  no_route_then outcome (OnColor off other) e = cc
-  no_route_then outcome (OutsideIsland off primary outside) e = cc
-  no_route_then outcome (Unrepaired off primary by) e = cc
-  no_route_then outcome (Repaired color off primary by) e = cc
-
-  destination_then : (outcome : Outcome) → IsHandled parts failure q outcome → outcome ≡ Lost losses.IsDestination → IsCutFromFailed parts failure q
-  destination_then outcome (AtFailed is) e = cc
-  destination_then outcome (Unreachable stands primary none) e = cc
-  destination_then outcome (Moves hop has uncut other) e = cc
-  destination_then outcome (Arrives hop has uncut here) e = cc
-  destination_then outcome (AtDestination hop has cut destination) e = record { hop = hop; has = has; cut = cut; destination = destination }
-  destination_then outcome (OnColor off other) e = cc
-  destination_then outcome (OutsideIsland off primary outside) e = cc
-  destination_then outcome (Unrepaired off primary by) e = cc
-  destination_then outcome (Repaired color off primary by) e = cc
-
   -- a switched packet is not lost, so that a packet on a color that is lost entered on it
-  entered_on : (mode : Mode) → q.mode ≡ mode → mode ≢ modes.Primary → (loss : Loss) → IsHandled parts failure q (Lost loss) → (color : Color) × (q.mode ≡ modes.Entered color)
-  entered_on modes.Primary is color loss handled = absurd (color refl)
-  entered_on (modes.Entered c) is color loss handled = (c, is)
-  entered_on (modes.Switched c) is color loss handled = absurd (go lives.life)
+  entered_on : (mode : Mode) → q.mode ≡ mode → mode ≢ modes.Primary → IsCutOff parts failure q → (color : Color) × (q.mode ≡ modes.Entered color)
+  entered_on modes.Primary is color off = absurd (color refl)
+  entered_on (modes.Entered c) is color off = (c, is)
+  entered_on (modes.Switched c) is color off = absurd (go lives.life)
     where
       go : Life parts failure q steps → ⊥
       go (HasEnded ended few never) = ended going
       go (OnPrimary visited mode going' differ below count farther) = cc
       go (OnEntered c' mode going' left few) = cc
-      go (OnSwitched c' mode going' left few avoids) = switched_stays parts are small c' failure q left lives.kept going mode avoids (Lost loss) loss refl handled
-
-  color_then : (outcome : Outcome) → IsHandled parts failure q outcome → outcome ≡ Lost losses.ColorCut → ((color : Color) × (q.mode ≡ modes.Entered color)) × IsCutOff parts failure q
-  color_then outcome (AtFailed is) e = cc
-  color_then outcome (Unreachable stands primary none) e = cc
-  color_then outcome (Moves hop has uncut other) e = cc
-  color_then outcome (Arrives hop has uncut here) e = cc
-  color_then outcome (AtDestination hop has cut destination) e = cc
-  color_then outcome (OnColor off other) e = (entered_on q.mode refl other losses.ColorCut (OnColor off other), off)
-  color_then outcome (OutsideIsland off primary outside) e = cc
-  color_then outcome (Unrepaired off primary by) e = cc
-  color_then outcome (Repaired color off primary by) e = cc
-
-  outside_then : (outcome : Outcome) → IsHandled parts failure q outcome → outcome ≡ Lost losses.Outside
-      → (q.mode ≡ modes.Primary) × IsCutOff parts failure q × ((node_at parts q.place ≡ None) ⊎ (node_at parts q.to ≡ None))
-  outside_then outcome (AtFailed is) e = cc
-  outside_then outcome (Unreachable stands primary none) e = cc
-  outside_then outcome (Moves hop has uncut other) e = cc
-  outside_then outcome (Arrives hop has uncut here) e = cc
-  outside_then outcome (AtDestination hop has cut destination) e = cc
-  outside_then outcome (OnColor off other) e = cc
-  outside_then outcome (OutsideIsland off primary outside) e = (primary, off, outside)
-  outside_then outcome (Unrepaired off primary by) e = cc
-  outside_then outcome (Repaired color off primary by) e = cc
+      go (OnSwitched c' mode going' left few avoids) = switched_stays parts are small c' failure q left lives.kept going mode avoids ColorCut (λ primary. cc, off)
 
   -- what fails is neither the place nor the destination
-  neither : (n d : ℕ) → node_at parts q.place ≡ Some n → node_at parts q.to ≡ Some d → (failed : Failure) → failure ≡ Some failed
-      → failure ≢ Some (failures.Node q.place) → failure ≢ Some (failures.Node q.to) → (x : Element) → element_at parts failed ≡ Some x → IsNeitherEnd x n d
-  neither n d at to (failures.Bond b) kept stands other (elements.Link e) is = tt
-  neither n d at to (failures.Bond b) kept stands other (elements.Node y) is = absurd (link_no_node (link_at parts b) is)
+  neither : (n d : ℕ) → node_at parts q.place ≡ Some n → node_at parts q.to ≡ Some d → (o : Option Failure) → failure ≡ o
+      → failure ≢ Some (failures.Node q.place) → failure ≢ Some (failures.Node q.to) → (x : Element) → element_of parts o ≡ Some x → IsNeitherEnd x n d
+  neither n d at to None kept stands other x is = cc
+  neither n d at to (Some failed) kept stands other (elements.Link e) is = tt
+  neither n d at to (Some (failures.Bond b)) kept stands other (elements.Node y) is = absurd (link_no_node (link_at parts b) is)
     where
       link_no_node : (o : Option ℕ) → ◌≡◌ {A = Option Element} (option_map (λ e. elements.Link e) o) (Some (elements.Node y)) → ⊥
       link_no_node None e = cc
       link_no_node (Some k) e = cc
-  neither n d at to (failures.Node s) kept stands other (elements.Link e) is = tt
-  neither n d at to (failures.Node s) kept stands other (elements.Node y) is = (
+  neither n d at to (Some (failures.Node s)) kept stands other (elements.Node y) is = (
     λ same. stands (kept ∙ ap (λ (v : ℕ). Some (failures.Node v)) (one_spot parts are s q.place n (node_is (node_at parts s) refl is ∙ ap (λ (v : ℕ). Some v) same) at)),
     λ same. other (kept ∙ ap (λ (v : ℕ). Some (failures.Node v)) (one_spot parts are s q.to d (node_is (node_at parts s) refl is ∙ ap (λ (v : ℕ). Some v) same) to)),
   )
@@ -138,84 +83,87 @@ module _ (parts : FabricParts) (are : ArePartsKept parts) (failure : Option Fail
       sound_for parts n d (rows d to) (node_within parts are q.place n at) (node_within parts are q.to d to)
       (λ same. lives.kept.apart going (one_spot parts are q.place q.to d (at ∙ ap (λ (v : ℕ). Some v) same) to))
 
-  separated : IsCutOff parts failure q → IsRepairedBy parts failure q None → IsSeparated parts failure q
-  separated off by = go (element_at parts by.failed) None refl refl by.is
+  separated : IsCutOff parts failure q → IsRepair parts failure q (Some None) → IsSeparated parts failure q
+  separated off (IsInside at to _ place destination is) = go (element_of parts failure) refl is
     where
-      go : (o : Option Element) (answer : Option Color) → element_at parts by.failed ≡ o → answer ≡ None
-          → IsAlternate parts.island.links (length parts.island.ids) parts.rows by.at by.to o answer → IsSeparated parts failure q
-      go o answer is none Outside = cc
-      go o answer is none (AtEnd x end) = absurd (end (neither by.at by.to by.place by.destination by.failed by.kept off.has.stands off.other x is))
-      go o answer is none (OnBoth x between blue red) = record {
-        at = by.at;
-        to = by.to;
-        inside = record { place = by.place; destination = by.destination };
+      go : (o : Option Element) → element_of parts failure ≡ o → IsAlternate parts.island.links (length parts.island.ids) parts.rows at to o None → IsSeparated parts failure q
+      go None failed is = elim is [ ]
+      go (Some _) failed (AtEnd x end) = absurd (end (neither at to place destination failure refl off.has.stands off.other x failed))
+      go (Some _) failed (OnBoth x between blue red) = record {
+        at = at;
+        to = to;
+        inside = record { place = place; destination = destination };
         x = x;
-        failed = (by.failed, by.kept, is);
-        separates = (sound by.at by.to by.place by.destination).apart x between blue red;
+        failed = failed;
+        separates = (sound at to place destination).apart x between blue red;
       }
-      go o answer is none (ByBlue x between not_blue) = cc
-      go o answer is none (ByRed x between blue not_red) = cc
 
-  unrepaired : IsSeparated parts failure q → IsRepairedBy parts failure q None
-  unrepaired is = record {
-    at = is.at;
-    place = is.inside.place;
-    to = is.to;
-    destination = is.inside.destination;
-    failed = is.failed.0;
-    kept = is.failed.1;
-    is = subst (λ (o : Option Element). IsAlternate parts.island.links (length parts.island.ids) parts.rows is.at is.to o None) (sym is.failed.2)
-        (OnBoth is.x is.separates.between
-        (is.separates.on_every_walk _ (sound is.at is.to is.inside.place is.inside.destination).blue.ends_at_t)
-        (is.separates.on_every_walk _ (sound is.at is.to is.inside.place is.inside.destination).red.ends_at_t));
-  }
-
-  no_alternate_then : (outcome : Outcome) → IsHandled parts failure q outcome → outcome ≡ Lost losses.NoAlternate
-      → (q.mode ≡ modes.Primary) × IsCutOff parts failure q × IsSeparated parts failure q
-  no_alternate_then outcome (AtFailed is) e = cc
-  no_alternate_then outcome (Unreachable stands primary none) e = cc
-  no_alternate_then outcome (Moves hop has uncut other) e = cc
-  no_alternate_then outcome (Arrives hop has uncut here) e = cc
-  no_alternate_then outcome (AtDestination hop has cut destination) e = cc
-  no_alternate_then outcome (OnColor off other) e = cc
-  no_alternate_then outcome (OutsideIsland off primary outside) e = cc
-  no_alternate_then outcome (Unrepaired off primary by) e = (primary, off, separated off by)
-  no_alternate_then outcome (Repaired color off primary by) e = cc
+  unrepaired : IsSeparated parts failure q → IsRepair parts failure q (Some None)
+  unrepaired is =
+      let both = sound is.at is.to is.inside.place is.inside.destination in
+      IsInside is.at is.to None is.inside.place is.inside.destination
+      (rw is.failed (OnBoth is.x is.separates.between (is.separates.on_every_walk _ both.blue.ends_at_t) (is.separates.on_every_walk _ both.red.ends_at_t)))
 
   -- what cuts the hop of a packet that entered on a color is on the color's walk
   used : IsCutOff parts failure q → (color : Color) → q.mode ≡ modes.Entered color → IsOnWalk parts failure q color
-  used off color mode = go failure refl off.cut
-    where
-      left : IsLeft parts color q
-      left = left_now parts are color q rows lives.kept going (λ primary. cc)
+  used off color mode =
+      let left = left_now parts are color q rows lives.kept going (λ primary. cc) in
+      let ahead = (step_on parts are small color q lives.kept going left off.hop (color_hop_of parts color q.mode q.place q.to off.hop (inl mode) off.has.is)).ahead failure off.cut in
+      record {
+        at = left.n;
+        to = left.d;
+        inside = record { place = left.at; destination = left.to };
+        x = ahead.x;
+        failed = ahead.is;
+        uses = on_walk parts are color left.d left.n left.hops (node_within parts are q.place left.n left.at) left.follows left.differ ahead.x (on_ahead left.n left.hops ahead.x ahead.ahead);
+      }
 
-      go : (failure' : Option Failure) → failure ≡ failure' → IsCut failure' off.hop → IsOnWalk parts failure q color
-      go None kept cut = absurd cut
-      go (Some failed) kept cut =
-          let on = step_on parts are small color q lives.kept going left off.hop (color_hop_of parts color q.mode q.place q.to off.hop (inl mode) off.has.is) in
-          let ahead = on.ahead failed cut in
-          record {
-            at = left.n;
-            to = left.d;
-            inside = record { place = left.at; destination = left.to };
-            x = ahead.x;
-            failed = (failed, kept, ahead.is);
-            uses = on_walk parts are color left.d left.n left.hops (node_within parts are q.place left.n left.at) left.follows left.differ ahead.x (on_ahead left.n left.hops ahead.x ahead.ahead);
-          }
+  -- the tables' reasons are the causes
+  cause : (loss : Loss) → Why parts failure q loss → Cause parts failure q loss
+  cause Inside why = why
+  cause NoRoute why = why
+  cause IsDestination why = why
+  cause ColorCut why = (entered_on q.mode refl why.0 why.1, why.1)
+  cause Outside (primary, off, IsOutside out) = (primary, off, out)
+  cause NoAlternate why = (why.0, why.1, separated why.1 why.2)
 
-  pub caused : (outcome : Outcome) → IsHandled parts failure q outcome → LossCauses parts failure q outcome
-  caused outcome handled = record {
-    inside = (inside_then outcome handled, λ is. one (Lost losses.Inside) (AtFailed is));
-    no_route = (no_route_then outcome handled, λ why. one (Lost losses.NoRoute) (Unreachable why.1 why.0 why.2));
-    destination = (destination_then outcome handled, λ why. one (Lost losses.IsDestination) (AtDestination why.hop why.has why.cut why.destination));
-    color_cut = (color_then outcome handled, λ why. one (Lost losses.ColorCut) (OnColor why.1 (λ primary. let e = sym why.0.1 ∙ primary in cc)));
-    color_used = λ lost color mode. used (color_then outcome handled lost).1 color mode;
-    outside = (outside_then outcome handled, λ why. one (Lost losses.Outside) (OutsideIsland why.1 why.0 why.2));
-    no_alternate = (no_alternate_then outcome handled, λ why. one (Lost losses.NoAlternate) (Unrepaired why.1 why.0 (unrepaired why.2)));
-  }
-    where
-      one : (other : Outcome) → IsHandled parts failure q other → outcome ≡ other
-      one other is = one_outcome parts are failure q outcome other handled is
+  module _ (outcome : Outcome) (is : IsHandled parts failure q outcome) where
+    why_lost : (loss : Loss) → outcome ≡ Lost loss → Why parts failure q loss
+    why_lost loss = go (becomes parts failure q outcome is)
+      where
+        go : {o : Outcome} → Becomes parts failure q o → o ≡ Lost loss → Why parts failure q loss
+        go (Moves hop is other) lost = cc
+        go (Arrives hop is here) lost = cc
+        go (IsLost l why) lost = subst (λ (x : Loss). Why parts failure q x) (cc) why
+        go (IsSwitched color primary off by) lost = cc
+
+    has_hop : (hop : NextHop) → HasHop parts failure q hop → outcome ≡ sent q hop (cuts failure hop) (has_failed failure q.to) is.repair
+    has_hop hop has =
+        is.is
+        ∙ (rw (false_from_ne_true (has_failed failure q.place) (λ at. has.stands ((failed_is failure q.place).0 at)), one_hop_or_none parts are q.mode q.place q.to is.hop (Some hop) is.hop_is has.is) refl)
+
+    cut_off : (off : IsCutOff parts failure q) → outcome ≡ repaired q.mode is.repair
+    cut_off off =
+        has_hop off.hop off.has ∙ (rw (off.cut, false_from_ne_true (has_failed failure q.to) (λ at. off.other ((failed_is failure q.to).0 at))) refl)
+
+    repair_is : (repair : Option (Option Color)) → IsRepair parts failure q repair → is.repair ≡ repair
+    repair_is repair by = one_repair parts failure q is.repair repair is.repair_is by
+
+    lost : (loss : Loss) → Cause parts failure q loss → outcome ≡ Lost loss
+    lost Inside at = is.is ∙ (rw ((failed_is failure q.place).1 at) refl)
+    lost NoRoute (primary, stands, none) =
+        is.is
+        ∙ (rw (false_from_ne_true (has_failed failure q.place) (λ at. stands ((failed_is failure q.place).0 at)), one_hop_or_none parts are q.mode q.place q.to is.hop None is.hop_is (primary, none)) refl)
+    lost IsDestination why = has_hop why.hop why.has ∙ (rw (why.cut, (failed_is failure q.to).1 why.destination) refl)
+    lost ColorCut (entered, off) = cut_off off ∙ (rw entered.1 refl)
+    lost Outside (primary, off, out) = cut_off off ∙ (rw (primary, repair_is None (IsOutside out)) refl)
+    lost NoAlternate (primary, off, separates) = cut_off off ∙ (rw (primary, repair_is (Some None) (unrepaired separates)) refl)
+
+    pub caused : LossCauses parts failure q outcome
+    caused = record {
+      each = λ loss. (λ is. cause loss (why_lost loss is), lost loss);
+      color_used = λ is color mode. used (why_lost ColorCut is).1 color mode;
+    }
 
 -- a step that is answered handles a packet that is going
 handled_by : (parts : FabricParts) (failure : Option Failure) (there : Option Packet) (packet : Packet) (answer : Answer) (outcome : Outcome) → there ≡ Some packet

@@ -1,134 +1,26 @@
 -- A step of a packet has one outcome, and an event has one answer.
-use Rattle.std.proofs.Common.{◌≡◌, ◌≢◌, ◌⊎◌, ◌∙◌, ℕ, List, [], ◌∷◌, Option, Some, None, Ok, length, slice_get, inl, inr, refl, sym, ap, subst, arith}
-use Rattle.std.proofs.lemmas.Option.{same_Some}
+use Rattle.std.proofs.Common.{◌≡◌, ◌∙◌, ℕ, List, [], ◌∷◌, Option, Some, None, Ok, slice_get, refl, sym, ap, subst, arith}
 use Rattle.fabric.specs.Answers.{Answered, FailedBefore, GetsNumber, HasEnded, IsAnswer, IsFailAnswer, IsInjectAnswer, IsKept, IsStepAnswer, MayNotEnter, NoPacket, NoRoom, NotThere}
-use Rattle.fabric.specs.FabricParts.{ArePartsKept, FabricParts, element_at, node_at}
+use Rattle.fabric.specs.FabricParts.{ArePartsKept, FabricParts}
 use Rattle.fabric.specs.FabricState.{Answer, FabricState, state_after}
 use Rattle.fabric.specs.Runs.{IsRun}
-use Rattle.fabric.specs.Handling.{Arrives, AtDestination, AtFailed, HasHop, IsCutOff, IsHandled, IsRepairedBy, IsUnreachable, Moves, OnColor, OutsideIsland, Repaired, Unreachable, Unrepaired}
-use Rattle.fabric.specs.PacketHop.{IsCut, IsHop, PacketHop}
+use Rattle.fabric.specs.Handling.{IsHandled, handled, has_failed}
 use Rattle.fabric.specs.declared.event.Event.{Event}
 use Rattle.fabric.specs.declared.event.Event.TheVariants.{Fail, Inject, Step}
 use Rattle.fabric.specs.declared.event.Failure.{Failure}
-use Rattle.fabric.specs.declared.event.Failure.TheVariants.{Node}
 use Rattle.fabric.specs.declared.event.Outcome.{Outcome}
-use Rattle.fabric.specs.declared.event.Outcome.TheVariants as outcomes
+use Rattle.fabric.specs.declared.next_hop.NextHop.{NextHop}
 use Rattle.fabric_script.specs.declared.entry.Entry.{Entry}
-use Rattle.fabric.specs.declared.packet.Loss.TheVariants as losses
-use Rattle.fabric.specs.declared.packet.Mode.{Mode}
-use Rattle.fabric.specs.declared.packet.Mode.TheVariants.{Primary}
 use Rattle.fabric.specs.declared.packet.Packet.{Packet}
-use Rattle.fabric.proofs.Nearer.{hop_walks}
-use Rattle.fabric.proofs.OneHop.{one_alternate, one_hop}
-use Rattle.mrt_graph.specs.Alternate.{IsAlternate}
-use Rattle.mrt_graph.specs.declared.cert.Color.{Color}
+use Rattle.fabric.proofs.OneHop.{one_hop_or_none, one_repair}
 
-module _ (parts : FabricParts) (are : ArePartsKept parts) (failure : Option Failure) (q : Packet) where
-  -- the outcome that the alternate gives
-  abbrev by_alternate : Option Color → Outcome
-  by_alternate None = outcomes.Lost losses.NoAlternate
-  by_alternate (Some color) = outcomes.Switched color
-
-  -- the cases after a cut
-  data AfterCut (outcome : Outcome) : Type 0 where
-    Colored : q.mode ≢ Primary → outcome ≡ outcomes.Lost losses.ColorCut → AfterCut outcome
-    Outer : q.mode ≡ Primary → (node_at parts q.place ≡ None) ⊎ (node_at parts q.to ≡ None) → outcome ≡ outcomes.Lost losses.Outside → AfterCut outcome
-    Inner : (answer : Option Color) → q.mode ≡ Primary → IsRepairedBy parts failure q answer → outcome ≡ by_alternate answer → AfterCut outcome
-
-  -- the cases of a step
-  data Case (outcome : Outcome) : Type 0 where
-    Failed : failure ≡ Some (Node q.place) → outcome ≡ outcomes.Lost losses.Inside → Case outcome
-    Away : failure ≢ Some (Node q.place) → q.mode ≡ Primary → IsUnreachable parts.area q.place q.to → outcome ≡ outcomes.Lost losses.NoRoute → Case outcome
-    Uncut : (hop : PacketHop) → HasHop parts failure q hop → ¬ IsCut failure hop
-        → ((hop.next ≢ q.to) × (outcome ≡ outcomes.Moved hop.next)) ⊎ ((hop.next ≡ q.to) × (outcome ≡ outcomes.Delivered q.to)) → Case outcome
-    Ended : (hop : PacketHop) → HasHop parts failure q hop → IsCut failure hop → failure ≡ Some (Node q.to) → outcome ≡ outcomes.Lost losses.IsDestination → Case outcome
-    Cut : IsCutOff parts failure q → AfterCut outcome → Case outcome
-
-  case_of : (outcome : Outcome) → IsHandled parts failure q outcome → Case outcome
-  case_of outcome (AtFailed is) = Failed is refl
-  case_of outcome (Unreachable stands primary none) = Away stands primary none refl
-  case_of outcome (Moves hop has uncut other) = Uncut hop has uncut (inl (other, refl))
-  case_of outcome (Arrives hop has uncut here) = Uncut hop has uncut (inr (here, refl))
-  case_of outcome (AtDestination hop has cut destination) = Ended hop has cut destination refl
-  case_of outcome (OnColor off other) = Cut off (Colored other refl)
-  case_of outcome (OutsideIsland off primary outside) = Cut off (Outer primary outside refl)
-  case_of outcome (Unrepaired off primary by) = Cut off (Inner None primary by refl)
-  case_of outcome (Repaired color off primary by) = Cut off (Inner (Some color) primary by refl)
-
-  same_hop : (hop other : PacketHop) → HasHop parts failure q hop → HasHop parts failure q other → hop ≡ other
-  same_hop hop other has has' = one_hop parts are q.mode q.place q.to hop other has.is has'.is
-
-  no_walk : (hop : PacketHop) → HasHop parts failure q hop → q.mode ≡ Primary → IsUnreachable parts.area q.place q.to → ⊥
-  no_walk hop has primary none =
-      let walk = hop_walks parts are q.place q.to hop (subst (λ (m : Mode). IsHop parts m q.place q.to hop) primary has.is) in none walk.0 walk.1
-
-  same_cut : (hop other : PacketHop) → HasHop parts failure q hop → HasHop parts failure q other → IsCut failure hop → IsCut failure other
-  same_cut hop other has has' cut = subst (λ (h : PacketHop). IsCut failure h) (same_hop hop other has has') cut
-
-  outside_or_not : (answer : Option Color) → (node_at parts q.place ≡ None) ⊎ (node_at parts q.to ≡ None) → IsRepairedBy parts failure q answer → ⊥
-  outside_or_not answer (inl none) by = let e = sym none ∙ by.place in cc
-  outside_or_not answer (inr none) by = let e = sym none ∙ by.destination in cc
-
-  same_answer : (answer other : Option Color) → IsRepairedBy parts failure q answer → IsRepairedBy parts failure q other → answer ≡ other
-  same_answer answer other by by' =
-      let at : by.at ≡ by'.at = same_Some _ _ (sym by.place ∙ by'.place) in
-      let to : by.to ≡ by'.to = same_Some _ _ (sym by.destination ∙ by'.destination) in
-      let failed : by.failed ≡ by'.failed = same_Some _ _ (sym by.kept ∙ by'.kept) in
-      let there : IsAlternate parts.island.links (length parts.island.ids) parts.rows by'.at by'.to (element_at parts by'.failed) answer =
-      subst (λ (f : Failure). IsAlternate parts.island.links (length parts.island.ids) parts.rows by'.at by'.to (element_at parts f) answer) failed
-      (subst (λ (y : ℕ). IsAlternate parts.island.links (length parts.island.ids) parts.rows by'.at y (element_at parts by.failed) answer) to
-      (subst (λ (y : ℕ). IsAlternate parts.island.links (length parts.island.ids) parts.rows y by.to (element_at parts by.failed) answer) at by.is)) in
-      one_alternate parts.island.links (length parts.island.ids) parts.rows by'.at by'.to (element_at parts by'.failed) answer other there by'.is
-
-  one_after_cut : (outcome other : Outcome) → AfterCut outcome → AfterCut other → outcome ≡ other
-  one_after_cut outcome other (Colored color is) (Colored color' is') = is ∙ sym is'
-  one_after_cut outcome other (Colored color is) (Outer primary outside is') = absurd (color primary)
-  one_after_cut outcome other (Colored color is) (Inner answer primary by is') = absurd (color primary)
-  one_after_cut outcome other (Outer primary outside is) (Colored color is') = absurd (color primary)
-  one_after_cut outcome other (Outer primary outside is) (Outer primary' outside' is') = is ∙ sym is'
-  one_after_cut outcome other (Outer primary outside is) (Inner answer primary' by is') = absurd (outside_or_not answer outside by)
-  one_after_cut outcome other (Inner answer primary by is) (Colored color is') = absurd (color primary)
-  one_after_cut outcome other (Inner answer primary by is) (Outer primary' outside is') = absurd (outside_or_not answer outside by)
-  one_after_cut outcome other (Inner answer primary by is) (Inner answer' primary' by' is') = is ∙ ap by_alternate (same_answer answer answer' by by') ∙ sym is'
-
-  one_case : (outcome other : Outcome) → Case outcome → Case other → outcome ≡ other
-  one_case outcome other (Failed at is) (Failed at' is') = is ∙ sym is'
-  one_case outcome other (Failed at is) (Away stands primary none is') = absurd (stands at)
-  one_case outcome other (Failed at is) (Uncut hop has uncut is') = absurd (has.stands at)
-  one_case outcome other (Failed at is) (Ended hop has cut destination is') = absurd (has.stands at)
-  one_case outcome other (Failed at is) (Cut off after) = absurd (off.has.stands at)
-  one_case outcome other (Away stands primary none is) (Failed at is') = absurd (stands at)
-  one_case outcome other (Away stands primary none is) (Away stands' primary' none' is') = is ∙ sym is'
-  one_case outcome other (Away stands primary none is) (Uncut hop has uncut is') = absurd (no_walk hop has primary none)
-  one_case outcome other (Away stands primary none is) (Ended hop has cut destination is') = absurd (no_walk hop has primary none)
-  one_case outcome other (Away stands primary none is) (Cut off after) = absurd (no_walk off.hop off.has primary none)
-  one_case outcome other (Uncut hop has uncut is) (Failed at is') = absurd (has.stands at)
-  one_case outcome other (Uncut hop has uncut is) (Away stands primary none is') = absurd (no_walk hop has primary none)
-  one_case outcome other (Uncut hop has uncut is) (Uncut hop' has' uncut' is') = let same = same_hop hop hop' has has' in elim is [
-    | inl moves ↦ elim is' [
-      | inl moves' ↦ moves.1 ∙ ap (λ (h : PacketHop). outcomes.Moved h.next) same ∙ sym moves'.1
-      | inr arrives' ↦ absurd (moves.0 (ap (λ (h : PacketHop). h.next) same ∙ arrives'.0))
-    ]
-    | inr arrives ↦ elim is' [
-      | inl moves' ↦ absurd (moves'.0 (ap (λ (h : PacketHop). h.next) (sym same) ∙ arrives.0))
-      | inr arrives' ↦ arrives.1 ∙ sym arrives'.1
-    ]
-  ]
-  one_case outcome other (Uncut hop has uncut is) (Ended hop' has' cut destination is') = absurd (uncut (same_cut hop' hop has' has cut))
-  one_case outcome other (Uncut hop has uncut is) (Cut off after) = absurd (uncut (same_cut off.hop hop off.has has off.cut))
-  one_case outcome other (Ended hop has cut destination is) (Failed at is') = absurd (has.stands at)
-  one_case outcome other (Ended hop has cut destination is) (Away stands primary none is') = absurd (no_walk hop has primary none)
-  one_case outcome other (Ended hop has cut destination is) (Uncut hop' has' uncut is') = absurd (uncut (same_cut hop hop' has has' cut))
-  one_case outcome other (Ended hop has cut destination is) (Ended hop' has' cut' destination' is') = is ∙ sym is'
-  one_case outcome other (Ended hop has cut destination is) (Cut off after) = absurd (off.other destination)
-  one_case outcome other (Cut off after) (Failed at is') = absurd (off.has.stands at)
-  one_case outcome other (Cut off after) (Away stands primary none is') = absurd (no_walk off.hop off.has primary none)
-  one_case outcome other (Cut off after) (Uncut hop has uncut is') = absurd (uncut (same_cut off.hop hop off.has has off.cut))
-  one_case outcome other (Cut off after) (Ended hop has cut destination is') = absurd (off.other destination)
-  one_case outcome other (Cut off after) (Cut off' after') = one_after_cut outcome other after after'
-
-  pub one_outcome : (outcome other : Outcome) → IsHandled parts failure q outcome → IsHandled parts failure q other → outcome ≡ other
-  one_outcome outcome other is is' = one_case outcome other (case_of outcome is) (case_of other is')
+pub one_outcome : (parts : FabricParts) → ArePartsKept parts → (failure : Option Failure) (q : Packet) (outcome other : Outcome) → IsHandled parts failure q outcome → IsHandled parts failure q other
+    → outcome ≡ other
+one_outcome parts are failure q outcome other is is' =
+    is.is
+    ∙ ap (λ (h : Option NextHop). handled failure q (has_failed failure q.place) h is.repair) (one_hop_or_none parts are q.mode q.place q.to is.hop is'.hop is.hop_is is'.hop_is)
+    ∙ ap (handled failure q (has_failed failure q.place) is'.hop) (one_repair parts failure q is.repair is'.repair is.repair_is is'.repair_is)
+    ∙ sym is'.is
 
 one_inject_answer : (parts : FabricParts) (state : FabricState) (at to : ℕ) (entry : Entry) (answer other : Answer)
     → IsInjectAnswer parts state at to entry answer → IsInjectAnswer parts state at to entry other → answer ≡ other
@@ -155,25 +47,18 @@ one_fail_answer parts failure failed answer other (IsKept has none) (FailedBefor
 one_fail_answer parts failure failed answer other (IsKept has none) (IsKept has' none') = refl
 
 module _ (parts : FabricParts) (are : ArePartsKept parts) where
-  pub one_step_answer : (failure : Option Failure) (there there' : Option Packet) (answer other : Answer) → there ≡ there' → IsStepAnswer parts failure there answer
-      → IsStepAnswer parts failure there' other → answer ≡ other
-  one_step_answer failure there there' answer other same NoPacket NoPacket = refl
-  one_step_answer failure there there' answer other same NoPacket (HasEnded q ended) = cc
-  one_step_answer failure there there' answer other same NoPacket (Answered q outcome going handled) = cc
-  one_step_answer failure there there' answer other same (HasEnded q ended) NoPacket = cc
-  one_step_answer failure there there' answer other same (HasEnded q ended) (HasEnded q' ended') = refl
-  one_step_answer failure there there' answer other same (HasEnded q ended) (Answered q' outcome going handled) =
-      absurd (ended (ap (λ (x : Packet). x.state) (same_Some q q' same) ∙ going))
-  one_step_answer failure there there' answer other same (Answered q outcome going handled) NoPacket = cc
-  one_step_answer failure there there' answer other same (Answered q outcome going handled) (HasEnded q' ended) =
-      absurd (ended (ap (λ (x : Packet). x.state) (sym (same_Some q q' same)) ∙ going))
-  one_step_answer failure there there' answer other same (Answered q outcome going handled) (Answered q' outcome' going' handled') =
-      ap (λ (o : Outcome). Ok o)
-      (one_outcome parts are failure q' outcome outcome' (subst (λ (x : Packet). IsHandled parts failure x outcome) (same_Some q q' same) handled) handled')
+  pub one_step_answer : (failure : Option Failure) (there : Option Packet) (answer other : Answer) → IsStepAnswer parts failure there answer → IsStepAnswer parts failure there other
+      → answer ≡ other
+  one_step_answer failure None answer other NoPacket NoPacket = refl
+  one_step_answer failure (Some q) answer other (HasEnded _ ended) (HasEnded _ ended') = refl
+  one_step_answer failure (Some q) answer other (HasEnded _ ended) (Answered _ outcome going is) = absurd (ended going)
+  one_step_answer failure (Some q) answer other (Answered _ outcome going is) (HasEnded _ ended) = absurd (ended going)
+  one_step_answer failure (Some q) answer other (Answered _ outcome going is) (Answered _ outcome' going' is') =
+      ap (λ (o : Outcome). Ok o) (one_outcome parts are failure q outcome outcome' is is')
 
   pub one_answer : (state : FabricState) (event : Event) (answer other : Answer) → IsAnswer parts state event answer → IsAnswer parts state event other → answer ≡ other
   one_answer state (Inject at to entry) answer other is is' = one_inject_answer parts state at to entry answer other is is'
-  one_answer state (Step p) answer other is is' = one_step_answer state.failure (slice_get state.packets p) (slice_get state.packets p) answer other refl is is'
+  one_answer state (Step p) answer other is is' = one_step_answer state.failure (slice_get state.packets p) answer other is is'
   one_answer state (Fail failed) answer other is is' = one_fail_answer parts state.failure failed answer other is is'
 
   pub one_run : (state : FabricState) (events : List Event) (answers others : List Answer) (end other : FabricState) → IsRun parts state events answers end

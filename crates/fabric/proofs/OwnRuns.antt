@@ -36,7 +36,7 @@ module _ (parts : FabricParts) (are : ArePartsKept parts) where
       let here : one.0 ≡ other.0 = same_Some _ _ (sym one.1 ∙ other.1) in
       let a = one.2.0 in
       let b = other.2.0 in
-      let same : a ≡ b = one_step_answer parts are failure (Some one.0) (Some other.0) a b (ap (λ (q : Packet). Some q) here) one.2.1.2 other.2.1.2 in
+      let same : a ≡ b = one_step_answer parts are failure (Some other.0) a b (subst (λ (q : Packet). IsStepAnswer parts failure (Some q) a) here one.2.1.2) other.2.1.2 in
       let on : OwnRun parts failure (Some (answered b other.0)) events one.2.1.0 =
       subst (λ (x : Answer). OwnRun parts failure (Some (answered x other.0)) events one.2.1.0) same
       (subst (λ (q : Packet). OwnRun parts failure (Some (answered a q)) events one.2.1.0) here one.2.1.3) in

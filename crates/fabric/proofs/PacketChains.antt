@@ -1,16 +1,18 @@
 -- What a packet is after a step, and after many.
-use Rattle.std.proofs.Common.{◌≡◌, ◌≢◌, ◌⊎◌, ◌∙◌, List, [], ◌∷◌, Option, inl, inr, refl, sym, ap, subst}
+use Rattle.std.proofs.Common.{◌≡◌, ◌≢◌, ◌⊎◌, ◌∙◌, List, [], ◌∷◌, Option, Ok, inl, inr, refl, sym, ap, subst}
 use Rattle.std.specs.Prelude.{IsSome}
 use Rattle.fabric.specs.Course.{KeepsMode}
 use Rattle.fabric.specs.FabricParts.{ArePartsKept, AreRowsFor, FabricParts, node_at}
 use Rattle.fabric.specs.FabricState.{packet_after}
-use Rattle.fabric.specs.Handling.{Arrives, AtDestination, AtFailed, IsHandled, Moves, OnColor, OutsideIsland, Repaired, Unreachable, Unrepaired}
+use Rattle.fabric.specs.Handling.{IsHandled, IsInside}
 use Rattle.fabric.specs.KeptState.{IsKeptPacket}
-use Rattle.fabric.specs.PacketHop.{IsHop, PacketHop}
+use Rattle.fabric.specs.OutcomeText.{IsTellable}
+use Rattle.fabric.specs.PacketHop.{IsHop}
 use Rattle.fabric.specs.declared.event.Failure.{Failure}
 use Rattle.fabric.specs.declared.event.Outcome.{Outcome}
+use Rattle.fabric.specs.declared.event.Outcome.TheVariants as outcomes
+use Rattle.fabric.specs.declared.next_hop.NextHop.{NextHop}
 use Rattle.fabric.specs.declared.packet.Loss.{Loss}
-use Rattle.fabric.specs.declared.packet.Loss.TheVariants as losses
 use Rattle.fabric.specs.declared.packet.Mode.{Mode}
 use Rattle.fabric.specs.declared.packet.Mode.TheVariants as modes
 use Rattle.fabric.specs.declared.packet.Packet.{Packet}
@@ -18,28 +20,27 @@ use Rattle.fabric.specs.declared.packet.State.TheVariants as states
 use Rattle.fabric.proofs.Life.{IsLeft, color_hop_of, ended_kept, inside_is, step_on}
 use Rattle.fabric.proofs.LifeSteps.{color_kept, delivered_kept, moved_kept, router_there, some_inside, switched_kept, whole_way}
 use Rattle.fabric.proofs.Nearer.{nearer_hop}
+use Rattle.fabric.proofs.Outcomes.{Arrives, Becomes, IsLost, IsSwitched, Moves, becomes}
 use Rattle.fabric.proofs.SmallIslands.{island_small}
 use Rattle.mrt_graph.specs.declared.cert.Color.{Color}
 
 -- what a step makes of a packet: it moves, it is delivered, it is lost, or it is switched
 pub data Next (parts : FabricParts) (q r : Packet) : Type 0 where
-  ByMove : (hop : PacketHop) → IsHop parts q.mode q.place q.to hop → hop.next ≢ q.to → r ≡ record q { place = hop.next } → Next parts q r
-  ByArrival : (hop : PacketHop) → IsHop parts q.mode q.place q.to hop → hop.next ≡ q.to → r ≡ record q { place = q.to; state = states.Delivered } → Next parts q r
+  ByMove : (hop : NextHop) → IsHop parts q.mode q.place q.to hop → hop.next ≢ q.to → r ≡ record q { place = hop.next } → Next parts q r
+  ByArrival : (hop : NextHop) → IsHop parts q.mode q.place q.to hop → hop.next ≡ q.to → r ≡ record q { place = q.to; state = states.Delivered } → Next parts q r
   ByLoss : (loss : Loss) → r ≡ record q { state = states.Lost loss } → Next parts q r
   BySwitch : (color : Color) → q.mode ≡ modes.Primary → IsSome (node_at parts q.place) → IsSome (node_at parts q.to)
       → r ≡ record q { mode = modes.Switched color } → Next parts q r
 
 pub next_of : (parts : FabricParts) (failure : Option Failure) (q : Packet) (outcome : Outcome) → IsHandled parts failure q outcome → Next parts q (packet_after outcome q)
-next_of parts failure q outcome (AtFailed is) = ByLoss losses.Inside refl
-next_of parts failure q outcome (Unreachable stands primary none) = ByLoss losses.NoRoute refl
-next_of parts failure q outcome (Moves hop has uncut other) = ByMove hop has.is other refl
-next_of parts failure q outcome (Arrives hop has uncut here) = ByArrival hop has.is here refl
-next_of parts failure q outcome (AtDestination hop has there destination) = ByLoss losses.IsDestination refl
-next_of parts failure q outcome (OnColor off other) = ByLoss losses.ColorCut refl
-next_of parts failure q outcome (OutsideIsland off primary outside) = ByLoss losses.Outside refl
-next_of parts failure q outcome (Unrepaired off primary by) = ByLoss losses.NoAlternate refl
-next_of parts failure q outcome (Repaired color off primary by) =
-    BySwitch color primary (some_inside parts q.place by.at by.place) (some_inside parts q.to by.to by.destination) refl
+next_of parts failure q outcome handled = go (becomes parts failure q outcome handled)
+  where
+    go : {o : Outcome} → Becomes parts failure q o → Next parts q (packet_after o q)
+    go (Moves hop is other) = ByMove hop is other refl
+    go (Arrives hop is here) = ByArrival hop is here refl
+    go (IsLost loss why) = ByLoss loss refl
+    go (IsSwitched color primary off (IsInside at to _ place destination is)) =
+        BySwitch color primary (some_inside parts q.place at place) (some_inside parts q.to to destination) refl
 
 -- a packet, and what one step after another makes of it
 abbrev pub Chain : FabricParts → Packet → List Packet → Type 0
@@ -95,3 +96,17 @@ module _ (parts : FabricParts) (are : ArePartsKept parts) where
   kept_next q r rows kept going (ByLoss loss same) = subst (λ (p : Packet). IsKeptPacket parts p) (sym same) (ended_kept parts are (island_small parts are) q kept loss)
   kept_next q r rows kept going (BySwitch color primary place to same) =
       subst (λ (p : Packet). IsKeptPacket parts p) (sym same) (switched_kept parts are (island_small parts are) q color kept place to)
+
+-- the node in an outcome is a node of the area
+pub outcome_tellable : (parts : FabricParts) → ArePartsKept parts → (failure : Option Failure) (q : Packet) → AreRowsFor parts q.to → IsKeptPacket parts q → q.state ≡ states.Going
+    → (outcome : Outcome) → IsHandled parts failure q outcome → IsTellable parts.area.ids (Ok outcome)
+outcome_tellable parts are failure q rows kept going outcome handled =
+    go outcome (kept_next parts are q (packet_after outcome q) rows kept going (next_of parts failure q outcome handled))
+  where
+    go : (o : Outcome) → IsKeptPacket parts (packet_after o q) → IsTellable parts.area.ids (Ok o)
+    go (outcomes.Entered number) after = tt
+    go (outcomes.Moved x) after = after.place
+    go (outcomes.Switched color) after = tt
+    go (outcomes.Delivered x) after = after.place
+    go (outcomes.Lost loss) after = tt
+    go outcomes.Failed after = tt

@@ -8,7 +8,8 @@ use Rattle.std.proofs.lemmas.Option.{same_Some}
 use Rattle.fabric.specs.Course.{KeepsMode, is_lost, is_on_color, is_primary, visits}
 use Rattle.fabric.specs.FabricParts.{ArePartsKept, AreRowsFor, FabricParts, node_at}
 use Rattle.fabric.specs.KeptState.{IsKeptPacket}
-use Rattle.fabric.specs.PacketHop.{IsHop, PacketHop}
+use Rattle.fabric.specs.PacketHop.{IsHop}
+use Rattle.fabric.specs.declared.next_hop.NextHop.{NextHop}
 use Rattle.fabric.specs.declared.packet.Mode.{Mode}
 use Rattle.fabric.specs.declared.packet.Mode.TheVariants as modes
 use Rattle.fabric.specs.declared.packet.Packet.{Packet}
@@ -95,13 +96,13 @@ module _ (parts : FabricParts) (are : ArePartsKept parts) where
   later_primary q [] chain kept rows mode y has = absurd has
   later_primary q (r ∷ rest) chain kept rows mode y has = go chain.1 (visit_cases is_primary r rest y has) (later_primary r rest chain.2 (kept_next parts are q r rows kept chain.0 chain.1) (rows_next parts q r chain.1 rows))
     where
-      near_of : (hop : PacketHop) → IsHop parts q.mode q.place q.to hop → Nearer parts q.place q.to hop
+      near_of : (hop : NextHop) → IsHop parts q.mode q.place q.to hop → Nearer parts q.place q.to hop
       near_of hop is = nearer_hop parts are q.place q.to hop (kept.router chain.0) (subst (λ (m : Mode). IsHop parts m q.place q.to hop) mode is)
 
-      one : (hop : PacketHop) (near : Nearer parts q.place q.to hop) → hop.next ≡ y → IsFarther parts q.to q.place y
+      one : (hop : NextHop) (near : Nearer parts q.place q.to hop) → hop.next ≡ y → IsFarther parts q.to q.place y
       one hop near same = subst (λ (v : ℕ). IsFarther parts q.to q.place v) same (record { far = near.distance; far_is = near.is; near = near.rest; near_is = near.rest_is; falls = near.falls })
 
-      on : (hop : PacketHop) (near : Nearer parts q.place q.to hop) → IsFarther parts q.to hop.next y → IsFarther parts q.to q.place y
+      on : (hop : NextHop) (near : Nearer parts q.place q.to hop) → IsFarther parts q.to hop.next y → IsFarther parts q.to q.place y
       on hop near f =
           let same : f.far ≡ near.rest = one_distance parts.area.arcs hop.next q.to f.far near.rest f.far_is near.rest_is in
           let less = f.falls in
@@ -134,10 +135,10 @@ module _ (parts : FabricParts) (are : ArePartsKept parts) where
       go chain.1 (visit_cases is_on_color r rest y has)
       (λ mode' left'. later_color color r rest chain.2 (kept_next parts are q r rows kept chain.0 chain.1) (rows_next parts q r chain.1 rows) mode' left' y)
     where
-      on_of : (hop : PacketHop) → IsHop parts q.mode q.place q.to hop → Onward parts color q.to hop left.d left.hops
+      on_of : (hop : NextHop) → IsHop parts q.mode q.place q.to hop → Onward parts color q.to hop left.d left.hops
       on_of hop is = step_on parts are (island_small parts are) color q kept chain.0 left hop (color_hop_of parts color q.mode q.place q.to hop mode is)
 
-      here_is : (hop : PacketHop) (on : Onward parts color q.to hop left.d left.hops) → hop.next ≡ y → (m : ℕ) × (node_at parts y ≡ Some m) × Has (nodes_behind left.hops) m
+      here_is : (hop : NextHop) (on : Onward parts color q.to hop left.d left.hops) → hop.next ≡ y → (m : ℕ) × (node_at parts y ≡ Some m) × Has (nodes_behind left.hops) m
       here_is hop on same = (on.m, subst (λ (v : ℕ). node_at parts v ≡ Some on.m) same on.at, on.nodes on.m (inl refl))
 
       go : Next parts q r → ((is_on_color r.mode ≡ true) × (is_lost r.state ≡ false) × (r.place ≡ y)) ⊎ Has (visits is_on_color rest) y

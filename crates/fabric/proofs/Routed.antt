@@ -1,18 +1,19 @@
 -- What routes answer.
-use Rattle.std.proofs.Common.{◌≡◌, ◌≢◌, ◌<◌, ◌++◌, ℕ, List, Option, Some, None, length, slice_get, sym, subst}
+use Rattle.std.proofs.Common.{◌≡◌, ◌≢◌, ◌<◌, ℕ, Option, Some, None, length, slice_get, sym, subst}
 use Rattle.std.proofs.lemmas.Option.{same_Some, slice_get_within}
 use Rattle.area_graph.specs.Parts.{AreaParts}
 use Rattle.fabric.specs.FabricParts.{ArePartsKept, FabricParts, node_at}
 use Rattle.fabric.specs.Handling.{IsUnreachable}
-use Rattle.fabric.specs.PacketHop.{AreOver, One, Two}
-use Rattle.fabric.specs.declared.event.Failure.{Failure}
 use Rattle.fabric.proofs.Islands.{node_of_id, node_outside}
+use Rattle.mrt_graph.specs.GraphInvariant.{IsNetwork}
+use Rattle.mrt_graph.specs.Topology.{Topology}
 use Rattle.mrt_graph.specs.declared.node_id.NodeId.{NodeId}
 use Rattle.mrt_graph.proofs.ListTests.{there}
 use Rattle.primary_alt.specs.Primaries.{Direct, IsPrimary, Itself, NoWalk, Over}
-use Rattle.primary_alt.specs.RouteLists.{RouteLists}
+use Rattle.primary_alt.specs.RouteLists.{HasColumn, RouteLists, primary_at}
 use Rattle.primary_alt.specs.RoutesMade.{AreMade, IsNodeOf}
 use Rattle.primary_alt.specs.declared.shortest.Primary.{Primary}
+use Rattle.primary_alt.proofs.RouterFacts.{router_from}
 
 module _ (parts : FabricParts) (are : ArePartsKept parts) (routes : RouteLists) (made : AreMade parts.area parts.island routes) where
   pub routed_node : (s : ℕ) (node : Option ℕ) → s < length parts.area.ids → slice_get routes.nodes s ≡ Some node → node ≡ node_at parts s
@@ -25,6 +26,12 @@ module _ (parts : FabricParts) (are : ArePartsKept parts) (routes : RouteLists) 
   pub routed_spot : (n s : ℕ) → n < length parts.island.ids → slice_get routes.spots n ≡ Some s → node_at parts s ≡ Some n
   routed_spot n s within is =
       let id = there parts.island.ids n within in node_of_id parts are s n id.0 (made.spots.same n s id.0 id.1 is) id.1
+
+-- the primary that routes have
+pub routed_primary : (area : AreaParts) (island : Topology) (routes : RouteLists) → AreMade area island routes → (x t : ℕ) → x < length area.ids → ¬ IsNetwork area.ids x → HasColumn routes t
+    → (primary : Primary) → primary_at routes x t ≡ Some primary → IsPrimary area x t (Some primary)
+routed_primary area island routes made x t within router served primary is =
+    subst (λ (o : Option Primary). IsPrimary area x t o) is (made.primaries.routers x t (router_from area.ids x within router) served)
 
 -- a primary's arcs are there
 pub record AreThere (area : AreaParts) (primary : Primary) : Type 0 where
@@ -50,8 +57,3 @@ no_primary area x t entry apart is (Itself same) = absurd (apart same)
 no_primary area x t entry apart is (NoWalk none) = none
 no_primary area x t entry apart is (Direct n arc apart' first direct) = cc
 no_primary area x t entry apart is (Over n k arc onward apart' first over second) = cc
-
--- over one arc and then over another one
-pub over_both : (area : AreaParts) (first second : ℕ) (elements others : List Failure) → AreOver area first None elements → AreOver area second None others
-    → AreOver area first (Some second) (elements ++ others)
-over_both area first second elements others (One arc there) (One onward next) = Two second arc onward there next

@@ -3,10 +3,10 @@ use Rattle.std.proofs.Common.{◌≡◌, ◌∙◌, ℕ, List, [], ◌∷◌, Op
 use Rattle.std.specs.Prelude.{Contains}
 use Rattle.std.specs.Option.{option_and_then}
 use Rattle.fabric.specs.Answers.{Answered, AreInside, FailedBefore, GetsNumber, HasElement, HasEnded, IsAnswer, IsFailAnswer, IsInjectAnswer, IsKept, IsOpen, IsStepAnswer, MayEnter, MayNotEnter, NoPacket, NoRoom, NotThere}
-use Rattle.fabric.specs.FabricParts.{FabricParts, element_at}
+use Rattle.fabric.specs.FabricParts.{FabricParts, element_of}
 use Rattle.fabric.specs.FabricState.{Answer, FabricState, start}
-use Rattle.fabric.specs.Handling.{Arrives, AtDestination, AtFailed, HasHop, IsCutOff, IsHandled, IsRepairedBy, Moves, OnColor, OutsideIsland, Repaired, Unreachable, Unrepaired}
-use Rattle.fabric.specs.PacketHop.{IsColorHop, IsHop, IsOver, OverNetwork, PacketHop, Straight}
+use Rattle.fabric.specs.Handling.{IsHandled, IsHopOrNone, IsInside, IsOutside, IsRepair}
+use Rattle.fabric.specs.PacketHop.{IsColorHop, IsOver, OverNetwork, Straight}
 use Rattle.fabric.specs.Runs.{IsRun}
 use Rattle.fabric.specs.SameRows.{AgreeFor, AgreeOn, with_rows}
 use Rattle.fabric.specs.declared.event.Event.{Event}
@@ -16,6 +16,8 @@ use Rattle.fabric.specs.declared.event.Failure.TheVariants as failures
 use Rattle.fabric.specs.declared.event.Outcome.{Outcome}
 use Rattle.fabric_script.specs.declared.entry.Entry.{Entry}
 use Rattle.fabric_script.specs.declared.entry.Entry.TheVariants as entries
+use Rattle.fabric.specs.declared.next_hop.Crossing.{Crossing}
+use Rattle.fabric.specs.declared.next_hop.NextHop.{NextHop}
 use Rattle.fabric.specs.declared.packet.Mode.{Mode}
 use Rattle.fabric.specs.declared.packet.Mode.TheVariants as modes
 use Rattle.fabric.specs.declared.packet.Packet.{Packet}
@@ -49,9 +51,10 @@ module _ (parts : FabricParts) (rows : Rows) where
   element_too (failures.Node s) has = has
   element_too (failures.Bond b) has = has
 
-  place_too : (failed : Failure) → element_at (with_rows parts rows) failed ≡ element_at parts failed
-  place_too (failures.Node s) = λ i. element_at parts (failures.Node s)
-  place_too (failures.Bond b) = λ i. element_at parts (failures.Bond b)
+  place_too : (failure : Option Failure) → element_of (with_rows parts rows) failure ≡ element_of parts failure
+  place_too None = refl
+  place_too (Some (failures.Node s)) = refl
+  place_too (Some (failures.Bond b)) = refl
 
 module _ (parts : FabricParts) (rows : Rows) where
   fail_too : (failure : Option Failure) (failed : Failure) (answer : Answer) → IsFailAnswer parts failure failed answer
@@ -67,59 +70,47 @@ module _ (parts : FabricParts) (rows : Rows) where
   inject_too state at to entry answer (GetsNumber may room) = GetsNumber (may_too parts rows at to entry may) room
 
   -- hops on a color
-  over_too : (color : Color) (n d b v : ℕ) → ((s : ℕ) → parts.rows s d ≡ rows s d) → IsOver parts color n d b v → IsOver (with_rows parts rows) color n d b v
-  over_too color n d b v same over = record {
+  over_too : (color : Color) (n d : ℕ) (c : Crossing) → ((s : ℕ) → parts.rows s d ≡ rows s d) → IsOver parts color n d c → IsOver (with_rows parts rows) color n d c
+  over_too color n d c same over = record {
     hop = over.hop;
     row = sym (ap (option_and_then (λ (row : Row). hop_over parts.island.links n (link_of_color color row))) (same n)) ∙ over.row;
     link = over.link;
     node = over.node;
   }
 
-  color_too : (color : Color) (x t : ℕ) (hop : PacketHop) → AgreeFor parts rows t → IsColorHop parts color x t hop → IsColorHop (with_rows parts rows) color x t hop
-  color_too color x t hop agree (Straight n d b v at to over direct) = Straight n d b v at to (over_too color n d b v (agree d to) over) direct
-  color_too color x t hop agree (OverNetwork n d b v m bond next at to over network other at_v second) =
-      OverNetwork n d b v m bond next at to (over_too color n d b v (agree d to) over) network other at_v (over_too color m d bond next (agree d to) second)
+  color_too : (color : Color) (x t : ℕ) (hop : NextHop) → AgreeFor parts rows t → IsColorHop parts color x t hop → IsColorHop (with_rows parts rows) color x t hop
+  color_too color x t hop agree (Straight n d first at to over direct) = Straight n d first at to (over_too color n d first (agree d to) over) direct
+  color_too color x t hop agree (OverNetwork n d m first second at to over network other at_v on) =
+      OverNetwork n d m first second at to (over_too color n d first (agree d to) over) network other at_v (over_too color m d second (agree d to) on)
 
-  hop_too : (mode : Mode) (x t : ℕ) (hop : PacketHop) → AgreeFor parts rows t → IsHop parts mode x t hop → IsHop (with_rows parts rows) mode x t hop
-  hop_too modes.Primary x t hop agree is = record { primary = is.primary; is = is.is; elements = is.elements; next = is.next }
-  hop_too (modes.Entered color) x t hop agree is = color_too color x t hop agree is
-  hop_too (modes.Switched color) x t hop agree is = color_too color x t hop agree is
+  hop_too : (mode : Mode) (x t : ℕ) (hop : Option NextHop) → AgreeFor parts rows t → IsHopOrNone parts mode x t hop → IsHopOrNone (with_rows parts rows) mode x t hop
+  hop_too mode x t None agree is = is
+  hop_too modes.Primary x t (Some hop) agree is = record { primary = is.primary; is = is.is; over = is.over }
+  hop_too (modes.Entered color) x t (Some hop) agree is = color_too color x t hop agree is
+  hop_too (modes.Switched color) x t (Some hop) agree is = color_too color x t hop agree is
 
-  module _ (failure : Option Failure) (q : Packet) (agree : AgreeFor parts rows q.to) where
-    has_too : (hop : PacketHop) → HasHop parts failure q hop → HasHop (with_rows parts rows) failure q hop
-    has_too hop has = record { stands = has.stands; is = hop_too q.mode q.place q.to hop agree has.is }
+  repair_too : (failure : Option Failure) (q : Packet) (repair : Option (Option Color)) → AgreeFor parts rows q.to → IsRepair parts failure q repair
+      → IsRepair (with_rows parts rows) failure q repair
+  repair_too failure q repair agree (IsOutside out) = IsOutside out
+  repair_too failure q repair agree (IsInside at to answer place destination is) =
+      IsInside at to answer place destination
+      (rw (place_too parts rows failure)
+      (alternate_too parts.island.links (length parts.island.ids) to parts.rows rows (agree to destination) at (element_of parts failure) answer is))
 
-    off_too : IsCutOff parts failure q → IsCutOff (with_rows parts rows) failure q
-    off_too off = record { hop = off.hop; has = has_too off.hop off.has; cut = off.cut; other = off.other }
-
-    repaired_too : (answer : Option Color) → IsRepairedBy parts failure q answer → IsRepairedBy (with_rows parts rows) failure q answer
-    repaired_too answer by = record {
-      at = by.at;
-      place = by.place;
-      to = by.to;
-      destination = by.destination;
-      failed = by.failed;
-      kept = by.kept;
-      is = rw (place_too parts rows by.failed)
-          (alternate_too parts.island.links (length parts.island.ids) by.to parts.rows rows (agree by.to by.destination) by.at (element_at parts by.failed) answer by.is);
-    }
-
-    handled_too : (outcome : Outcome) → IsHandled parts failure q outcome → IsHandled (with_rows parts rows) failure q outcome
-    handled_too outcome (AtFailed is) = AtFailed is
-    handled_too outcome (Unreachable stands primary none) = Unreachable stands primary none
-    handled_too outcome (Moves hop has uncut other) = Moves hop (has_too hop has) uncut other
-    handled_too outcome (Arrives hop has uncut here) = Arrives hop (has_too hop has) uncut here
-    handled_too outcome (AtDestination hop has cut destination) = AtDestination hop (has_too hop has) cut destination
-    handled_too outcome (OnColor off other) = OnColor (off_too off) other
-    handled_too outcome (OutsideIsland off primary outside) = OutsideIsland (off_too off) primary outside
-    handled_too outcome (Unrepaired off primary by) = Unrepaired (off_too off) primary (repaired_too None by)
-    handled_too outcome (Repaired color off primary by) = Repaired color (off_too off) primary (repaired_too (Some color) by)
+  handled_too : (failure : Option Failure) (q : Packet) (outcome : Outcome) → AgreeFor parts rows q.to → IsHandled parts failure q outcome → IsHandled (with_rows parts rows) failure q outcome
+  handled_too failure q outcome agree is = record {
+    hop = is.hop;
+    hop_is = hop_too q.mode q.place q.to is.hop agree is.hop_is;
+    repair = is.repair;
+    repair_is = repair_too failure q is.repair agree is.repair_is;
+    is = is.is;
+  }
 
   step_too : (failure : Option Failure) (there : Option Packet) (answer : Answer) → ((q : Packet) → there ≡ Some q → AgreeFor parts rows q.to)
       → IsStepAnswer parts failure there answer → IsStepAnswer (with_rows parts rows) failure there answer
   step_too failure there answer agree NoPacket = NoPacket
   step_too failure there answer agree (HasEnded q ended) = HasEnded q ended
-  step_too failure there answer agree (Answered q outcome going handled) = Answered q outcome going (handled_too failure q (agree q refl) outcome handled)
+  step_too failure there answer agree (Answered q outcome going handled) = Answered q outcome going (handled_too failure q outcome (agree q refl) handled)
 
   answer_too : (state : FabricState) (event : Event) (answer : Answer) → EachTo (AgreeFor parts rows) state.packets → IsAnswer parts state event answer
       → IsAnswer (with_rows parts rows) state event answer

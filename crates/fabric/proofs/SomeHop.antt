@@ -1,13 +1,16 @@
 -- A packet on a color has a hop, and for each failure there is an alternate or none.
-use Rattle.std.proofs.Common.{◌≡◌, ◌≢◌, ◌⊎◌, ◌<◌, ◌∙◌, ℕ, List, [], ◌∷◌, Option, Some, None, length, slice_get, inl, inr, refl, sym, ap, subst}
-use Rattle.std.specs.Prelude.{Contains}
+use Rattle.std.proofs.Common.{◌≡◌, ◌≢◌, ◌⊎◌, ◌<◌, ◌∙◌, ℕ, List, [], ◌∷◌, Option, Some, None, length, slice_get, inl, inr, refl, ap}
 use Rattle.std.specs.Option.{option_and_then}
 use Rattle.std.proofs.lemmas.Bool.{cases_Bool, cases_eq}
 use Rattle.std.proofs.lemmas.Option.{slice_get_within}
-use Rattle.fabric.specs.FabricParts.{ArePartsKept, FabricParts, node_at}
-use Rattle.fabric.specs.PacketHop.{IsColorHop, IsCut, IsOver, OverNetwork, PacketHop, Straight}
+use Rattle.fabric.specs.FabricParts.{ArePartsKept, FabricParts, element_of, node_at}
+use Rattle.fabric.specs.Handling.{IsInside, IsOutside, IsRepair}
+use Rattle.fabric.specs.PacketHop.{IsColorHop, IsOver, OverNetwork, Straight}
 use Rattle.fabric.specs.declared.event.Failure.{Failure}
-use Rattle.fabric.specs.declared.event.Failure.TheVariants as failures
+use Rattle.fabric.specs.declared.event.Outcome.{Outcome}
+use Rattle.fabric.specs.declared.next_hop.Crossing.{Crossing}
+use Rattle.fabric.specs.declared.next_hop.NextHop.{NextHop}
+use Rattle.fabric.specs.declared.packet.Packet.{Packet}
 use Rattle.fabric.proofs.ColorWays.{leads_within, next_on}
 use Rattle.fabric.proofs.Islands.{bond_there, one_spot, spot_there}
 use Rattle.mrt_graph.specs.Alternate.{AtEnd, ByBlue, ByRed, IsAlternate, OnBoth, Outside}
@@ -24,43 +27,10 @@ use Rattle.mrt_graph.specs.declared.link.Element.{Element}
 use Rattle.mrt_graph.specs.declared.link.Element.TheVariants as elements
 use Rattle.mrt_graph.specs.declared.link.Link.{Link}
 use Rattle.mrt_graph.proofs.Bridge.{color_leads}
-use Rattle.mrt_graph.proofs.Members.{contains_cases, contains_first, contains_later, contains_none, listed_or_not}
+use Rattle.mrt_graph.proofs.Members.{listed_or_not}
 use Rattle.mrt_graph.proofs.Trails.{Follows}
 use Rattle.primary_alt.specs.Offers.{is_network}
 use Rattle.primary_alt.proofs.ArcWalks.{network_by_test, no_network_by_test}
-
-pub same_failure_or_not : (one other : Failure) → (one ≡ other) ⊎ (one ≡ other → ⊥)
-same_failure_or_not (failures.Node s) (failures.Node v) = elim (cases_eq s v) [
-  | inl same ↦ inl (ap (λ (y : ℕ). failures.Node y) same)
-  | inr other ↦ inr (λ same. other (cc))
-]
-same_failure_or_not (failures.Node s) (failures.Bond b) = inr (λ same. cc)
-same_failure_or_not (failures.Bond b) (failures.Node s) = inr (λ same. cc)
-same_failure_or_not (failures.Bond b) (failures.Bond e) = elim (cases_eq b e) [
-  | inl same ↦ inl (ap (λ (y : ℕ). failures.Bond y) same)
-  | inr other ↦ inr (λ same. other (cc))
-]
-
-pub kept_or_not : (failure : Option Failure) (failed : Failure) → (failure ≡ Some failed) ⊎ (failure ≡ Some failed → ⊥)
-kept_or_not None failed = inr (λ same. cc)
-kept_or_not (Some kept) failed = elim (same_failure_or_not kept failed) [
-  | inl same ↦ inl (ap (λ (f : Failure). Some f) same)
-  | inr other ↦ inr (λ same. other (cc))
-]
-
-among_or_not : (failed : Failure) (xs : List Failure) → Contains xs failed ⊎ (Contains xs failed → ⊥)
-among_or_not failed [] = inr (λ among. contains_none failed among)
-among_or_not failed (x ∷ xs) = elim (same_failure_or_not failed x) [
-  | inl same ↦ inl (subst (λ (f : Failure). Contains (x ∷ xs) f) (sym same) (contains_first x xs))
-  | inr other ↦ elim (among_or_not failed xs) [
-    | inl later ↦ inl (contains_later x failed xs later)
-    | inr nowhere ↦ inr (λ among. elim (contains_cases x failed xs among) [ inl same ↦ other same | inr later ↦ nowhere later ])
-  ]
-]
-
-pub cut_or_not : (failure : Option Failure) (hop : PacketHop) → IsCut failure hop ⊎ (IsCut failure hop → ⊥)
-cut_or_not None hop = inr (λ cut. cut)
-cut_or_not (Some failed) hop = among_or_not failed hop.elements
 
 uses_or_not : (links : List Link) (s : ℕ) (walk : List ℕ) (x : Element) → Uses links s walk x ⊎ (Uses links s walk x → ⊥)
 uses_or_not links s walk (elements.Link e) = listed_or_not walk e
@@ -73,7 +43,7 @@ between_or_not (elements.Node y) s t = elim (cases_eq y s) [
   | inr other ↦ elim (cases_eq y t) [ inl same ↦ inr (λ between. between.1 same) | inr other' ↦ inl (other, other') ]
 ]
 
-pub some_alternate : (links : List Link) (n : ℕ) (rows : Rows) (s t : ℕ) (failed : Option Element) → (answer : Option Color) × IsAlternate links n rows s t failed answer
+some_alternate : (links : List Link) (n : ℕ) (rows : Rows) (s t : ℕ) (failed : Option Element) → (answer : Option Color) × IsAlternate links n rows s t failed answer
 some_alternate links n rows s t None = (Some Blue, Outside)
 some_alternate links n rows s t (Some x) = elim (between_or_not x s t) [
   | inr end ↦ (None, AtEnd x end)
@@ -94,35 +64,46 @@ link_there links e s v is = go (slice_get links e) refl is
     go None there is = cc
     go (Some link) there is = slice_get_within links e link there
 
-module _ (parts : FabricParts) (are : ArePartsKept parts) (color : Color) where
-  -- the bond and the node of a hop on a color
-  record IsFound (n d : ℕ) (h : Hop) : Type 0 where
-    b : ℕ
-    v : ℕ
-    over : IsOver parts color n d b v
-    at : node_at parts v ≡ Some h.to
+-- for each packet there is a repair, or its place or its destination is outside
+pub some_repair : (parts : FabricParts) (failure : Option Failure) (q : Packet) → (repair : Option (Option Color)) × IsRepair parts failure q repair
+some_repair parts failure q = go (node_at parts q.place) (node_at parts q.to) refl refl
+  where
+    go : (n d : Option ℕ) → node_at parts q.place ≡ n → node_at parts q.to ≡ d → (repair : Option (Option Color)) × IsRepair parts failure q repair
+    go None d at to = (None, IsOutside (inl at))
+    go (Some n) None at to = (None, IsOutside (inr to))
+    go (Some n) (Some d) at to =
+        let by = some_alternate parts.island.links (length parts.island.ids) parts.rows n d (element_of parts failure) in (Some by.0, IsInside n d by.0 at to by.1)
 
-  found : (n d : ℕ) (h : Hop) → next_on parts color d n ≡ Some h → IsFound n d h
+-- what holds whatever the repair is
+pub by_any : (parts : FabricParts) (failure : Option Failure) (q : Packet) (outcome : Outcome) (table : Option (Option Color) → Outcome) → ((repair : Option (Option Color)) → outcome ≡ table repair)
+    → (repair : Option (Option Color)) × IsRepair parts failure q repair × (outcome ≡ table repair)
+by_any parts failure q outcome table same = let repair = some_repair parts failure q in (repair.0, repair.1, same repair.0)
+
+module _ (parts : FabricParts) (are : ArePartsKept parts) (color : Color) where
+  -- the crossing of a hop on a color
+  found : (n d : ℕ) (h : Hop) → next_on parts color d n ≡ Some h → (c : Crossing) × IsOver parts color n d c × (node_at parts c.node ≡ Some h.to)
   found n d h row =
       let on = color_leads parts.island.links parts.rows color d n h row in
       let bond = bond_there parts are h.link (link_there parts.island.links h.link n h.to on) in
       let spot = spot_there parts are h.to (leads_within parts are h.link n h.to on) in
-      record { b = bond.0; v = spot.0; over = record { hop = h; row = row; link = bond.1; node = spot.1 }; at = spot.1 }
+      (record { bond = bond.0; node = spot.0 }, record { hop = h; row = row; link = bond.1; node = spot.1 }, spot.1)
 
   pub some_color_hop : (x t n d : ℕ) (hops : List Hop) → node_at parts x ≡ Some n → node_at parts t ≡ Some d → x ≢ t → Follows (next_on parts color d) d n hops
-      → (hop : PacketHop) × IsColorHop parts color x t hop
+      → (hop : NextHop) × IsColorHop parts color x t hop
   some_color_hop x t n d [] at to apart f = absurd (apart (one_spot parts are x t d (at ∙ ap (λ (y : ℕ). Some y) f) to))
-  some_color_hop x t n d (h ∷ rest) at to apart f =
-      let one = found n d h f.1.0 in
-      elim (cases_Bool (is_network parts.area.ids one.v)) [
-        | inr router ↦ (_, Straight n d one.b one.v at to one.over (λ both. no_network_by_test parts.area.ids one.v router both.0))
-        | inl network ↦ elim (cases_eq one.v t) [
-          | inl here ↦ (_, Straight n d one.b one.v at to one.over (λ both. both.1 here))
-          | inr other ↦ go rest one f.1.1 (network_by_test parts.area.ids one.v network) other
+  some_color_hop x t n d (h ∷ rest) at to apart f = go (found n d h f.1.0) rest f.1.1
+    where
+      go : (one : (c : Crossing) × IsOver parts color n d c × (node_at parts c.node ≡ Some h.to)) (rest : List Hop) → Follows (next_on parts color d) d h.to rest
+          → (hop : NextHop) × IsColorHop parts color x t hop
+      go one rest f = elim (cases_Bool (is_network parts.area.ids one.0.node)) [
+        | inr router ↦ (_, Straight n d one.0 at to one.1 (λ both. no_network_by_test parts.area.ids one.0.node router both.0))
+        | inl network ↦ elim (cases_eq one.0.node t) [
+          | inl here ↦ (_, Straight n d one.0 at to one.1 (λ both. both.1 here))
+          | inr other ↦ on rest f (network_by_test parts.area.ids one.0.node network) other
         ]
       ]
-    where
-      go : (rest : List Hop) (one : IsFound n d h) → Follows (next_on parts color d) d h.to rest → IsNetwork parts.area.ids one.v → one.v ≢ t → (hop : PacketHop) × IsColorHop parts color x t hop
-      go [] one f network other = absurd (other (one_spot parts are one.v t d (one.at ∙ ap (λ (y : ℕ). Some y) f) to))
-      go (h' ∷ rest) one f network other =
-          let two = found h.to d h' f.1.0 in (_, OverNetwork n d one.b one.v h.to two.b two.v at to one.over network other one.at two.over)
+        where
+          on : (rest : List Hop) → Follows (next_on parts color d) d h.to rest → IsNetwork parts.area.ids one.0.node → one.0.node ≢ t → (hop : NextHop) × IsColorHop parts color x t hop
+          on [] f network other = absurd (other (one_spot parts are one.0.node t d (one.2 ∙ ap (λ (y : ℕ). Some y) f) to))
+          on (h' ∷ rest) f network other =
+              let two = found h.to d h' f.1.0 in (_, OverNetwork n d h.to one.0 two.0 at to one.1 network other one.2 two.1)

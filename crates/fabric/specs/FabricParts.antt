@@ -47,6 +47,10 @@ abbrev pub element_at : FabricParts → Failure → Option Element
 element_at parts (failures.Node s) = option_map (λ n. elements.Node n) (node_at parts s)
 element_at parts (failures.Bond b) = option_map (λ e. elements.Link e) (link_at parts b)
 
+-- the element of the island that has failed, if one has
+abbrev pub element_of : FabricParts → Option Failure → Option Element
+element_of parts failure = option_and_then (element_at parts) failure
+
 -- there are rows for node t of the area: if it is a node of the island, the rows for this one are accepted
 abbrev pub AreRowsFor : FabricParts → ℕ → Type 0
 AreRowsFor parts t = (d : ℕ) → node_at parts t ≡ Some d → AreRowsAccepted parts d

@@ -1,13 +1,7 @@
 -- What the code hands on, seen as the definitions see it.
-use Rattle.std.specs.Prelude.{◌++◌, List, [], ◌∷◌, Option, Some, None}
 use Rattle.area_graph.specs.Parts.{AreaParts}
 use Rattle.fabric.specs.FabricParts.{FabricParts}
 use Rattle.fabric.specs.FabricState.{FabricState}
-use Rattle.fabric.specs.PacketHop.{PacketHop}
-use Rattle.fabric.specs.declared.event.Failure.{Failure}
-use Rattle.fabric.specs.declared.event.Failure.TheVariants.{Bond, Node}
-use Rattle.fabric.specs.declared.next_hop.Crossing.{Crossing}
-use Rattle.fabric.specs.declared.next_hop.NextHop.{NextHop}
 use Rattle.fabric.specs.declared.parts.Parts.{Parts}
 use Rattle.mrt_graph.specs.Rows.{Rows}
 use Rattle.mrt_graph.specs.Topology.{Topology}
@@ -49,16 +43,3 @@ viewed rows parts = parts_of rows (tables_of parts)
 -- the routes are made with the area and the island
 abbrev pub AreRouted : {R : Type 0} → Parts R → Type 0
 AreRouted parts = AreMade parts.area.now parts.island.now parts.routes.now
-
--- a bond and the node after it
-abbrev pub crossed : Crossing → List Failure
-crossed crossing = Bond crossing.bond ∷ Node crossing.node ∷ []
-
--- the elements of the second crossing, if there is one
-abbrev pub crossed_after : Option Crossing → List Failure
-crossed_after None = []
-crossed_after (Some crossing) = crossed crossing
-
--- a hop, by its elements and where it leads
-abbrev pub hop_seen : NextHop → PacketHop
-hop_seen hop = record { elements = crossed hop.first ++ crossed_after hop.second; next = hop.next }

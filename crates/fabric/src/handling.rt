@@ -1,22 +1,21 @@
 //! What happens to a packet where it is handled once.
 
-ghost use Rattle.std.specs.Prelude.{◌≡◌, ◌≢◌, ◌↔◌, ◌==◌, if◌then◌else◌, IsTrue, Some};
-ghost use Rattle.fabric.specs.{Answers.HasElement, FabricParts.ArePartsKept, KeptState.IsKeptPacket, PacketHop.IsCut, Served.IsServedBy};
+ghost use Rattle.std.specs.Prelude.{◌≡◌, Bool, false, Option, Some};
+ghost use Rattle.fabric.specs.{Answers.HasElement, FabricParts.ArePartsKept, KeptState.IsKeptPacket, PacketHop.cuts, Served.IsServedBy};
 ghost use Rattle.fabric.specs.declared.event.Failure.{Failure};
-ghost use Rattle.fabric.specs.Handling.{HasHop, IsCutOff, IsHandled};
-ghost use Rattle.fabric.specs.Viewed.{AreRouted, hop_seen, viewed};
-ghost use Rattle.fabric.specs.declared.event.Failure.TheVariants as failures;
-ghost use Rattle.fabric.specs.declared.event.Outcome.TheVariants as outcomes;
+ghost use Rattle.fabric.specs.Handling.{IsHandled, IsRepair, has_failed, repaired, sent};
+ghost use Rattle.fabric.specs.Viewed.{AreRouted, viewed};
 ghost use Rattle.fabric.specs.declared.packet.Mode.TheVariants as modes;
 ghost use Rattle.fabric.specs.declared.packet.State.TheVariants as states;
+ghost use Rattle.mrt_graph.specs.declared.cert.Color.{Color};
 
 use crate::event::{Failure, Outcome};
 use crate::hops::next_hop;
 use crate::island::{element_of, node_of};
-use crate::next_hop::{NextHop, is_cut, is_node};
+use crate::next_hop::{NextHop, cuts, has_failed};
 use crate::packet::{Loss, Mode, Packet};
 use crate::parts::Parts;
-use mrt_graph::RowsOf;
+use mrt_graph::{Color, RowsOf};
 use primary_alt::alternate_by;
 
 /// What happens to a packet that is going.
@@ -37,53 +36,50 @@ pub fn handled<R: RowsOf>(
         → HasElement (viewed R.rows parts.now) failed }
     ensures { IsHandled (viewed R.rows parts.now) failure packet.now result }
 {
-    if has_failed(&failure, packet) {
+    let hop = next_hop(parts, packet);
+    if has_failed(&failure, packet.place) {
         return Outcome::Lost(Loss::Inside);
     }
-    sent(parts, failure, packet)
+    match hop {
+        None => Outcome::Lost(Loss::NoRoute),
+        Some(hop) => sent(parts, &failure, packet, &hop),
+    }
 }
 
-/// What happens to a packet whose place has not failed.
-fn sent<R: RowsOf>(parts: &Parts<'_, R>, failure: Option<Failure>, packet: &Packet) -> Outcome
+/// What happens to a packet whose place has not failed, by its hop.
+fn sent<R: RowsOf>(
+    parts: &Parts<'_, R>,
+    failure: &Option<Failure>,
+    packet: &Packet,
+    hop: &NextHop,
+) -> Outcome
     requires kept { ArePartsKept (viewed R.rows parts.now) }
     requires routed { AreRouted parts.now }
     requires served { IsServedBy (viewed R.rows parts.now) parts.now.routes.now packet.now.to }
     requires packet { IsKeptPacket (viewed R.rows parts.now) packet.now }
-    requires going { packet.now.state ≡ states.Going }
-    requires failure { (failed : Failure) → failure ≡ Some failed
+    requires failure { (failed : Failure) → failure.now ≡ Some failed
         → HasElement (viewed R.rows parts.now) failed }
-    requires stands { failure ≢ Some (failures.Node packet.now.place) }
-    ensures { IsHandled (viewed R.rows parts.now) failure packet.now result }
+    ensures { (repair : Option (Option Color))
+        × IsRepair (viewed R.rows parts.now) failure.now packet.now repair
+        × (result ≡ sent packet.now hop.now (cuts failure.now hop.now) (has_failed failure.now packet.now.to) repair) }
 {
-    let Some(hop) = next_hop(parts, packet) else {
-        return Outcome::Lost(Loss::NoRoute);
-    };
-    match failure {
-        None => moved(packet, &hop),
-        Some(failed) => {
-            if is_cut(&failed, &hop) {
-                cut_off(parts, &failed, packet, &hop)
-            } else {
-                moved(packet, &hop)
-            }
-        }
+    if !cuts(failure, hop) {
+        return moved(packet, hop);
     }
-}
-
-/// Whether the place of a packet has failed.
-fn has_failed(failure: &Option<Failure>, packet: &Packet) -> bool
-    ensures { IsTrue result ↔ (failure.now ≡ Some (failures.Node packet.now.place)) }
-{
-    match failure {
-        None => false,
-        Some(failed) => is_node(failed, packet.place),
+    if has_failed(failure, packet.to) {
+        return Outcome::Lost(Loss::IsDestination);
+    }
+    match packet.mode {
+        Mode::Primary => repaired(repair(parts, failure, packet)),
+        Mode::Entered(_) => Outcome::Lost(Loss::ColorCut),
+        Mode::Switched(_) => Outcome::Lost(Loss::ColorCut),
     }
 }
 
 /// What happens to a packet whose hop is not cut.
 fn moved(packet: &Packet, hop: &NextHop) -> Outcome
-    ensures { result ≡ (if hop.now.next == packet.now.to then outcomes.Delivered packet.now.to
-        else outcomes.Moved hop.now.next) }
+    ensures { (ended : Bool) (repair : Option (Option Color))
+        → result ≡ sent packet.now hop.now false ended repair }
 {
     if hop.next == packet.to {
         Outcome::Delivered(packet.to)
@@ -92,53 +88,33 @@ fn moved(packet: &Packet, hop: &NextHop) -> Outcome
     }
 }
 
-/// What happens to a packet whose hop is cut.
-fn cut_off<R: RowsOf>(
-    parts: &Parts<'_, R>,
-    failed: &Failure,
-    packet: &Packet,
-    hop: &NextHop,
-) -> Outcome
-    requires kept { ArePartsKept (viewed R.rows parts.now) }
-    requires routed { AreRouted parts.now }
-    requires served { IsServedBy (viewed R.rows parts.now) parts.now.routes.now packet.now.to }
-    requires packet { IsKeptPacket (viewed R.rows parts.now) packet.now }
-    requires going { packet.now.state ≡ states.Going }
-    requires failure { HasElement (viewed R.rows parts.now) failed.now }
-    requires hop { HasHop (viewed R.rows parts.now) (Some failed.now) packet.now (hop_seen hop.now) }
-    requires cut { IsCut (Some failed.now) (hop_seen hop.now) }
-    ensures { IsHandled (viewed R.rows parts.now) (Some failed.now) packet.now result }
+/// What happens to a packet in primary mode whose hop is cut by another element than its destination, by its repair.
+fn repaired(repair: Option<Option<Color>>) -> Outcome
+    ensures { result ≡ repaired modes.Primary repair }
 {
-    if is_node(failed, packet.to) {
-        return Outcome::Lost(Loss::IsDestination);
-    }
-    match packet.mode {
-        Mode::Primary => repaired(parts, failed, packet),
-        Mode::Entered(_) => Outcome::Lost(Loss::ColorCut),
-        Mode::Switched(_) => Outcome::Lost(Loss::ColorCut),
+    match repair {
+        None => Outcome::Lost(Loss::Outside),
+        Some(None) => Outcome::Lost(Loss::NoAlternate),
+        Some(Some(color)) => Outcome::Switched(color),
     }
 }
 
-/// What happens to a packet in primary mode whose hop is cut by another element than its destination.
-fn repaired<R: RowsOf>(parts: &Parts<'_, R>, failed: &Failure, packet: &Packet) -> Outcome
+/// The alternate of a packet's place for its destination; None where one of these is outside the island.
+fn repair<R: RowsOf>(
+    parts: &Parts<'_, R>,
+    failure: &Option<Failure>,
+    packet: &Packet,
+) -> Option<Option<Color>>
     requires kept { ArePartsKept (viewed R.rows parts.now) }
     requires routed { AreRouted parts.now }
     requires served { IsServedBy (viewed R.rows parts.now) parts.now.routes.now packet.now.to }
     requires packet { IsKeptPacket (viewed R.rows parts.now) packet.now }
-    requires going { packet.now.state ≡ states.Going }
-    requires failure { HasElement (viewed R.rows parts.now) failed.now }
-    requires cut { IsCutOff (viewed R.rows parts.now) (Some failed.now) packet.now }
-    requires mode { packet.now.mode ≡ modes.Primary }
-    ensures { IsHandled (viewed R.rows parts.now) (Some failed.now) packet.now result }
+    requires failure { (failed : Failure) → failure.now ≡ Some failed
+        → HasElement (viewed R.rows parts.now) failed }
+    ensures { IsRepair (viewed R.rows parts.now) failure.now packet.now result }
 {
-    let Some(at) = node_of(parts, packet.place) else {
-        return Outcome::Lost(Loss::Outside);
-    };
-    let Some(to) = node_of(parts, packet.to) else {
-        return Outcome::Lost(Loss::Outside);
-    };
-    match alternate_by(parts.island, parts.rows, at, to, element_of(parts, failed)) {
-        Some(color) => Outcome::Switched(color),
-        None => Outcome::Lost(Loss::NoAlternate),
-    }
+    let at = node_of(parts, packet.place)?;
+    let to = node_of(parts, packet.to)?;
+    let failed = element_of(parts, failure);
+    Some(alternate_by(parts.island, parts.rows, at, to, failed))
 }

@@ -2,7 +2,8 @@
 
 ghost use Rattle.std.specs.Prelude.{◌≡◌, ◌<◌, Some, length};
 ghost use Rattle.fabric.specs.{Answers.HasElement, Viewed.AreRouted, Viewed.viewed};
-ghost use Rattle.fabric.specs.FabricParts.{ArePartsKept, element_at, link_at, node_at};
+ghost use Rattle.fabric.specs.FabricParts.{ArePartsKept, element_at, element_of, link_at, node_at};
+ghost use Rattle.fabric.specs.declared.event.Failure.{Failure};
 ghost use Rattle.primary_alt.specs.Offers.{is_network};
 
 use crate::event::Failure;
@@ -31,8 +32,22 @@ fn link_of<R: RowsOf>(parts: &Parts<'_, R>, b: BondNo) -> Option<LinkNo>
     parts.routes.link(b)
 }
 
+/// The element of the island that has failed, if one has.
+pub fn element_of<R: RowsOf>(parts: &Parts<'_, R>, failure: &Option<Failure>) -> Option<Element>
+    requires kept { ArePartsKept (viewed R.rows parts.now) }
+    requires routed { AreRouted parts.now }
+    requires within { (failed : Failure) → failure.now ≡ Some failed
+        → HasElement (viewed R.rows parts.now) failed }
+    ensures { result ≡ element_of (viewed R.rows parts.now) failure.now }
+{
+    match failure {
+        None => None,
+        Some(failed) => element_at(parts, failed),
+    }
+}
+
 /// The element of the island that a failed element of the area is, if it is one.
-pub fn element_of<R: RowsOf>(parts: &Parts<'_, R>, failed: &Failure) -> Option<Element>
+fn element_at<R: RowsOf>(parts: &Parts<'_, R>, failed: &Failure) -> Option<Element>
     requires kept { ArePartsKept (viewed R.rows parts.now) }
     requires routed { AreRouted parts.now }
     requires within { HasElement (viewed R.rows parts.now) failed.now }

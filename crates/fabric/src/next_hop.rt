@@ -1,8 +1,7 @@
 //! Hops of packets.
 
-ghost use Rattle.std.specs.Prelude.{◌≡◌, ◌↔◌, IsTrue, Contains};
-ghost use Rattle.fabric.specs.Viewed.{crossed, crossed_after, hop_seen};
-ghost use Rattle.fabric.specs.declared.event.Failure.TheVariants as failures;
+ghost use Rattle.std.specs.Prelude.{◌≡◌};
+ghost use Rattle.fabric.specs.{Handling.has_failed, PacketHop.cuts, PacketHop.is_on, PacketHop.is_on_second};
 
 use crate::event::Failure;
 use area_graph::{BondNo, Spot};
@@ -23,26 +22,29 @@ pub struct NextHop {
     pub next: Spot,
 }
 
-/// Whether a failure is among a hop's elements.
-pub fn is_cut(failed: &Failure, hop: &NextHop) -> bool
-    ensures { IsTrue result ↔ Contains (hop_seen hop.now).elements failed.now }
+/// Whether a failure cuts a hop: it is on one of its crossings.
+pub fn cuts(failure: &Option<Failure>, hop: &NextHop) -> bool
+    ensures { result ≡ cuts failure.now hop.now }
 {
-    is_crossed(failed, &hop.first) || is_crossed_after(failed, &hop.second)
+    match failure {
+        None => false,
+        Some(failed) => is_on(failed, &hop.first) || is_on_second(failed, &hop.second),
+    }
 }
 
-/// Whether a failure is the bond of the second crossing, or the node after it.
-fn is_crossed_after(failed: &Failure, second: &Option<Crossing>) -> bool
-    ensures { IsTrue result ↔ Contains (crossed_after second.now) failed.now }
+/// Whether a failure is on the second crossing, if there is one.
+fn is_on_second(failed: &Failure, second: &Option<Crossing>) -> bool
+    ensures { result ≡ is_on_second failed.now second.now }
 {
     match second {
         None => false,
-        Some(crossing) => is_crossed(failed, crossing),
+        Some(crossing) => is_on(failed, crossing),
     }
 }
 
 /// Whether a failure is the bond of a crossing, or the node after it.
-fn is_crossed(failed: &Failure, crossing: &Crossing) -> bool
-    ensures { IsTrue result ↔ Contains (crossed crossing.now) failed.now }
+fn is_on(failed: &Failure, crossing: &Crossing) -> bool
+    ensures { result ≡ is_on failed.now crossing.now }
 {
     match failed {
         Failure::Node(node) => *node == crossing.node,
@@ -50,12 +52,13 @@ fn is_crossed(failed: &Failure, crossing: &Crossing) -> bool
     }
 }
 
-/// Whether a failure is that node.
-pub fn is_node(failed: &Failure, node: Spot) -> bool
-    ensures { IsTrue result ↔ (failed.now ≡ failures.Node node) }
+/// Whether a node has failed.
+pub fn has_failed(failure: &Option<Failure>, node: Spot) -> bool
+    ensures { result ≡ has_failed failure.now node }
 {
-    match failed {
-        Failure::Node(other) => *other == node,
-        Failure::Bond(_) => false,
+    match failure {
+        None => false,
+        Some(Failure::Node(failed)) => *failed == node,
+        Some(Failure::Bond(_)) => false,
     }
 }

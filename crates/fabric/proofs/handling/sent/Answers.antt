@@ -1,24 +1,18 @@
-use Rattle.std.proofs.Common.{Option, subst}
-use Rattle.std.proofs.lemmas.Bool.{both_ways}
-use Rattle.fabric.specs.Handling.{Unreachable}
-use Rattle.fabric.specs.PacketHop.{IsCut}
-use Rattle.fabric.specs.Viewed.{hop_seen, viewed}
-use Rattle.fabric.specs.declared.event.Failure.{Failure}
-use Rattle.fabric.proofs.Uncut.{uncut_handled}
+use Rattle.std.proofs.Common.{◌∙◌, refl, sym}
+use Rattle.fabric.specs.Handling.{has_failed}
+use Rattle.fabric.proofs.SomeHop.{by_any}
 use Rattle.fabric.proofs.handling.sent.Goals as goal
 
-pub returns-in_default : goal.returns-in_default
-returns-in_default g c =
-    Unreachable c.requires.stands c.in_default.ensures.no_route c.in_default.ensures.none
+pub returns-then-not-cuts : goal.returns-then-not-cuts
+returns-then-not-cuts g c = by_any _ _ _ _ _ (λ repair. rw (sym c.cuts.ensures ∙ c.if-not-cuts.true) (c.moved.ensures (has_failed c.args.failure.now c.args.packet.now.to) repair))
 
-pub returns-in-None : goal.returns-in-None
-returns-in-None g c =
-    uncut_handled (viewed g.R.RowsOf.rows c.args.parts.now) c.args.failure c.args.packet.now (hop_seen c.in-Some.hop) c.moved.result
-    (record { stands = c.requires.stands; is = c.in-Some.ensures.some })
-    (λ cut. subst (λ (f : Option Failure). IsCut f (hop_seen c.in-Some.hop)) c.in-None.is cut) c.moved.ensures
+pub returns-then-has_failed : goal.returns-then-has_failed
+returns-then-has_failed g c = by_any _ _ _ _ _ (λ repair. rw (sym c.cuts.ensures ∙ c.if-not-cuts.false, sym c.has_failed.ensures ∙ c.if-has_failed.true) refl)
 
-pub returns-else-is_cut : goal.returns-else-is_cut
-returns-else-is_cut g c =
-    uncut_handled (viewed g.R.RowsOf.rows c.args.parts.now) c.args.failure c.args.packet.now (hop_seen c.in-Some.hop) c.moved-else-is_cut.result
-    (record { stands = c.requires.stands; is = c.in-Some.ensures.some })
-    (λ cut. both_ways c.is_cut.result c.if-is_cut.false (c.is_cut.ensures.1 (subst (λ (f : Option Failure). IsCut f (hop_seen c.in-Some.hop)) c.in-Some-failure.is cut))) c.moved-else-is_cut.ensures
+pub returns-in-Entered : goal.returns-in-Entered
+returns-in-Entered g c =
+    by_any _ _ _ _ _ (λ repair. rw (sym c.cuts.ensures ∙ c.if-not-cuts.false, sym c.has_failed.ensures ∙ c.if-has_failed.false, c.in-Entered.is) refl)
+
+pub returns-in-Switched : goal.returns-in-Switched
+returns-in-Switched g c =
+    by_any _ _ _ _ _ (λ repair. rw (sym c.cuts.ensures ∙ c.if-not-cuts.false, sym c.has_failed.ensures ∙ c.if-has_failed.false, c.in-Switched.is) refl)

@@ -1,7 +1,7 @@
-use Rattle.std.proofs.Common.{◌∙◌, ℕ, Some, sym, ap, subst}
+use Rattle.std.proofs.Common.{◌∙◌, ℕ, Some, sym, ap}
 use Rattle.std.proofs.lemmas.Bool.{both_ways}
 use Rattle.fabric.specs.FabricParts.{FabricParts}
-use Rattle.fabric.specs.PacketHop.{IsColorHop, OverNetwork, PacketHop, Straight}
+use Rattle.fabric.specs.PacketHop.{OverNetwork, Straight}
 use Rattle.fabric.specs.Viewed.{viewed}
 use Rattle.fabric.proofs.Islands.{node_within, one_spot, spot_within}
 use Rattle.fabric.proofs.AcceptedRows.{hop_for}
@@ -21,11 +21,9 @@ is_on_the_way-requires g c = spot_within (viewed g.R.RowsOf.rows c.args.parts.no
 
 pub returns-then-not-is_on_the_way : goal.returns-then-not-is_on_the_way
 returns-then-not-is_on_the_way g c =
-    subst (λ (h : PacketHop). IsColorHop (viewed g.R.RowsOf.rows c.args.parts.now) c.args.color c.args.x c.args.t h) (sym c.over_one.ensures)
-    (Straight c.unwrap-n.result c.unwrap-d.result c.crossing_of-first.result.bond c.crossing_of-first.result.node
-    (sym c.node_of.ensures ∙ c.unwrap-n.ensures) (sym c.node_of-2.ensures ∙ c.unwrap-d.ensures)
+    Straight c.unwrap-n.result c.unwrap-d.result c.crossing_of-first.result (sym c.node_of.ensures ∙ c.unwrap-n.ensures) (sym c.node_of-2.ensures ∙ c.unwrap-d.ensures)
     (record { hop = record { link = c.next_hop-hop.result.link; to = c.next_hop-hop.result.to }; row = c.next_hop-hop.ensures.hop; link = c.crossing_of-first.ensures.link; node = c.crossing_of-first.ensures.node })
-    (λ both. both_ways c.is_on_the_way.result c.if-not-is_on_the_way.true (c.is_on_the_way.ensures.1 both)))
+    (λ both. both_ways c.is_on_the_way.result c.if-not-is_on_the_way.true (c.is_on_the_way.ensures.1 both))
 
 pub next_hop-onward-requires : goal.next_hop-onward-requires
 next_hop-onward-requires g c =
@@ -40,9 +38,8 @@ next_hop-onward-requires g c =
 pub returns : goal.returns
 returns g c =
     let way = c.is_on_the_way.ensures.0 c.if-not-is_on_the_way.false in
-    subst (λ (h : PacketHop). IsColorHop (viewed g.R.RowsOf.rows c.args.parts.now) c.args.color c.args.x c.args.t h) (sym c.over_two.ensures)
-    (OverNetwork c.unwrap-n.result c.unwrap-d.result c.crossing_of-first.result.bond c.crossing_of-first.result.node c.next_hop-hop.result.to c.crossing_of.result.bond c.crossing_of.result.node
+    OverNetwork c.unwrap-n.result c.unwrap-d.result c.next_hop-hop.result.to c.crossing_of-first.result c.crossing_of-second.result
     (sym c.node_of.ensures ∙ c.unwrap-n.ensures) (sym c.node_of-2.ensures ∙ c.unwrap-d.ensures)
     (record { hop = record { link = c.next_hop-hop.result.link; to = c.next_hop-hop.result.to }; row = c.next_hop-hop.ensures.hop; link = c.crossing_of-first.ensures.link; node = c.crossing_of-first.ensures.node })
     way.0 way.1 c.crossing_of-first.ensures.node
-    (record { hop = record { link = c.next_hop-onward.result.link; to = c.next_hop-onward.result.to }; row = c.next_hop-onward.ensures.hop; link = c.crossing_of.ensures.link; node = c.crossing_of.ensures.node }))
+    (record { hop = record { link = c.next_hop-onward.result.link; to = c.next_hop-onward.result.to }; row = c.next_hop-onward.ensures.hop; link = c.crossing_of-second.ensures.link; node = c.crossing_of-second.ensures.node })

@@ -5,7 +5,7 @@ use Rattle.fabric.specs.Served.{IsServedBy}
 use Rattle.fabric.specs.Viewed.{FabricSeen, viewed}
 use Rattle.fabric.proofs.Destinations.{each_handled}
 use Rattle.fabric.proofs.KeptStates.{kept_handled, read_again, step_ended, step_handled, step_unmade}
-use Rattle.fabric.proofs.Tellable.{outcome_tellable}
+use Rattle.fabric.proofs.PacketChains.{outcome_tellable}
 use Rattle.fabric.proofs.fabric.Fabric.step.Goals as goal
 
 pub returns-then-place-len-clause-step : goal.returns-then-place-len-clause-step
