@@ -15,7 +15,6 @@ use Rattle.fabric.proofs.Effects.{AfterEnd, Apart, Effect, FailsNow, Handled, Ma
 use Rattle.fabric.proofs.LifeSteps.{entering_kept}
 use Rattle.fabric.proofs.PacketChains.{Chain, next_of}
 use Rattle.fabric.proofs.PacketVisits.{all_different, color_differ, modes_kept, primary_differ}
-use Rattle.fabric.proofs.SmallIslands.{island_small}
 use Rattle.mrt_graph.specs.Reaches.{AreDifferent}
 use Rattle.mrt_graph.proofs.Members.{contains_first, contains_later}
 
@@ -93,7 +92,7 @@ module _ (parts : FabricParts) (are : ArePartsKept parts) (p : ℕ) where
         from = at;
         entry = entry;
         enters = subst (λ (e : Event). Contains (event ∷ events) e) is (contains_first event events);
-        kept = entering_kept parts are (island_small parts are) at t entry may;
+        kept = entering_kept parts are at t entry may;
         chain = course_chain events answers (state_after old event answer) new (entering at t entry) (next_run old new event events answer answers run) now;
         same = rw (to.makes_is, now) refl;
       })

@@ -63,19 +63,9 @@ module _ (parts : FabricParts) (p : ℕ) (old : FabricState) where
         let none : slice_get old.packets p ≡ None = slice_get_past old.packets p (omega (arith, same)) in
         let there : slice_get (old.packets ++ entering at to entry ∷ []) p ≡ Some (entering at to entry) =
         subst (λ (k : ℕ). slice_get (old.packets ++ entering at to entry ∷ []) k ≡ Some (entering at to entry)) same (at_last old.packets (entering at to entry)) in
-        Made at to entry refl none there refl may (record {
-          own_is = rw (eq-eqb (length old.packets) p same) refl;
-          answers_is = refl;
-          makes_is = eq-eqb (length old.packets) p same;
-          handles_is = refl;
-        })
+        Made at to entry refl none there refl may (record { own_is = rw (eq-eqb (length old.packets) p same) refl; answers_is = refl; makes_is = eq-eqb (length old.packets) p same; handles_is = refl })
     | inr other ↦
-        Apart (pushed_apart old.packets (entering at to entry) p (λ same. other (sym same))) refl (record {
-          own_is = rw (ne_eqb (length old.packets) p other) refl;
-          answers_is = refl;
-          makes_is = ne_eqb (length old.packets) p other;
-          handles_is = refl;
-        })
+        Apart (pushed_apart old.packets (entering at to entry) p (λ same. other (sym same))) refl (record { own_is = rw (ne_eqb (length old.packets) p other) refl; answers_is = refl; makes_is = ne_eqb (length old.packets) p other; handles_is = refl })
   ]
 
   -- of a failure
@@ -91,18 +81,8 @@ module _ (parts : FabricParts) (p : ℕ) (old : FabricState) where
       → Effect parts p old (state_after old (Step number) answer) (Step number) answer
   stepped number there answer is NoPacket = Apart refl refl (record { own_is = refl; answers_is = refl; makes_is = refl; handles_is = refl })
   stepped number there answer is (HasEnded q ended) = elim (cases_eq number p) [
-    | inl same ↦ AfterEnd q (subst (λ (k : ℕ). slice_get old.packets k ≡ Some q) same is) ended refl refl (record {
-      own_is = rw (eq-eqb number p same) refl;
-      answers_is = rw (eq-eqb number p same) refl;
-      makes_is = refl;
-      handles_is = refl;
-    })
-    | inr other ↦ Apart refl refl (record {
-      own_is = rw (ne_eqb number p other) refl;
-      answers_is = rw (ne_eqb number p other) refl;
-      makes_is = refl;
-      handles_is = refl;
-    })
+    | inl same ↦ AfterEnd q (subst (λ (k : ℕ). slice_get old.packets k ≡ Some q) same is) ended refl refl (record { own_is = rw (eq-eqb number p same) refl; answers_is = rw (eq-eqb number p same) refl; makes_is = refl; handles_is = refl })
+    | inr other ↦ Apart refl refl (record { own_is = rw (ne_eqb number p other) refl; answers_is = rw (ne_eqb number p other) refl; makes_is = refl; handles_is = refl })
   ]
   stepped number there answer is (Answered q outcome going handled) =
       let after : packets_after old.packets number outcome ≡ set old.packets number (packet_after outcome q) =
@@ -113,19 +93,9 @@ module _ (parts : FabricParts) (p : ℕ) (old : FabricState) where
             let now : slice_get (packets_after old.packets number outcome) p ≡ Some (packet_after outcome q) =
             ap (λ (xs : List Packet). slice_get xs p) (after ∙ ap (λ (k : ℕ). set old.packets k (packet_after outcome q)) same)
             ∙ set_there old.packets p (packet_after outcome q) (slice_get_within old.packets p q here) in
-            Handled q outcome here going handled now refl (record {
-              own_is = rw (eq-eqb number p same) refl;
-              answers_is = rw (eq-eqb number p same) refl;
-              makes_is = refl;
-              handles_is = eq-eqb number p same;
-            })
+            Handled q outcome here going handled now refl (record { own_is = rw (eq-eqb number p same) refl; answers_is = rw (eq-eqb number p same) refl; makes_is = refl; handles_is = eq-eqb number p same })
         | inr other ↦
-            Apart (ap (λ (xs : List Packet). slice_get xs p) after ∙ set_elsewhere old.packets number p (packet_after outcome q) (λ same. other (sym same))) refl (record {
-              own_is = rw (ne_eqb number p other) refl;
-              answers_is = rw (ne_eqb number p other) refl;
-              makes_is = refl;
-              handles_is = ne_eqb number p other;
-            })
+            Apart (ap (λ (xs : List Packet). slice_get xs p) after ∙ set_elsewhere old.packets number p (packet_after outcome q) (λ same. other (sym same))) refl (record { own_is = rw (ne_eqb number p other) refl; answers_is = rw (ne_eqb number p other) refl; makes_is = refl; handles_is = ne_eqb number p other })
       ]
 
   pub effect : (event : Event) (answer : Answer) → IsAnswer parts old event answer → Effect parts p old (state_after old event answer) event answer

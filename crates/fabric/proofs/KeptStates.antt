@@ -21,7 +21,6 @@ use Rattle.fabric.specs.declared.packet.Packet.{Packet}
 use Rattle.fabric.specs.declared.packet.State.TheVariants as states
 use Rattle.fabric.proofs.LifeSteps.{entering_kept}
 use Rattle.fabric.proofs.PacketChains.{kept_next, next_of}
-use Rattle.fabric.proofs.SmallIslands.{island_small}
 use Rattle.mrt_graph.proofs.ListPlaces.{pushed_at, set_elsewhere, set_there}
 
 module _ (parts : FabricParts) (are : ArePartsKept parts) (packets : List Packet) (failure : Option Failure) (room : ℕ) (kept : IsKeptState parts (state_of packets failure room)) where
@@ -29,7 +28,7 @@ module _ (parts : FabricParts) (are : ArePartsKept parts) (packets : List Packet
   kept_entered at to entry may less = record {
     packets = λ p packet there. elim (pushed_at packets (entering at to entry) packet p there) [
       | inl before ↦ kept.packets p packet before
-      | inr last ↦ subst (λ (q : Packet). IsKeptPacket parts q) last.1 (entering_kept parts are (island_small parts are) at to entry may)
+      | inr last ↦ subst (λ (q : Packet). IsKeptPacket parts q) last.1 (entering_kept parts are at to entry may)
     ];
     failure = kept.failure;
     few = omega (arith, less, length-append packets (entering at to entry ∷ []));

@@ -91,7 +91,7 @@ pub inside_is : (o : Option ℕ) → IsSome o → (n : ℕ) × (o ≡ Some n)
 inside_is None some = cc
 inside_is (Some n) some = (n, refl)
 
-module _ (parts : FabricParts) (are : ArePartsKept parts) (small : length parts.island.ids ≤ length parts.area.ids) where
+module _ (parts : FabricParts) (are : ArePartsKept parts) where
   -- two nodes that differ
   two : (q : Packet) → IsKeptPacket parts q → q.state ≡ states.Going → 2 ≤ length parts.area.ids
   two q kept going =

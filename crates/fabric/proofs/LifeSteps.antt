@@ -23,6 +23,7 @@ use Rattle.fabric.proofs.ColorWays.{on_walk, way, way_short}
 use Rattle.fabric.proofs.Islands.{node_within, one_spot, spot_within}
 use Rattle.fabric.proofs.Life.{HasEnded, IsFarther, IsLeft, Life, Lives, OnEntered, OnPrimary, OnSwitched, avoids_after, color_hop_of, inside_is, left_after, life_below, lost_life, step_on, visited_few}
 use Rattle.fabric.proofs.Nearer.{Nearer, nearer_hop}
+use Rattle.fabric.proofs.SmallIslands.{island_small}
 use Rattle.fabric.proofs.Outcomes.{Arrives, Becomes, IsLost, IsSwitched, Moves, becomes}
 use Rattle.mrt_graph.specs.declared.cert.Color.{Color}
 use Rattle.mrt_graph.specs.declared.cert.Color.TheVariants.{Blue, Red}
@@ -37,7 +38,7 @@ use Rattle.primary_alt.proofs.RouterFacts.{router_alone, router_within}
 pub some_inside : (parts : FabricParts) (v m : ℕ) → node_at parts v ≡ Some m → IsSome (node_at parts v)
 some_inside parts v m at = rw at refl
 
-module _ (parts : FabricParts) (are : ArePartsKept parts) (small : length parts.island.ids ≤ length parts.area.ids) where
+module _ (parts : FabricParts) (are : ArePartsKept parts) where
   -- a packet that moves
   pub moved_kept : (q : Packet) (hop : NextHop) → IsKeptPacket parts q → hop.next < length parts.area.ids → (q.mode ≢ modes.Primary → IsSome (node_at parts hop.next))
       → ¬ IsNetwork parts.area.ids hop.next → hop.next ≢ q.to → IsKeptPacket parts (record q { place = hop.next })
@@ -108,18 +109,18 @@ module _ (parts : FabricParts) (are : ArePartsKept parts) (small : length parts.
           by_primary failure q steps visited hop lives.kept mode going differ below count farther
           (nearer_hop parts are q.place q.to hop (lives.kept.router going) (subst (λ (m : Mode). IsHop parts m q.place q.to hop) mode is)) other
       go (OnEntered color mode going' left few) =
-          let on = step_on parts are small color q lives.kept going left hop (color_hop_of parts color q.mode q.place q.to hop (inl mode) is) in
+          let on = step_on parts are color q lives.kept going left hop (color_hop_of parts color q.mode q.place q.to hop (inl mode) is) in
           let shorter = on.shorter in
           record {
             kept = color_kept color q left hop lives.kept on other;
-            life = OnEntered color mode going (left_after parts are small color q left hop on) (omega (arith, few, shorter));
+            life = OnEntered color mode going (left_after parts are color q left hop on) (omega (arith, few, shorter));
           }
       go (OnSwitched color mode going' left few avoids) =
-          let on = step_on parts are small color q lives.kept going left hop (color_hop_of parts color q.mode q.place q.to hop (inr mode) is) in
+          let on = step_on parts are color q lives.kept going left hop (color_hop_of parts color q.mode q.place q.to hop (inr mode) is) in
           let shorter = on.shorter in
           record {
             kept = color_kept color q left hop lives.kept on other;
-            life = OnSwitched color mode going (left_after parts are small color q left hop on) (omega (arith, few, shorter)) (avoids_after parts are small color failure q left hop on avoids);
+            life = OnSwitched color mode going (left_after parts are color q left hop on) (omega (arith, few, shorter)) (avoids_after parts are color failure q left hop on avoids);
           }
 
   -- a packet that is delivered
@@ -137,7 +138,7 @@ module _ (parts : FabricParts) (are : ArePartsKept parts) (small : length parts.
       → Lives parts failure (record q { place = q.to; state = states.Delivered }) (steps + 1)
   delivered_life failure q steps lives going = record {
     kept = delivered_kept q lives.kept;
-    life = HasEnded (λ state. cc) (let less = life_below parts are small failure q steps lives going in omega (arith, less)) (λ color loss switched lost. cc);
+    life = HasEnded (λ state. cc) (let less = life_below parts are failure q steps lives going in omega (arith, less)) (λ color loss switched lost. cc);
   }
 
   -- a color that is given does not use the failure
@@ -168,7 +169,7 @@ module _ (parts : FabricParts) (are : ArePartsKept parts) (small : length parts.
   whole_short : (color : Color) (q : Packet) (left : IsLeft parts color q) → length left.hops + 1 ≤ length parts.area.ids
   whole_short color q left =
       let short = way_short parts are color left.d left.n left.hops (node_within parts are q.place left.n left.at) left.follows left.differ in
-      omega (arith, short, small)
+      omega (arith, short, island_small parts are)
 
   -- a packet that is switched
   pub switched_kept : (q : Packet) (color : Color) → IsKeptPacket parts q → IsSome (node_at parts q.place) → IsSome (node_at parts q.to)
@@ -195,7 +196,7 @@ module _ (parts : FabricParts) (are : ArePartsKept parts) (small : length parts.
       go (OnPrimary visited mode' going' differ below count farther) =
           let left = whole_way color (record q { mode = modes.Switched color }) at to rows kept' (lives.kept.apart going) place destination in
           let short = whole_short color (record q { mode = modes.Switched color }) left in
-          let few = visited_few parts are small q visited lives.kept differ below in
+          let few = visited_few parts are q visited lives.kept differ below in
           record {
             kept = kept';
             life = OnSwitched color refl going left (omega (arith, short, few, count)) (record {
@@ -215,7 +216,7 @@ module _ (parts : FabricParts) (are : ArePartsKept parts) (small : length parts.
       go : {o : Outcome} → Becomes parts failure q o → Lives parts failure (packet_after o q) (steps + 1)
       go (Moves hop is other) = moved_life failure q steps hop lives going is other
       go (Arrives hop is here) = delivered_life failure q steps lives going
-      go (IsLost loss why) = lost_life parts are small failure q steps loss lives going why
+      go (IsLost loss why) = lost_life parts are failure q steps loss lives going why
       go (IsSwitched color primary off by) = switched_life failure q steps color rows lives going primary off by
 
   -- where it enters

@@ -35,7 +35,6 @@ use Rattle.fabric.proofs.Outcomes.{Arrives, Becomes, IsLost, IsSwitched, Moves, 
 use Rattle.fabric.proofs.PacketChains.{left_now}
 use Rattle.fabric.proofs.RunLives.{IsAt, Living, Unmade, run_lives}
 use Rattle.fabric.proofs.AcceptedRows.{sound_for}
-use Rattle.fabric.proofs.SmallIslands.{island_small}
 use Rattle.mrt_graph.specs.Alternate.{AtEnd, IsAlternate, OnBoth}
 use Rattle.mrt_graph.specs.Separates.{IsNeitherEnd}
 use Rattle.mrt_graph.specs.Sound.{SoundFor}
@@ -44,9 +43,6 @@ use Rattle.mrt_graph.specs.declared.link.Element.{Element}
 use Rattle.mrt_graph.specs.declared.link.Element.TheVariants as elements
 
 module _ (parts : FabricParts) (are : ArePartsKept parts) (failure : Option Failure) (q : Packet) (rows : AreRowsFor parts q.to) (steps : ℕ) (lives : Lives parts failure q steps) (going : q.state ≡ states.Going) where
-  small : length parts.island.ids ≤ length parts.area.ids
-  small = island_small parts are
-
   -- a switched packet is not lost, so that a packet on a color that is lost entered on it
   entered_on : (mode : Mode) → q.mode ≡ mode → mode ≢ modes.Primary → IsCutOff parts failure q → (color : Color) × (q.mode ≡ modes.Entered color)
   entered_on modes.Primary is color off = absurd (color refl)
@@ -57,7 +53,7 @@ module _ (parts : FabricParts) (are : ArePartsKept parts) (failure : Option Fail
       go (HasEnded ended few never) = ended going
       go (OnPrimary visited mode going' differ below count farther) = cc
       go (OnEntered c' mode going' left few) = cc
-      go (OnSwitched c' mode going' left few avoids) = switched_stays parts are small c' failure q left lives.kept going mode avoids ColorCut (λ primary. cc, off)
+      go (OnSwitched c' mode going' left few avoids) = switched_stays parts are c' failure q left lives.kept going mode avoids ColorCut (λ primary. cc, off)
 
   -- what fails is neither the place nor the destination
   neither : (n d : ℕ) → node_at parts q.place ≡ Some n → node_at parts q.to ≡ Some d → (o : Option Failure) → failure ≡ o
@@ -108,7 +104,7 @@ module _ (parts : FabricParts) (are : ArePartsKept parts) (failure : Option Fail
   used : IsCutOff parts failure q → (color : Color) → q.mode ≡ modes.Entered color → IsOnWalk parts failure q color
   used off color mode =
       let left = left_now parts are color q rows lives.kept going (λ primary. cc) in
-      let ahead = (step_on parts are small color q lives.kept going left off.hop (color_hop_of parts color q.mode q.place q.to off.hop (inl mode) off.has.is)).ahead failure off.cut in
+      let ahead = (step_on parts are color q lives.kept going left off.hop (color_hop_of parts color q.mode q.place q.to off.hop (inl mode) off.has.is)).ahead failure off.cut in
       record {
         at = left.n;
         to = left.d;

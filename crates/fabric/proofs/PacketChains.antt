@@ -21,7 +21,6 @@ use Rattle.fabric.proofs.Life.{IsLeft, color_hop_of, ended_kept, inside_is, step
 use Rattle.fabric.proofs.LifeSteps.{color_kept, delivered_kept, moved_kept, router_there, some_inside, switched_kept, whole_way}
 use Rattle.fabric.proofs.Nearer.{nearer_hop}
 use Rattle.fabric.proofs.Outcomes.{Arrives, Becomes, IsLost, IsSwitched, Moves, becomes}
-use Rattle.fabric.proofs.SmallIslands.{island_small}
 use Rattle.mrt_graph.specs.declared.cert.Color.{Color}
 
 -- what a step makes of a packet: it moves, it is delivered, it is lost, or it is switched
@@ -73,7 +72,7 @@ module _ (parts : FabricParts) (are : ArePartsKept parts) where
   left_now color q rows kept going mode =
       let n = inside_is (node_at parts q.place) (kept.place_inside mode) in
       let d = inside_is (node_at parts q.to) (kept.to_inside mode) in
-      whole_way parts are (island_small parts are) color q n.0 d.0 rows kept (kept.apart going) n.1 d.1
+      whole_way parts are color q n.0 d.0 rows kept (kept.apart going) n.1 d.1
 
   -- what is kept of a packet
   pub kept_next : (q r : Packet) → AreRowsFor parts q.to → IsKeptPacket parts q → q.state ≡ states.Going → Next parts q r → IsKeptPacket parts r
@@ -82,20 +81,20 @@ module _ (parts : FabricParts) (are : ArePartsKept parts) where
       on_color : (color : Color) → (q.mode ≡ modes.Entered color) ⊎ (q.mode ≡ modes.Switched color) → q.mode ≢ modes.Primary → IsKeptPacket parts (record q { place = hop.next })
       on_color color mode other' =
           let left = left_now color q rows kept going other' in
-          color_kept parts are (island_small parts are) color q left hop kept
-          (step_on parts are (island_small parts are) color q kept going left hop (color_hop_of parts color q.mode q.place q.to hop mode is)) other
+          color_kept parts are color q left hop kept
+          (step_on parts are color q kept going left hop (color_hop_of parts color q.mode q.place q.to hop mode is)) other
 
       go : (mode : Mode) → q.mode ≡ mode → IsHop parts mode q.place q.to hop → IsKeptPacket parts (record q { place = hop.next })
       go modes.Primary mode is =
           let near = nearer_hop parts are q.place q.to hop (kept.router going) is in
-          moved_kept parts are (island_small parts are) q hop kept near.within (λ color. absurd (color mode)) (router_there parts are (island_small parts are) q.to hop.next near.ends other) other
+          moved_kept parts are q hop kept near.within (λ color. absurd (color mode)) (router_there parts are q.to hop.next near.ends other) other
       go (modes.Entered color) mode is = on_color color (inl mode) (λ primary. cc)
       go (modes.Switched color) mode is = on_color color (inr mode) (λ primary. cc)
   kept_next q r rows kept going (ByArrival hop is here same) =
-      subst (λ (p : Packet). IsKeptPacket parts p) (sym same) (delivered_kept parts are (island_small parts are) q kept)
-  kept_next q r rows kept going (ByLoss loss same) = subst (λ (p : Packet). IsKeptPacket parts p) (sym same) (ended_kept parts are (island_small parts are) q kept loss)
+      subst (λ (p : Packet). IsKeptPacket parts p) (sym same) (delivered_kept parts are q kept)
+  kept_next q r rows kept going (ByLoss loss same) = subst (λ (p : Packet). IsKeptPacket parts p) (sym same) (ended_kept parts are q kept loss)
   kept_next q r rows kept going (BySwitch color primary place to same) =
-      subst (λ (p : Packet). IsKeptPacket parts p) (sym same) (switched_kept parts are (island_small parts are) q color kept place to)
+      subst (λ (p : Packet). IsKeptPacket parts p) (sym same) (switched_kept parts are q color kept place to)
 
 -- the node in an outcome is a node of the area
 pub outcome_tellable : (parts : FabricParts) → ArePartsKept parts → (failure : Option Failure) (q : Packet) → AreRowsFor parts q.to → IsKeptPacket parts q → q.state ≡ states.Going

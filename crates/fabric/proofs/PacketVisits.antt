@@ -18,7 +18,6 @@ use Rattle.fabric.proofs.ColorHops.{Onward}
 use Rattle.fabric.proofs.Life.{IsFarther, IsLeft, color_hop_of, left_after, step_on}
 use Rattle.fabric.proofs.Nearer.{Nearer, nearer_hop}
 use Rattle.fabric.proofs.PacketChains.{ByArrival, ByLoss, ByMove, BySwitch, Chain, Next, kept_next, left_now, mode_next, mode_on, rows_next}
-use Rattle.fabric.proofs.SmallIslands.{island_small}
 use Rattle.mrt_graph.specs.Reaches.{AreDifferent}
 use Rattle.mrt_graph.specs.declared.cert.Color.{Color}
 use Rattle.mrt_graph.proofs.Members.{Has}
@@ -136,7 +135,7 @@ module _ (parts : FabricParts) (are : ArePartsKept parts) where
       (λ mode' left'. later_color color r rest chain.2 (kept_next parts are q r rows kept chain.0 chain.1) (rows_next parts q r chain.1 rows) mode' left' y)
     where
       on_of : (hop : NextHop) → IsHop parts q.mode q.place q.to hop → Onward parts color q.to hop left.d left.hops
-      on_of hop is = step_on parts are (island_small parts are) color q kept chain.0 left hop (color_hop_of parts color q.mode q.place q.to hop mode is)
+      on_of hop is = step_on parts are color q kept chain.0 left hop (color_hop_of parts color q.mode q.place q.to hop mode is)
 
       here_is : (hop : NextHop) (on : Onward parts color q.to hop left.d left.hops) → hop.next ≡ y → (m : ℕ) × (node_at parts y ≡ Some m) × Has (nodes_behind left.hops) m
       here_is hop on same = (on.m, subst (λ (v : ℕ). node_at parts v ≡ Some on.m) same on.at, on.nodes on.m (inl refl))
@@ -148,7 +147,7 @@ module _ (parts : FabricParts) (are : ArePartsKept parts) where
       go (ByMove hop is other same) (inl here) further = here_is hop (on_of hop is) (sym (ap (λ (p : Packet). p.place) same) ∙ here.2)
       go (ByMove hop is other same) (inr later) further =
           let on = on_of hop is in
-          let left' : IsLeft parts color (record q { place = hop.next }) = left_after parts are (island_small parts are) color q left hop on in
+          let left' : IsLeft parts color (record q { place = hop.next }) = left_after parts are color q left hop on in
           let further' : (q.mode ≡ modes.Entered color) ⊎ (q.mode ≡ modes.Switched color) → (left'' : IsLeft parts color (record q { place = hop.next })) → (m : ℕ) × (node_at parts y ≡ Some m) × Has (nodes_behind left''.hops) m =
           subst (λ (p : Packet). (p.mode ≡ modes.Entered color) ⊎ (p.mode ≡ modes.Switched color) → (left'' : IsLeft parts color p) → (m : ℕ) × (node_at parts y ≡ Some m) × Has (nodes_behind left''.hops) m) same
           (λ m l. further m l later) in

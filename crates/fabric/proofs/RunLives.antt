@@ -21,7 +21,6 @@ use Rattle.fabric.proofs.Life.{HasEnded, Life, Lives, OnEntered, OnPrimary, OnSw
 use Rattle.fabric.specs.declared.packet.Loss.{Loss}
 use Rattle.mrt_graph.specs.declared.cert.Color.{Color}
 use Rattle.fabric.proofs.LifeSteps.{life_after, life_begins}
-use Rattle.fabric.proofs.SmallIslands.{island_small}
 use Rattle.mrt_graph.proofs.Members.{contains_first, contains_later}
 
 -- packet p in a state: it was not made, or lives, after so many steps
@@ -58,7 +57,7 @@ module _ (parts : FabricParts) (are : ArePartsKept parts) (p : ℕ) where
     where
       made : IsAt parts p old steps → IsAt parts p new steps
       made (Unmade nothing count) =
-          Living (entering from t entry) there (enters from t entry is) (same_failure old.failure new.failure (entering from t entry) steps failure (subst (λ (k : ℕ). Lives parts old.failure (entering from t entry) k) (sym count) (life_begins parts are (island_small parts are) old.failure from t entry (enters from t entry is) may)))
+          Living (entering from t entry) there (enters from t entry is) (same_failure old.failure new.failure (entering from t entry) steps failure (subst (λ (k : ℕ). Lives parts old.failure (entering from t entry) k) (sym count) (life_begins parts are old.failure from t entry (enters from t entry is) may)))
       made (Living q before rows lives) = cc
   goes_on old new event answer steps enters (Handled q outcome there going handled now failure to) at = rw to.handles_is (handle at)
     where
@@ -69,7 +68,7 @@ module _ (parts : FabricParts) (are : ArePartsKept parts) (p : ℕ) where
           let still : AreRowsFor parts q.to = subst (λ (r : Packet). AreRowsFor parts r.to) same rows in
           Living (packet_after outcome q) now (subst (λ (t : ℕ). AreRowsFor parts t) (sym (to_stays outcome q)) still)
           (same_failure old.failure new.failure (packet_after outcome q) (steps + 1) failure
-          (life_after parts are (island_small parts are) old.failure q steps still (subst (λ (r : Packet). Lives parts old.failure r steps) same lives) going outcome handled))
+          (life_after parts are old.failure q steps still (subst (λ (r : Packet). Lives parts old.failure r steps) same lives) going outcome handled))
 
   pub at_step : (old next : FabricState) (event : Event) (answer : Answer) (steps : ℕ) → ((at to : ℕ) (entry : Entry) → event ≡ Inject at to entry → AreRowsFor parts to)
       → FabricStep parts old event answer next → IsAt parts p old steps
@@ -120,7 +119,7 @@ module _ (parts : FabricParts) (are : ArePartsKept parts) (room : ℕ) (events :
     where
       go : IsAt parts p end (steps_of p events answers) → steps_of p events answers ≤ most parts
       go (Unmade none count) = omega (arith, count)
-      go (Living q is rows lives) = life_most parts are (island_small parts are) end.failure q (steps_of p events answers) lives
+      go (Living q is rows lives) = life_most parts are end.failure q (steps_of p events answers) lives
 
   pub steps_left : (packet : Packet) → slice_get end.packets p ≡ Some packet → packet.state ≡ states.Going → steps_of p events answers < 2 * (length parts.area.ids - 1)
   steps_left packet there going = go (run_lives parts are room events answers end on run p)
@@ -129,4 +128,4 @@ module _ (parts : FabricParts) (are : ArePartsKept parts) (room : ℕ) (events :
       go (Unmade none count) = cc
       go (Living q is rows lives) =
           let same : q ≡ packet = same_Some _ _ (sym is ∙ there) in
-          life_below parts are (island_small parts are) end.failure q (steps_of p events answers) lives (ap (λ (x : Packet). x.state) same ∙ going)
+          life_below parts are end.failure q (steps_of p events answers) lives (ap (λ (x : Packet). x.state) same ∙ going)
