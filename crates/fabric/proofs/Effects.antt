@@ -1,10 +1,10 @@
 -- What an event does to one packet and to the failure.
 use Rattle.std.proofs.Common.{◌≡◌, ◌≢◌, ◌++◌, ◌∙◌, ℕ, zero, suc, Bool, true, false, List, [], ◌∷◌, Option, Some, None, Ok, Err, length, slice_get, set, inl, inr, refl, sym, ap, subst, arith}
-use Rattle.std.specs.Prelude.{slice_set}
+use Rattle.std.specs.Prelude.{◌↔◌, IsTrue, nat_lt, slice_set}
 use Rattle.std.specs.Option.{option_map_or}
 use Rattle.std.proofs.lemmas.Bool.{cases_eq, eq-eqb, ne_eqb}
 use Rattle.std.proofs.lemmas.Option.{slice_get_past, slice_get_within}
-use Rattle.fabric.specs.Answers.{Answered, FailedBefore, GetsNumber, HasElement, HasEnded, IsAnswer, IsFailAnswer, IsInjectAnswer, IsKept, IsStepAnswer, MayEnter, MayNotEnter, NoPacket, NoRoom, NotThere}
+use Rattle.fabric.specs.Answers.{Answered, HasElement, HasEnded, IsAnswer, IsFailAnswer, IsInjectAnswer, IsStepAnswer, MayEnter, NoPacket, fail_answer, inject_answer}
 use Rattle.fabric.specs.Course.{handles, makes}
 use Rattle.fabric.specs.FabricParts.{FabricParts}
 use Rattle.fabric.specs.FabricState.{Answer, FabricState, entering, packet_after, packets_after, state_after}
@@ -35,7 +35,7 @@ pub data Effect (parts : FabricParts) (p : ℕ) (old new : FabricState) (event :
       → new.failure ≡ old.failure → MayEnter parts at to entry
       → AreTo p event answer (Enters at to entry ∷ []) [] true false → Effect parts p old new event answer
   FailsNow : (failed : Failure) → slice_get new.packets p ≡ slice_get old.packets p → old.failure ≡ None
-      → new.failure ≡ Some failed → HasElement parts failed
+      → new.failure ≡ Some failed → HasElement parts.area failed
       → AreTo p event answer (Fails failed ∷ []) [] false false → Effect parts p old new event answer
   Handled : (q : Packet) (outcome : Outcome) → slice_get old.packets p ≡ Some q → q.state ≡ Going
       → IsHandled parts old.failure q outcome → slice_get new.packets p ≡ Some (packet_after outcome q)
@@ -56,25 +56,32 @@ module _ (parts : FabricParts) (p : ℕ) (old : FabricState) where
   -- of a packet that enters
   entered : (at to : ℕ) (entry : Entry) (answer : Answer) → IsInjectAnswer parts old at to entry answer
       → Effect parts p old (state_after old (Inject at to entry) answer) (Inject at to entry) answer
-  entered at to entry answer (MayNotEnter not) = Apart refl refl (record { own_is = refl; answers_is = refl; makes_is = refl; handles_is = refl })
-  entered at to entry answer (NoRoom may full) = Apart refl refl (record { own_is = refl; answers_is = refl; makes_is = refl; handles_is = refl })
-  entered at to entry answer (GetsNumber may room) = elim (cases_eq (length old.packets) p) [
-    | inl same ↦
-        let none : slice_get old.packets p ≡ None = slice_get_past old.packets p (omega (arith, same)) in
-        let there : slice_get (old.packets ++ entering at to entry ∷ []) p ≡ Some (entering at to entry) =
-        subst (λ (k : ℕ). slice_get (old.packets ++ entering at to entry ∷ []) k ≡ Some (entering at to entry)) same (at_last old.packets (entering at to entry)) in
-        Made at to entry refl none there refl may (record { own_is = rw (eq-eqb (length old.packets) p same) refl; answers_is = refl; makes_is = eq-eqb (length old.packets) p same; handles_is = refl })
-    | inr other ↦
-        Apart (pushed_apart old.packets (entering at to entry) p (λ same. other (sym same))) refl (record { own_is = rw (ne_eqb (length old.packets) p other) refl; answers_is = refl; makes_is = ne_eqb (length old.packets) p other; handles_is = refl })
-  ]
+  entered at to entry answer is = rw is.is (go is.may (nat_lt (length old.packets) old.room) is.may_is)
+    where
+      go : (may room : Bool) → IsTrue may ↔ MayEnter parts at to entry
+          → Effect parts p old (state_after old (Inject at to entry) (inject_answer may room (length old.packets))) (Inject at to entry) (inject_answer may room (length old.packets))
+      go false room may_is = Apart refl refl (record { own_is = refl; answers_is = refl; makes_is = refl; handles_is = refl })
+      go true false may_is = Apart refl refl (record { own_is = refl; answers_is = refl; makes_is = refl; handles_is = refl })
+      go true true may_is = elim (cases_eq (length old.packets) p) [
+        | inl same ↦
+            let none : slice_get old.packets p ≡ None = slice_get_past old.packets p (omega (arith, same)) in
+            let there : slice_get (old.packets ++ entering at to entry ∷ []) p ≡ Some (entering at to entry) =
+            subst (λ (k : ℕ). slice_get (old.packets ++ entering at to entry ∷ []) k ≡ Some (entering at to entry)) same (at_last old.packets (entering at to entry)) in
+            Made at to entry refl none there refl (may_is.0 refl) (record { own_is = rw (eq-eqb (length old.packets) p same) refl; answers_is = refl; makes_is = eq-eqb (length old.packets) p same; handles_is = refl })
+        | inr other ↦
+            Apart (pushed_apart old.packets (entering at to entry) p (λ same. other (sym same))) refl (record { own_is = rw (ne_eqb (length old.packets) p other) refl; answers_is = refl; makes_is = ne_eqb (length old.packets) p other; handles_is = refl })
+      ]
 
   -- of a failure
-  failed_now : (failed : Failure) (answer : Answer) → IsFailAnswer parts old.failure failed answer
+  failed_now : (failed : Failure) (answer : Answer) → IsFailAnswer parts.area old.failure failed answer
       → Effect parts p old (state_after old (Fail failed) answer) (Fail failed) answer
-  failed_now failed answer (NotThere not) = Apart refl refl (record { own_is = refl; answers_is = refl; makes_is = refl; handles_is = refl })
-  failed_now failed answer (FailedBefore has some) = Apart refl refl (record { own_is = refl; answers_is = refl; makes_is = refl; handles_is = refl })
-  failed_now failed answer (IsKept has none) =
-      FailsNow failed refl none refl has (record { own_is = refl; answers_is = refl; makes_is = refl; handles_is = refl })
+  failed_now failed answer is = rw is.is (go is.has old.failure refl is.has_is)
+    where
+      go : (has : Bool) (before : Option Failure) → old.failure ≡ before → IsTrue has ↔ HasElement parts.area failed
+          → Effect parts p old (state_after old (Fail failed) (fail_answer has before)) (Fail failed) (fail_answer has before)
+      go false before is has_is = Apart refl refl (record { own_is = refl; answers_is = refl; makes_is = refl; handles_is = refl })
+      go true (Some other) is has_is = Apart refl refl (record { own_is = refl; answers_is = refl; makes_is = refl; handles_is = refl })
+      go true None is has_is = FailsNow failed refl is refl (has_is.0 refl) (record { own_is = refl; answers_is = refl; makes_is = refl; handles_is = refl })
 
   -- of a step
   stepped : (number : ℕ) (there : Option Packet) (answer : Answer) → slice_get old.packets number ≡ there → IsStepAnswer parts old.failure there answer

@@ -1,7 +1,8 @@
--- A packet may enter or not, and an element is of the area or not.
-use Rattle.std.proofs.Common.{◌<◌, ◌⊎◌, ℕ, List, Option, Some, None, length, inl, inr, refl, arith}
-use Rattle.std.specs.Prelude.{IsSome}
-use Rattle.std.proofs.lemmas.Bool.{cases_eq, cases_lt}
+-- Tests that tell whether a packet may enter, and whether an element is of the area.
+use Rattle.std.proofs.Common.{◌==◌, ℕ, Bool, true, not, List, length, refl, arith}
+use Rattle.std.specs.Prelude.{◌↔◌, ◌&&◌, IsTrue, is_some, nat_lt}
+use Rattle.std.proofs.lemmas.Bool.Decides.{Decides-and, Decides-eqb, Decides-like, Decides-ltb, Decides-not}
+use Rattle.area_graph.specs.Parts.{AreaParts}
 use Rattle.fabric.specs.Answers.{AreInside, HasElement, IsOpen, MayEnter}
 use Rattle.fabric.specs.FabricParts.{FabricParts, node_at}
 use Rattle.fabric.specs.declared.event.Failure.{Failure}
@@ -9,55 +10,34 @@ use Rattle.fabric.specs.declared.event.Failure.TheVariants as failures
 use Rattle.fabric_script.specs.declared.entry.Entry.{Entry}
 use Rattle.fabric_script.specs.declared.entry.Entry.TheVariants as entries
 use Rattle.mrt_graph.specs.declared.node_id.NodeId.{NodeId}
+use Rattle.primary_alt.specs.Offers.{is_network}
 use Rattle.primary_alt.specs.Routers.{IsRouter}
-use Rattle.primary_alt.proofs.RouterFacts.{router_alone, router_or_network, router_within}
+use Rattle.primary_alt.proofs.ArcWalks.{network_by_test, test_of_network}
+use Rattle.primary_alt.proofs.RouterFacts.{router_alone, router_from, router_within}
 
-less_or_not : (n m : ℕ) → (n < m) ⊎ (¬ (n < m))
-less_or_not n m = elim (cases_lt n m) [ inl less ↦ inl less | inr past ↦ inr (λ less. absurd (omega (arith, less, past))) ]
-
-router_or_not : (ids : List NodeId) (n : ℕ) → IsRouter ids n ⊎ (¬ IsRouter ids n)
-router_or_not ids n = elim (less_or_not n (length ids)) [
-  | inr past ↦ inr (λ router. past (router_within ids n router))
-  | inl within ↦ elim (router_or_network ids n within) [
-    | inl router ↦ inl router
-    | inr network ↦ inr (λ router. router_alone ids n router network)
-  ]
-]
-
-some_or_not : (o : Option ℕ) → IsSome o ⊎ (¬ IsSome o)
-some_or_not None = inr (λ some. cc)
-some_or_not (Some n) = inl refl
+router_is : (ids : List NodeId) (n : ℕ) → IsTrue (nat_lt n (length ids) && not (is_network ids n)) ↔ IsRouter ids n
+router_is ids n =
+    Decides-like _ (λ is. router_from ids n is.0 is.1) (λ is. (router_within ids n is, router_alone ids n is))
+    (Decides-and _ _ (Decides-ltb n (length ids)) (Decides-not (is_network ids n) (network_by_test ids n, test_of_network ids n)))
 
 module _ (parts : FabricParts) where
-  inside_or_not : (at to : ℕ) → AreInside parts at to ⊎ (¬ AreInside parts at to)
-  inside_or_not at to = elim (some_or_not (node_at parts at)) [
-    | inr none ↦ inr (λ are. none are.place)
-    | inl place ↦ elim (some_or_not (node_at parts to)) [
-      | inr none ↦ inr (λ are. none are.destination)
-      | inl destination ↦ inl (record { place = place; destination = destination })
-    ]
-  ]
+  inside_is : (at to : ℕ) → IsTrue (is_some (node_at parts at) && is_some (node_at parts to)) ↔ AreInside parts at to
+  inside_is at to =
+      Decides-like _ (λ is. record { place = is.0; destination = is.1 }) (λ is. (is.place, is.destination)) (Decides-and _ _ (λ some. some, λ some. some) (λ some. some, λ some. some))
 
-  open_or_not : (at to : ℕ) (entry : Entry) → IsOpen parts at to entry ⊎ (¬ IsOpen parts at to entry)
-  open_or_not at to entries.Blue = inside_or_not at to
-  open_or_not at to entries.Red = inside_or_not at to
-  open_or_not at to entries.Repair = inl tt
+  open_is : (at to : ℕ) (entry : Entry) → (test : Bool) × (IsTrue test ↔ IsOpen parts at to entry)
+  open_is at to entries.Blue = (_, inside_is at to)
+  open_is at to entries.Red = (_, inside_is at to)
+  open_is at to entries.Repair = (true, (λ holds. tt, λ anywhere. refl))
 
-  pub may_or_not : (at to : ℕ) (entry : Entry) → MayEnter parts at to entry ⊎ (¬ MayEnter parts at to entry)
-  may_or_not at to entry = elim (router_or_not parts.area.ids at) [
-    | inr other ↦ inr (λ may. other may.router)
-    | inl router ↦ elim (less_or_not to (length parts.area.ids)) [
-      | inr past ↦ inr (λ may. past may.destination)
-      | inl within ↦ elim (cases_eq at to) [
-        | inl same ↦ inr (λ may. may.apart same)
-        | inr apart ↦ elim (open_or_not at to entry) [
-          | inr closed ↦ inr (λ may. closed may.is_open)
-          | inl allowed ↦ inl (record { router = router; destination = within; apart = apart; is_open = allowed })
-        ]
-      ]
-    ]
-  ]
+  pub may_is : (at to : ℕ) (entry : Entry) → (may : Bool) × (IsTrue may ↔ MayEnter parts at to entry)
+  may_is at to entry = (
+    _,
+    Decides-like _ (λ is. record { router = is.0; destination = is.1.0; apart = is.1.1.0; is_open = is.1.1.1 }) (λ may. (may.router, (may.destination, (may.apart, may.is_open))))
+        (Decides-and _ _ (router_is parts.area.ids at)
+        (Decides-and _ _ (Decides-ltb to (length parts.area.ids)) (Decides-and _ _ (Decides-not (at == to) (Decides-eqb at to)) (open_is at to entry).1))),
+  )
 
-  pub element_or_not : (failed : Failure) → HasElement parts failed ⊎ (¬ HasElement parts failed)
-  element_or_not (failures.Node s) = less_or_not s (length parts.area.ids)
-  element_or_not (failures.Bond b) = less_or_not b (length parts.area.bonds)
+pub element_is : (area : AreaParts) (failed : Failure) → (has : Bool) × (IsTrue has ↔ HasElement area failed)
+element_is area (failures.Node s) = (_, Decides-ltb s (length area.ids))
+element_is area (failures.Bond b) = (_, Decides-ltb b (length area.bonds))

@@ -1,11 +1,11 @@
 -- What a fabric keeps, event by event.
-use Rattle.std.proofs.Common.{◌≡◌, ◌≢◌, ◌<◌, ◌≤◌, ◌++◌, ◌∙◌, ℕ, List, [], ◌∷◌, Option, Some, None, Ok, Err, get_or, length, set, slice_get, inl, inr, refl, sym, ap, subst, arith}
+use Rattle.std.proofs.Common.{◌≡◌, ◌≢◌, ◌<◌, ◌≤◌, ◌++◌, ◌∙◌, ℕ, true, List, [], ◌∷◌, Option, Some, None, Ok, Err, get_or, length, set, slice_get, inl, inr, refl, sym, ap, subst, arith}
 use Rattle.std.specs.Prelude.{slice_set}
 use Rattle.std.specs.Option.{option_map_or}
-use Rattle.std.proofs.lemmas.Bool.{cases_eq}
+use Rattle.std.proofs.lemmas.Bool.{cases_eq, lt-ltb}
 use Rattle.std.proofs.lemmas.List.{length-append, length-set}
 use Rattle.std.proofs.lemmas.Option.{same_Some, slice_get_past, slice_get_read, slice_get_within}
-use Rattle.fabric.specs.Answers.{Answered, GetsNumber, HasEnded, IsStepAnswer, MayEnter, NoPacket}
+use Rattle.fabric.specs.Answers.{Answered, HasEnded, IsStepAnswer, MayEnter, NoPacket}
 use Rattle.fabric.specs.FabricParts.{ArePartsKept, AreRowsFor, FabricParts}
 use Rattle.fabric.specs.FabricState.{entering, packet_after, state_after, state_of}
 use Rattle.fabric.specs.FabricStep.{FabricStep}
@@ -53,7 +53,7 @@ module _ (parts : FabricParts) (are : ArePartsKept parts) (packets : List Packet
       → items ≡ packets ++ entering at to entry ∷ []
       → FabricStep parts (state_of packets failure room) (Inject at to entry) (Ok (outcomes.Entered number)) (state_of items failure room)
   step_entered at to number entry items may less number_is items_is =
-      rw (number_is, items_is) (record { answers = GetsNumber may less; after = refl })
+      rw (number_is, items_is) (record { answers = record { may = true; may_is = (λ holds. may, λ may. refl); is = rw (lt-ltb (length packets) room less) refl }; after = refl })
 
   -- the steps of a packet
   pub step_unmade : (p : ℕ) → length packets ≤ p → FabricStep parts (state_of packets failure room) (Step p) (Err refusals.NoSuchPacket) (state_of packets failure room)

@@ -3,9 +3,9 @@ use Rattle.std.proofs.Common.{◌≡◌, ◌≢◌, ◌⊎◌, ◌<◌, ◌≤�
 use Rattle.std.specs.Prelude.{IsSome, IsTrue}
 use Rattle.std.specs.Option.{option_map}
 use Rattle.fabric.specs.FabricParts.{ArePartsKept, FabricParts, element_of, node_at}
-use Rattle.fabric.specs.Causes.{HasHop}
+use Rattle.fabric.specs.Causes.{IsCut}
 use Rattle.fabric.specs.KeptState.{IsKeptPacket}
-use Rattle.fabric.specs.PacketHop.{IsColorHop, IsHop, cuts}
+use Rattle.fabric.specs.PacketHop.{IsColorHop, IsHop}
 use Rattle.fabric.specs.declared.event.Failure.{Failure}
 use Rattle.fabric.specs.declared.next_hop.NextHop.{NextHop}
 use Rattle.fabric.specs.declared.packet.Loss.{Loss}
@@ -177,17 +177,17 @@ module _ (parts : FabricParts) (are : ArePartsKept parts) where
       → q.mode ≡ modes.Switched color → Avoids parts failure left.n left.hops → (loss : Loss) → Why parts failure q loss → ⊥
   switched_stays color failure q left kept going mode avoids = go
     where
-      cut : (hop : NextHop) → HasHop parts failure q hop → IsTrue (cuts failure hop) → ⊥
-      cut hop has there =
-          let ahead = (step_on color q kept going left hop (color_hop_of parts color q.mode q.place q.to hop (inr mode) has.is)).ahead failure there in
+      cut : IsCut parts failure q → ⊥
+      cut at =
+          let ahead = (step_on color q kept going left at.hop (color_hop_of parts color q.mode q.place q.to at.hop (inr mode) at.is)).ahead failure at.cut in
           avoids.not_on ahead.x ahead.is (on_ahead left.n left.hops ahead.x ahead.ahead)
 
       go : (loss : Loss) → Why parts failure q loss → ⊥
       go Inside is =
           avoids.not_on (elements.Node left.n) (ap (element_of parts) is ∙ ap (λ (o : Option ℕ). option_map (λ n. elements.Node n) o) left.at) (inl refl)
       go NoRoute why = let primary = why.0 in cc
-      go IsDestination why = cut why.hop why.has why.cut
-      go ColorCut why = cut why.1.hop why.1.has why.1.cut
+      go IsDestination why = cut why.0
+      go ColorCut why = cut why.1.0
       go Outside why = let primary = why.0 in cc
       go NoAlternate why = let primary = why.0 in cc
 

@@ -200,7 +200,7 @@ module _ (parts : FabricParts) (are : ArePartsKept parts) where
           record {
             kept = kept';
             life = OnSwitched color refl going left (omega (arith, short, few, count)) (record {
-              failed = λ none. let cut = rw none at off.cut in cc;
+              failed = λ none. let cut = rw none at off.0.cut in cc;
               not_on = λ x failed on. given_avoids x at to color (element_of parts failure) (Some color) failed refl is
                   (on_walk parts are color to at left.hops (node_within parts are q.place at place) left.follows left.differ x on);
             });

@@ -1,15 +1,14 @@
 -- Each loss of a packet comes exactly where its cause stands.
-use Rattle.std.proofs.Common.{◌≡◌, ◌≢◌, ◌≤◌, ◌∙◌, ℕ, List, Option, Some, None, Ok, length, slice_get, inl, refl, sym, ap, subst}
+use Rattle.std.proofs.Common.{◌≡◌, ◌≢◌, ◌≤◌, ◌∙◌, ℕ, true, List, Option, Some, None, Ok, length, slice_get, inl, refl, sym, ap, subst}
 use Rattle.std.specs.Option.{option_map}
 use Rattle.std.proofs.lemmas.Bool.{false_from_ne_true}
 use Rattle.std.proofs.lemmas.Option.{same_Some}
 use Rattle.fabric.specs.Answers.{Answered, HasEnded as EndedBefore, IsStepAnswer, NoPacket}
-use Rattle.fabric.specs.Causes.{Cause, HasHop, IsCutOff, IsOnWalk, IsSeparated, LossCauses}
+use Rattle.fabric.specs.Causes.{Cause, IsCut, IsCutOff, IsOnWalk, IsSeparated, LossCauses}
 use Rattle.fabric.specs.FabricParts.{ArePartsKept, AreRowsFor, FabricParts, element_of, link_at, node_at}
 use Rattle.fabric.specs.FabricState.{Answer, FabricState, start}
 use Rattle.fabric.specs.FabricStep.{FabricStep}
 use Rattle.fabric.specs.Handling.{IsHandled, IsInside, IsOutside, IsRepair, has_failed, repaired, sent}
-use Rattle.fabric.specs.PacketHop.{cuts}
 use Rattle.fabric.specs.Runs.{IsRun}
 use Rattle.fabric.specs.Served.{AreRowsOn}
 use Rattle.fabric.specs.Course.{steps_of}
@@ -19,7 +18,6 @@ use Rattle.fabric.specs.declared.event.Failure.{Failure}
 use Rattle.fabric.specs.declared.event.Failure.TheVariants as failures
 use Rattle.fabric.specs.declared.event.Outcome.{Outcome}
 use Rattle.fabric.specs.declared.event.Outcome.TheVariants.{Lost}
-use Rattle.fabric.specs.declared.next_hop.NextHop.{NextHop}
 use Rattle.fabric.specs.declared.packet.Loss.{Loss}
 use Rattle.fabric.specs.declared.packet.Loss.TheVariants.{ColorCut, Inside, IsDestination, NoAlternate, NoRoute, Outside}
 use Rattle.fabric.specs.declared.packet.Mode.{Mode}
@@ -56,23 +54,27 @@ module _ (parts : FabricParts) (are : ArePartsKept parts) (failure : Option Fail
       go (OnSwitched c' mode going' left few avoids) = switched_stays parts are c' failure q left lives.kept going mode avoids ColorCut (λ primary. cc, off)
 
   -- what fails is neither the place nor the destination
-  neither : (n d : ℕ) → node_at parts q.place ≡ Some n → node_at parts q.to ≡ Some d → (o : Option Failure) → failure ≡ o
-      → failure ≢ Some (failures.Node q.place) → failure ≢ Some (failures.Node q.to) → (x : Element) → element_of parts o ≡ Some x → IsNeitherEnd x n d
-  neither n d at to None kept stands other x is = cc
-  neither n d at to (Some failed) kept stands other (elements.Link e) is = tt
-  neither n d at to (Some (failures.Bond b)) kept stands other (elements.Node y) is = absurd (link_no_node (link_at parts b) is)
+  neither : (n d : ℕ) → node_at parts q.place ≡ Some n → node_at parts q.to ≡ Some d → failure ≢ Some (failures.Node q.place) → failure ≢ Some (failures.Node q.to) → (x : Element)
+      → element_of parts failure ≡ Some x → IsNeitherEnd x n d
+  neither n d at to stands other (elements.Link e) is = tt
+  neither n d at to stands other (elements.Node y) is = (λ same. stands (failed q.place (at ∙ ap (λ (v : ℕ). Some v) (sym same))), λ same. other (failed q.to (to ∙ ap (λ (v : ℕ). Some v) (sym same))))
     where
-      link_no_node : (o : Option ℕ) → ◌≡◌ {A = Option Element} (option_map (λ e. elements.Link e) o) (Some (elements.Node y)) → ⊥
-      link_no_node None e = cc
-      link_no_node (Some k) e = cc
-  neither n d at to (Some (failures.Node s)) kept stands other (elements.Node y) is = (
-    λ same. stands (kept ∙ ap (λ (v : ℕ). Some (failures.Node v)) (one_spot parts are s q.place n (node_is (node_at parts s) refl is ∙ ap (λ (v : ℕ). Some v) same) at)),
-    λ same. other (kept ∙ ap (λ (v : ℕ). Some (failures.Node v)) (one_spot parts are s q.to d (node_is (node_at parts s) refl is ∙ ap (λ (v : ℕ). Some v) same) to)),
-  )
-    where
-      node_is : (o : Option ℕ) → node_at parts s ≡ o → ◌≡◌ {A = Option Element} (option_map (λ n. elements.Node n) o) (Some (elements.Node y)) → node_at parts s ≡ Some y
-      node_is None there e = cc
-      node_is (Some k) there e = there ∙ (let same : elements.Node k ≡ elements.Node y = same_Some _ _ e in cc)
+      -- the node that has failed is the one that y is
+      node_is : (s : ℕ) (o : Option ℕ) → node_at parts s ≡ o → option_map (λ n. elements.Node n) o ≡ Some (elements.Node y) → node_at parts s ≡ Some y
+      node_is s None there e = cc
+      node_is s (Some k) there e = there ∙ (let same : elements.Node k ≡ elements.Node y = same_Some _ _ e in cc)
+
+      link_is : (o : Option ℕ) → option_map (λ e. elements.Link e) o ≡ Some (elements.Node y) → ⊥
+      link_is None e = cc
+      link_is (Some k) e = cc
+
+      go : (o : Option Failure) → element_of parts o ≡ Some (elements.Node y) → (v : ℕ) → node_at parts v ≡ Some y → o ≡ Some (failures.Node v)
+      go None is v there = cc
+      go (Some (failures.Bond b)) is v there = absurd (link_is (link_at parts b) is)
+      go (Some (failures.Node s)) is v there = ap (λ (k : ℕ). Some (failures.Node k)) (one_spot parts are s v y (node_is s (node_at parts s) refl is) there)
+
+      failed : (v : ℕ) → node_at parts v ≡ Some y → failure ≡ Some (failures.Node v)
+      failed = go failure is
 
   sound : (n d : ℕ) → node_at parts q.place ≡ Some n → node_at parts q.to ≡ Some d → SoundFor parts.island.links (length parts.island.ids) parts.rows n d
   sound n d at to =
@@ -84,7 +86,7 @@ module _ (parts : FabricParts) (are : ArePartsKept parts) (failure : Option Fail
     where
       go : (o : Option Element) → element_of parts failure ≡ o → IsAlternate parts.island.links (length parts.island.ids) parts.rows at to o None → IsSeparated parts failure q
       go None failed is = elim is [ ]
-      go (Some _) failed (AtEnd x end) = absurd (end (neither at to place destination failure refl off.has.stands off.other x failed))
+      go (Some _) failed (AtEnd x end) = absurd (end (neither at to place destination off.0.stands off.1 x failed))
       go (Some _) failed (OnBoth x between blue red) = record {
         at = at;
         to = to;
@@ -104,7 +106,7 @@ module _ (parts : FabricParts) (are : ArePartsKept parts) (failure : Option Fail
   used : IsCutOff parts failure q → (color : Color) → q.mode ≡ modes.Entered color → IsOnWalk parts failure q color
   used off color mode =
       let left = left_now parts are color q rows lives.kept going (λ primary. cc) in
-      let ahead = (step_on parts are color q lives.kept going left off.hop (color_hop_of parts color q.mode q.place q.to off.hop (inl mode) off.has.is)).ahead failure off.cut in
+      let ahead = (step_on parts are color q lives.kept going left off.0.hop (color_hop_of parts color q.mode q.place q.to off.0.hop (inl mode) off.0.is)).ahead failure off.0.cut in
       record {
         at = left.n;
         to = left.d;
@@ -133,14 +135,13 @@ module _ (parts : FabricParts) (are : ArePartsKept parts) (failure : Option Fail
         go (IsLost l why) lost = subst (λ (x : Loss). Why parts failure q x) (cc) why
         go (IsSwitched color primary off by) lost = cc
 
-    has_hop : (hop : NextHop) → HasHop parts failure q hop → outcome ≡ sent q hop (cuts failure hop) (has_failed failure q.to) is.repair
-    has_hop hop has =
+    at_cut : (at : IsCut parts failure q) → outcome ≡ sent q at.hop true (has_failed failure q.to) is.repair
+    at_cut at =
         is.is
-        ∙ (rw (false_from_ne_true (has_failed failure q.place) (λ at. has.stands ((failed_is failure q.place).0 at)), one_hop_or_none parts are q.mode q.place q.to is.hop (Some hop) is.hop_is has.is) refl)
+        ∙ (rw (false_from_ne_true (has_failed failure q.place) (λ failed. at.stands ((failed_is failure q.place).0 failed)), one_hop_or_none parts are q.mode q.place q.to is.hop (Some at.hop) is.hop_is at.is, at.cut) refl)
 
-    cut_off : (off : IsCutOff parts failure q) → outcome ≡ repaired q.mode is.repair
-    cut_off off =
-        has_hop off.hop off.has ∙ (rw (off.cut, false_from_ne_true (has_failed failure q.to) (λ at. off.other ((failed_is failure q.to).0 at))) refl)
+    cut_off : IsCutOff parts failure q → outcome ≡ repaired q.mode is.repair
+    cut_off off = at_cut off.0 ∙ (rw (false_from_ne_true (has_failed failure q.to) (λ failed. off.1 ((failed_is failure q.to).0 failed))) refl)
 
     repair_is : (repair : Option (Option Color)) → IsRepair parts failure q repair → is.repair ≡ repair
     repair_is repair by = one_repair parts failure q is.repair repair is.repair_is by
@@ -150,7 +151,7 @@ module _ (parts : FabricParts) (are : ArePartsKept parts) (failure : Option Fail
     lost NoRoute (primary, stands, none) =
         is.is
         ∙ (rw (false_from_ne_true (has_failed failure q.place) (λ at. stands ((failed_is failure q.place).0 at)), one_hop_or_none parts are q.mode q.place q.to is.hop None is.hop_is (primary, none)) refl)
-    lost IsDestination why = has_hop why.hop why.has ∙ (rw (why.cut, (failed_is failure q.to).1 why.destination) refl)
+    lost IsDestination (at, destination) = at_cut at ∙ (rw ((failed_is failure q.to).1 destination) refl)
     lost ColorCut (entered, off) = cut_off off ∙ (rw entered.1 refl)
     lost Outside (primary, off, out) = cut_off off ∙ (rw (primary, repair_is None (IsOutside out)) refl)
     lost NoAlternate (primary, off, separates) = cut_off off ∙ (rw (primary, repair_is (Some None) (unrepaired separates)) refl)

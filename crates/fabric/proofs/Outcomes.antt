@@ -2,7 +2,7 @@
 use Rattle.std.proofs.Common.{◌≡◌, ◌≢◌, ℕ, Bool, true, false, Option, Some, None, inl, inr, refl, sym, ap, subst}
 use Rattle.std.specs.Prelude.{◌↔◌, IsTrue}
 use Rattle.std.proofs.lemmas.Bool.{cases_eq, eq-eqb, eqb-true, iff_false, ne_eqb}
-use Rattle.fabric.specs.Causes.{IsCutFromFailed, IsCutOff}
+use Rattle.fabric.specs.Causes.{IsCut, IsCutOff}
 use Rattle.fabric.specs.FabricParts.{FabricParts}
 use Rattle.fabric.specs.Handling.{IsHandled, IsHopOrNone, IsRepair, IsUnreachable, handled, has_failed, repaired, sent}
 use Rattle.fabric.specs.PacketHop.{IsHop, cuts}
@@ -28,7 +28,7 @@ failed_is (Some (failures.Node s)) v = (λ holds. ap (λ (y : ℕ). Some (failur
 abbrev pub Why : FabricParts → Option Failure → Packet → Loss → Type 0
 Why parts failure q Inside = failure ≡ Some (failures.Node q.place)
 Why parts failure q NoRoute = (q.mode ≡ modes.Primary) × (failure ≢ Some (failures.Node q.place)) × IsUnreachable parts.area q.place q.to
-Why parts failure q IsDestination = IsCutFromFailed parts failure q
+Why parts failure q IsDestination = IsCut parts failure q × (failure ≡ Some (failures.Node q.to))
 Why parts failure q ColorCut = (q.mode ≢ modes.Primary) × IsCutOff parts failure q
 Why parts failure q Outside = (q.mode ≡ modes.Primary) × IsCutOff parts failure q × IsRepair parts failure q None
 Why parts failure q NoAlternate = (q.mode ≡ modes.Primary) × IsCutOff parts failure q × IsRepair parts failure q (Some None)
@@ -55,10 +55,9 @@ module _ (parts : FabricParts) (failure : Option Failure) (q : Packet) where
     | inr other ↦ rw (ne_eqb hop.next q.to other) (Moves hop is other)
   ]
   with_hop hop true true repair is stands cut at by =
-      IsLost IsDestination (record { hop = hop; has = record { stands = iff_false (failed_is failure q.place) stands; is = is }; cut = cut; destination = (failed_is failure q.to).0 at })
+      IsLost IsDestination (record { stands = iff_false (failed_is failure q.place) stands; hop = hop; is = is; cut = cut }, (failed_is failure q.to).0 at)
   with_hop hop true false repair is stands cut other by =
-      after_cut q.mode repair refl
-      (record { hop = hop; has = record { stands = iff_false (failed_is failure q.place) stands; is = is }; cut = cut; other = iff_false (failed_is failure q.to) other }) by
+      after_cut q.mode repair refl (record { stands = iff_false (failed_is failure q.place) stands; hop = hop; is = is; cut = cut }, iff_false (failed_is failure q.to) other) by
 
   at_place : (failed : Bool) (hop : Option NextHop) (repair : Option (Option Color)) → has_failed failure q.place ≡ failed → IsHopOrNone parts q.mode q.place q.to hop
       → IsRepair parts failure q repair → Becomes parts failure q (handled failure q failed hop repair)

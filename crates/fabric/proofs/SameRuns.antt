@@ -2,7 +2,7 @@
 use Rattle.std.proofs.Common.{◌≡◌, ◌∙◌, ℕ, List, [], ◌∷◌, Option, Some, None, length, slice_get, refl, sym, ap, subst}
 use Rattle.std.specs.Prelude.{Contains}
 use Rattle.std.specs.Option.{option_and_then}
-use Rattle.fabric.specs.Answers.{Answered, AreInside, FailedBefore, GetsNumber, HasElement, HasEnded, IsAnswer, IsFailAnswer, IsInjectAnswer, IsKept, IsOpen, IsStepAnswer, MayEnter, MayNotEnter, NoPacket, NoRoom, NotThere}
+use Rattle.fabric.specs.Answers.{Answered, AreInside, HasEnded, IsAnswer, IsInjectAnswer, IsOpen, IsStepAnswer, MayEnter, NoPacket}
 use Rattle.fabric.specs.FabricParts.{FabricParts, element_of}
 use Rattle.fabric.specs.FabricState.{Answer, FabricState, start}
 use Rattle.fabric.specs.Handling.{IsHandled, IsHopOrNone, IsInside, IsOutside, IsRepair}
@@ -47,27 +47,19 @@ module _ (parts : FabricParts) (rows : Rows) where
     is_open = open_too at to entry may.is_open;
   }
 
-  element_too : (failed : Failure) → HasElement parts failed → HasElement (with_rows parts rows) failed
-  element_too (failures.Node s) has = has
-  element_too (failures.Bond b) has = has
-
   place_too : (failure : Option Failure) → element_of (with_rows parts rows) failure ≡ element_of parts failure
   place_too None = refl
   place_too (Some (failures.Node s)) = refl
   place_too (Some (failures.Bond b)) = refl
 
 module _ (parts : FabricParts) (rows : Rows) where
-  fail_too : (failure : Option Failure) (failed : Failure) (answer : Answer) → IsFailAnswer parts failure failed answer
-      → IsFailAnswer (with_rows parts rows) failure failed answer
-  fail_too failure failed answer (NotThere not) = NotThere (λ has. not (element_too (with_rows parts rows) parts.rows failed has))
-  fail_too failure failed answer (FailedBefore has some) = FailedBefore (element_too parts rows failed has) some
-  fail_too failure failed answer (IsKept has none) = IsKept (element_too parts rows failed has) none
-
   inject_too : (state : FabricState) (at to : ℕ) (entry : Entry) (answer : Answer) → IsInjectAnswer parts state at to entry answer
       → IsInjectAnswer (with_rows parts rows) state at to entry answer
-  inject_too state at to entry answer (MayNotEnter not) = MayNotEnter (λ may. not (may_too (with_rows parts rows) parts.rows at to entry may))
-  inject_too state at to entry answer (NoRoom may full) = NoRoom (may_too parts rows at to entry may) full
-  inject_too state at to entry answer (GetsNumber may room) = GetsNumber (may_too parts rows at to entry may) room
+  inject_too state at to entry answer is = record {
+    may = is.may;
+    may_is = (λ holds. may_too parts rows at to entry (is.may_is.0 holds), λ may. is.may_is.1 (may_too (with_rows parts rows) parts.rows at to entry may));
+    is = is.is;
+  }
 
   -- hops on a color
   over_too : (color : Color) (n d : ℕ) (c : Crossing) → ((s : ℕ) → parts.rows s d ≡ rows s d) → IsOver parts color n d c → IsOver (with_rows parts rows) color n d c
@@ -116,7 +108,7 @@ module _ (parts : FabricParts) (rows : Rows) where
       → IsAnswer (with_rows parts rows) state event answer
   answer_too state (Inject at to entry) answer agree is = inject_too state at to entry answer is
   answer_too state (Step p) answer agree is = step_too state.failure (slice_get state.packets p) answer (agree p) is
-  answer_too state (Fail failed) answer agree is = fail_too state.failure failed answer is
+  answer_too state (Fail failed) answer agree is = is
 
   -- step by step
   run_too : (events : List Event) (answers : List Answer) (old new : FabricState) → AgreeOn parts rows events

@@ -1,7 +1,7 @@
 -- Each event has an answer.
 use Rattle.std.proofs.Common.{◌≡◌, ◌≢◌, ◌⊎◌, ◌<◌, ◌∙◌, ℕ, List, Option, Some, None, length, slice_get, inl, inr, refl, sym}
 use Rattle.std.proofs.lemmas.Bool.{cases_lt}
-use Rattle.fabric.specs.Answers.{Answered, FailedBefore, GetsNumber, HasElement, HasEnded, IsAnswer, IsFailAnswer, IsInjectAnswer, IsKept, IsStepAnswer, MayNotEnter, NoPacket, NoRoom, NotThere}
+use Rattle.fabric.specs.Answers.{Answered, HasEnded, IsAnswer, IsStepAnswer, NoPacket}
 use Rattle.fabric.specs.Course.{steps_of}
 use Rattle.fabric.specs.FabricParts.{ArePartsKept, AreRowsFor, FabricParts}
 use Rattle.fabric.specs.FabricState.{Answer, FabricState, start}
@@ -21,7 +21,7 @@ use Rattle.fabric.specs.declared.packet.Packet.{Packet}
 use Rattle.fabric.specs.declared.packet.State.{State}
 use Rattle.fabric.specs.declared.packet.State.TheVariants as states
 use Rattle.fabric_script.specs.declared.entry.Entry.{Entry}
-use Rattle.fabric.proofs.EnterOrNot.{element_or_not, may_or_not}
+use Rattle.fabric.proofs.EnterOrNot.{element_is, may_is}
 use Rattle.fabric.proofs.OneHop.{one_over, two_over}
 use Rattle.fabric.proofs.PacketChains.{left_now}
 use Rattle.fabric.proofs.RunLives.{IsAt, Living, Unmade, run_lives}
@@ -63,34 +63,15 @@ going_or_not states.Going = inl refl
 going_or_not states.Delivered = inr (λ same. cc)
 going_or_not (states.Lost loss) = inr (λ same. cc)
 
-some_inject : (parts : FabricParts) (state : FabricState) (at to : ℕ) (entry : Entry)
-    → (answer : Answer) × IsInjectAnswer parts state at to entry answer
-some_inject parts state at to entry = elim (may_or_not parts at to entry) [
-  | inr not ↦ (_, MayNotEnter not)
-  | inl may ↦ elim (cases_lt (length state.packets) state.room) [
-    | inl room ↦ (_, GetsNumber may room)
-    | inr full ↦ (_, NoRoom may full)
-  ]
-]
-
-some_fail : (parts : FabricParts) (failure : Option Failure) (failed : Failure)
-    → (answer : Answer) × IsFailAnswer parts failure failed answer
-some_fail parts failure failed = elim (element_or_not parts failed) [
-  | inr not ↦ (_, NotThere not)
-  | inl has ↦ go failure refl has
-]
-  where
-    go : (kept : Option Failure) → failure ≡ kept → HasElement parts failed → (answer : Answer) × IsFailAnswer parts failure failed answer
-    go None is has = (_, IsKept has is)
-    go (Some other) is has = (_, FailedBefore has (λ none. let e = sym is ∙ none in cc))
-
 -- after each run from the start
 pub some_answer : (parts : FabricParts) → ArePartsKept parts → (entries : ℕ → ℕ → Option Primary)
     → ((s t : ℕ) → IsRouter parts.area.ids s → t < length parts.area.ids → IsPrimary parts.area s t (entries s t))
     → (room : ℕ) (events : List Event) (answers : List Answer) (end : FabricState) → AreRowsOn parts events → IsRun parts (start room) events answers end
     → (event : Event) → (answer : Answer) × IsAnswer parts end event answer
-some_answer parts are entries primaries room events answers end on run (Inject at to entry) = some_inject parts end at to entry
-some_answer parts are entries primaries room events answers end on run (Fail failed) = some_fail parts end.failure failed
+some_answer parts are entries primaries room events answers end on run (Inject at to entry) =
+    let may = may_is parts at to entry in (_, record { may = may.0; may_is = may.1; is = refl })
+some_answer parts are entries primaries room events answers end on run (Fail failed) =
+    let has = element_is parts.area failed in (_, record { has = has.0; has_is = has.1; is = refl })
 some_answer parts are entries primaries room events answers end on run (Step p) = go (run_lives parts are room events answers end on run p)
   where
     answer_of : (q : Packet) → AreRowsFor parts q.to → IsKeptPacket parts q → (answer : Answer) × IsStepAnswer parts end.failure (Some q) answer

@@ -1,5 +1,6 @@
 -- The answers to events.
-use Rattle.std.specs.Prelude.{◌≡◌, ◌≢◌, ◌<◌, ◌≤◌, ⊤, ℕ, Option, Some, None, Ok, Err, IsSome, length, slice_get}
+use Rattle.std.specs.Prelude.{◌≡◌, ◌≢◌, ◌<◌, ◌↔◌, ⊤, ℕ, Bool, true, false, Option, Some, None, Ok, Err, IsSome, IsTrue, length, nat_lt, slice_get}
+use Rattle.area_graph.specs.Parts.{AreaParts}
 use Rattle.fabric.specs.FabricParts.{FabricParts, node_at}
 use Rattle.fabric.specs.FabricState.{Answer, FabricState}
 use Rattle.fabric.specs.Handling.{IsHandled}
@@ -35,25 +36,32 @@ pub record MayEnter (parts : FabricParts) (at to : ℕ) (entry : Entry) : Type 0
   pub apart : at ≢ to
   pub is_open : IsOpen parts at to entry
 
--- the answer to a packet that enters, the first of these that applies: it may not enter; there is no room; it gets the
--- next number
-pub data IsInjectAnswer (parts : FabricParts) (state : FabricState) (at to : ℕ) (entry : Entry) : Answer → Type 0 where
-  MayNotEnter : ¬ MayEnter parts at to entry → IsInjectAnswer parts state at to entry (Err NoSuchPlace)
-  NoRoom : MayEnter parts at to entry → state.room ≤ length state.packets → IsInjectAnswer parts state at to entry (Err Full)
-  GetsNumber : MayEnter parts at to entry → length state.packets < state.room
-      → IsInjectAnswer parts state at to entry (Ok (outcomes.Entered (length state.packets)))
+-- the answer to a packet that enters, by whether it may enter, whether there is room, and the next number
+abbrev pub inject_answer : Bool → Bool → ℕ → Answer
+inject_answer false room number = Err NoSuchPlace
+inject_answer true false number = Err Full
+inject_answer true true number = Ok (outcomes.Entered number)
 
--- the area has an element
-abbrev pub HasElement : FabricParts → Failure → Type 0
-HasElement parts (Node s) = s < length parts.area.ids
-HasElement parts (Bond b) = b < length parts.area.bonds
+pub record IsInjectAnswer (parts : FabricParts) (state : FabricState) (at to : ℕ) (entry : Entry) (answer : Answer) : Type 0 where
+  pub may : Bool
+  pub may_is : IsTrue may ↔ MayEnter parts at to entry
+  pub is : answer ≡ inject_answer may (nat_lt (length state.packets) state.room) (length state.packets)
 
--- the answer to a failure, the first of these that applies: the area has no such element; a failure is kept already; it
--- is kept from now on
-pub data IsFailAnswer (parts : FabricParts) (failure : Option Failure) (failed : Failure) : Answer → Type 0 where
-  NotThere : ¬ HasElement parts failed → IsFailAnswer parts failure failed (Err NoSuchPlace)
-  FailedBefore : HasElement parts failed → failure ≢ None → IsFailAnswer parts failure failed (Err SecondFailure)
-  IsKept : HasElement parts failed → failure ≡ None → IsFailAnswer parts failure failed (Ok outcomes.Failed)
+-- an area has an element
+abbrev pub HasElement : AreaParts → Failure → Type 0
+HasElement area (Node s) = s < length area.ids
+HasElement area (Bond b) = b < length area.bonds
+
+-- the answer to a failure, by whether the area has this element, and whether a failure is kept already
+abbrev pub fail_answer : Bool → Option Failure → Answer
+fail_answer false failure = Err NoSuchPlace
+fail_answer true (Some before) = Err SecondFailure
+fail_answer true None = Ok outcomes.Failed
+
+pub record IsFailAnswer (area : AreaParts) (failure : Option Failure) (failed : Failure) (answer : Answer) : Type 0 where
+  pub has : Bool
+  pub has_is : IsTrue has ↔ HasElement area failed
+  pub is : answer ≡ fail_answer has failure
 
 -- the answer to a step of a packet, if there is one
 pub data IsStepAnswer (parts : FabricParts) (failure : Option Failure) : Option Packet → Answer → Type 0 where
@@ -66,4 +74,4 @@ pub data IsStepAnswer (parts : FabricParts) (failure : Option Failure) : Option 
 abbrev pub IsAnswer : FabricParts → FabricState → Event → Answer → Type 0
 IsAnswer parts state (Inject at to entry) answer = IsInjectAnswer parts state at to entry answer
 IsAnswer parts state (Step p) answer = IsStepAnswer parts state.failure (slice_get state.packets p) answer
-IsAnswer parts state (Fail failed) answer = IsFailAnswer parts state.failure failed answer
+IsAnswer parts state (Fail failed) answer = IsFailAnswer parts.area state.failure failed answer

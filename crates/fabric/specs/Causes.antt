@@ -17,24 +17,16 @@ use Rattle.mrt_graph.specs.Separates.{Separates}
 use Rattle.mrt_graph.specs.declared.cert.Color.{Color}
 use Rattle.mrt_graph.specs.declared.link.Element.{Element}
 
--- the packet's place has not failed, and this is its hop
-pub record HasHop (parts : FabricParts) (failure : Option Failure) (packet : Packet) (hop : NextHop) : Type 0 where
+-- the packet's place has not failed, and its hop is cut
+pub record IsCut (parts : FabricParts) (failure : Option Failure) (packet : Packet) : Type 0 where
   pub stands : failure ≢ Some (Node packet.place)
+  pub hop : NextHop
   pub is : IsHop parts packet.mode packet.place packet.to hop
-
--- its hop is cut, and its destination is the failed node
-pub record IsCutFromFailed (parts : FabricParts) (failure : Option Failure) (packet : Packet) : Type 0 where
-  pub hop : NextHop
-  pub has : HasHop parts failure packet hop
   pub cut : IsTrue (cuts failure hop)
-  pub destination : failure ≡ Some (Node packet.to)
 
--- its hop is cut by another element than its destination
-pub record IsCutOff (parts : FabricParts) (failure : Option Failure) (packet : Packet) : Type 0 where
-  pub hop : NextHop
-  pub has : HasHop parts failure packet hop
-  pub cut : IsTrue (cuts failure hop)
-  pub other : failure ≢ Some (Node packet.to)
+-- by another element than its destination
+abbrev pub IsCutOff : FabricParts → Option Failure → Packet → Type 0
+IsCutOff parts failure packet = IsCut parts failure packet × (failure ≢ Some (Node packet.to))
 
 -- its place and its destination are of the island
 pub record IsInside (parts : FabricParts) (packet : Packet) (at to : ℕ) : Type 0 where
@@ -68,7 +60,7 @@ abbrev pub Cause : FabricParts → Option Failure → Packet → Loss → Type 0
 Cause parts failure packet Inside = failure ≡ Some (Node packet.place)
 Cause parts failure packet NoRoute =
     (packet.mode ≡ Primary) × (failure ≢ Some (Node packet.place)) × IsUnreachable parts.area packet.place packet.to
-Cause parts failure packet IsDestination = IsCutFromFailed parts failure packet
+Cause parts failure packet IsDestination = IsCut parts failure packet × (failure ≡ Some (Node packet.to))
 Cause parts failure packet ColorCut = ((color : Color) × (packet.mode ≡ Entered color)) × IsCutOff parts failure packet
 Cause parts failure packet Outside =
     (packet.mode ≡ Primary) × IsCutOff parts failure packet × ((node_at parts packet.place ≡ None) ⊎ (node_at parts packet.to ≡ None))

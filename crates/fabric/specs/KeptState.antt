@@ -22,5 +22,5 @@ pub record IsKeptPacket (parts : FabricParts) (packet : Packet) : Type 0 where
 -- of a state: its packets and its failure are of these parts, and there is room for the packets
 pub record IsKeptState (parts : FabricParts) (state : FabricState) : Type 0 where
   pub packets : (p : ℕ) (packet : Packet) → slice_get state.packets p ≡ Some packet → IsKeptPacket parts packet
-  pub failure : (failed : Failure) → state.failure ≡ Some failed → HasElement parts failed
+  pub failure : (failed : Failure) → state.failure ≡ Some failed → HasElement parts.area failed
   pub few : length state.packets ≤ state.room

@@ -77,7 +77,7 @@ fn mode_of(entry: Entry) -> Mode
 
 /// Whether the area has an element.
 pub fn has_element<R: RowsOf>(parts: &Parts<'_, R>, failed: &Failure) -> bool
-    ensures { IsTrue result ↔ HasElement (viewed R.rows parts.now) failed.now }
+    ensures { IsTrue result ↔ HasElement parts.now.area.now failed.now }
 {
     match failed {
         Failure::Node(s) => s.get() < parts.area.count(),

@@ -33,7 +33,7 @@ pub fn handled<R: RowsOf>(
     requires packet { IsKeptPacket (viewed R.rows parts.now) packet.now }
     requires going { packet.now.state ≡ states.Going }
     requires failure { (failed : Failure) → failure ≡ Some failed
-        → HasElement (viewed R.rows parts.now) failed }
+        → HasElement parts.now.area.now failed }
     ensures { IsHandled (viewed R.rows parts.now) failure packet.now result }
 {
     let hop = next_hop(parts, packet);
@@ -58,7 +58,7 @@ fn sent<R: RowsOf>(
     requires served { IsServedBy (viewed R.rows parts.now) parts.now.routes.now packet.now.to }
     requires packet { IsKeptPacket (viewed R.rows parts.now) packet.now }
     requires failure { (failed : Failure) → failure.now ≡ Some failed
-        → HasElement (viewed R.rows parts.now) failed }
+        → HasElement parts.now.area.now failed }
     ensures { (repair : Option (Option Color))
         × IsRepair (viewed R.rows parts.now) failure.now packet.now repair
         × (result ≡ sent packet.now hop.now (cuts failure.now hop.now) (has_failed failure.now packet.now.to) repair) }
@@ -110,7 +110,7 @@ fn repair<R: RowsOf>(
     requires served { IsServedBy (viewed R.rows parts.now) parts.now.routes.now packet.now.to }
     requires packet { IsKeptPacket (viewed R.rows parts.now) packet.now }
     requires failure { (failed : Failure) → failure.now ≡ Some failed
-        → HasElement (viewed R.rows parts.now) failed }
+        → HasElement parts.now.area.now failed }
     ensures { IsRepair (viewed R.rows parts.now) failure.now packet.now result }
 {
     let at = node_of(parts, packet.place)?;

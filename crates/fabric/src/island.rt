@@ -37,7 +37,7 @@ pub fn element_of<R: RowsOf>(parts: &Parts<'_, R>, failure: &Option<Failure>) ->
     requires kept { ArePartsKept (viewed R.rows parts.now) }
     requires routed { AreRouted parts.now }
     requires within { (failed : Failure) → failure.now ≡ Some failed
-        → HasElement (viewed R.rows parts.now) failed }
+        → HasElement parts.now.area.now failed }
     ensures { result ≡ element_of (viewed R.rows parts.now) failure.now }
 {
     match failure {
@@ -50,7 +50,7 @@ pub fn element_of<R: RowsOf>(parts: &Parts<'_, R>, failure: &Option<Failure>) ->
 fn element_at<R: RowsOf>(parts: &Parts<'_, R>, failed: &Failure) -> Option<Element>
     requires kept { ArePartsKept (viewed R.rows parts.now) }
     requires routed { AreRouted parts.now }
-    requires within { HasElement (viewed R.rows parts.now) failed.now }
+    requires within { HasElement parts.now.area.now failed.now }
     ensures { result ≡ element_at (viewed R.rows parts.now) failed.now }
 {
     match failed {

@@ -1,5 +1,5 @@
-use Rattle.std.proofs.Common.{◌≡◌, ◌<◌, ◌∙◌, ◌++◌, [], ◌∷◌, length, refl, sym, arith, true≢false}
-use Rattle.fabric.specs.Answers.{MayNotEnter, NoRoom}
+use Rattle.std.proofs.Common.{◌≡◌, ◌<◌, ◌∙◌, ◌++◌, [], ◌∷◌, length, refl, arith}
+use Rattle.std.proofs.lemmas.Bool.{le-ltb}
 use Rattle.fabric.specs.Served.{IsServedBy}
 use Rattle.fabric.specs.Viewed.{viewed}
 use Rattle.fabric.proofs.Destinations.{each_entered}
@@ -9,7 +9,7 @@ use Rattle.fabric.proofs.fabric.Fabric.inject.Goals as goal
 pub returns-then-not-may_enter-clause-step : goal.returns-then-not-may_enter-clause-step
 returns-then-not-may_enter-clause-step g c =
     rw (← c.self.view_is) (record {
-      answers = MayNotEnter (λ may. true≢false (sym (c.may_enter.ensures.1 may) ∙ c.if-not-may_enter.true));
+      answers = record { may = c.may_enter.result; may_is = c.may_enter.ensures; is = rw c.if-not-may_enter.true refl };
       after = refl;
     })
 
@@ -19,7 +19,7 @@ returns-then-number-self-clause-step g c =
     let count = c.len-number.ensures in
     let whole = c.self.inside.packets.ok.0 in
     rw (← c.self.view_is) (record {
-      answers = NoRoom (c.may_enter.ensures.0 c.if-not-may_enter.false) (omega (arith, full, count, whole));
+      answers = record { may = c.may_enter.result; may_is = c.may_enter.ensures; is = rw (c.if-not-may_enter.false, le-ltb (length c.self.inside.packets.items) c.self.inside.room (omega (arith, full, count, whole))) refl };
       after = refl;
     })
 
