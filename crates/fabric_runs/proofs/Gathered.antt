@@ -1,11 +1,11 @@
 -- Destinations, gathered event by event.
-use Rattle.std.proofs.Common.{◌≡◌, ◌≢◌, ◌<◌, ◌+◌, ◌++◌, ◌∙◌, ℕ, zero, suc, Bool, true, false, List, [], ◌∷◌, Option, Some, None, get_or, length, set, slice_get, take, inl, inr, subst, sym, arith}
+use Rattle.std.proofs.Common.{◌≡◌, ◌≢◌, ◌<◌, ◌+◌, ◌++◌, ◌∙◌, ℕ, zero, suc, Bool, true, false, List, [], ◌∷◌, Option, Some, get_or, length, set, slice_get, take, inl, inr, subst, sym, arith}
 use Rattle.std.specs.Prelude.{◌⊎◌, ◌↔◌, Contains, replicate}
 use Rattle.std.proofs.lemmas.Bool.{cases_eq}
 use Rattle.std.proofs.lemmas.List.{take_more}
 use Rattle.std.proofs.lemmas.List.Elements.{Contains-append_left, Contains-get_or, Contains-push, Contains-push_cases}
 use Rattle.std.proofs.lemmas.List.Quantifiers.{all_pairs_push}
-use Rattle.std.proofs.lemmas.Option.{none-some, same_Some, slice_get_within}
+use Rattle.std.proofs.lemmas.Option.{same_Some, slice_get_within}
 use Rattle.area_graph.specs.Parts.{AreaParts}
 use Rattle.fabric_runs.specs.Destinations.{AreDestinations, EntersFor, IsDestination}
 use Rattle.fabric_script.specs.declared.event.ScriptEvent.{ScriptEvent}
@@ -68,31 +68,15 @@ module _ (area : AreaParts) (events : List ScriptEvent) (d : ScriptEvent) (i : �
         | inr last ↦ inr ((here t).1 (subst (λ (event : ScriptEvent). EntersFor area t event) (sym last) is.enters))
       ]
 
-  -- it is for none
-  pub none_more : found ≡ None → AreGathered area (take (i + 1) events) spots known
-  none_more none = record {
+  -- it is for none, or for one that is known
+  pub known_more : ((t : ℕ) → found ≡ Some t → Contains spots t) → AreGathered area (take (i + 1) events) spots known
+  known_more there = record {
     are = record {
       all = λ t. (
         λ among. still t ((so_far.are.all t).0 among),
         λ is. elim (before_or_here t is) [
           | inl before ↦ (so_far.are.all t).1 before
-          | inr now ↦ absurd (none-some t (sym none ∙ now))
-        ],
-      );
-      once = so_far.are.once;
-    };
-    marked = so_far.marked;
-  }
-
-  -- it is for one that is known
-  pub known_more : (t : ℕ) → found ≡ Some t → Contains spots t → AreGathered area (take (i + 1) events) spots known
-  known_more t is_found there = record {
-    are = record {
-      all = λ u. (
-        λ among. still u ((so_far.are.all u).0 among),
-        λ is. elim (before_or_here u is) [
-          | inl before ↦ (so_far.are.all u).1 before
-          | inr now ↦ subst (λ (y : ℕ). Contains spots y) (same_Some t u (sym is_found ∙ now)) there
+          | inr now ↦ there t now
         ],
       );
       once = so_far.are.once;

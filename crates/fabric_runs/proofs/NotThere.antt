@@ -1,15 +1,15 @@
 -- What the area does not have is refused.
-use Rattle.std.proofs.Common.{◌≡◌, ◌<◌, ◌∙◌, ◌↔◌, ℕ, Option, Some, None, Err, Contains, ap, arith, length, refl, subst, sym}
+use Rattle.std.proofs.Common.{◌≡◌, ◌<◌, ◌∙◌, ◌↔◌, ℕ, false, Option, Some, None, Err, Contains, ap, arith, length, refl}
 use Rattle.std.specs.Prelude.{IsNone}
 use Rattle.std.specs.Option.{unwrap_or}
+use Rattle.std.proofs.lemmas.Bool.{false_from_ne_true}
 use Rattle.area_graph.proofs.Naming.{none_named}
 use Rattle.mrt_graph.proofs.IdPlaces.{contained_by_number}
 use Rattle.area_graph.specs.Named.{IsNamed, bond_named}
 use Rattle.mrt_graph.specs.NodeIds.{number_of, router}
 use Rattle.area_graph.specs.Parts.{AreaParts}
 use Rattle.area_graph.specs.declared.area_types.Arc.{Arc}
-use Rattle.fabric.specs.Answers.{FailedBefore, HasElement, IsFailAnswer, IsInjectAnswer, IsKept, GetsNumber, MayEnter, MayNotEnter, NoRoom, NotThere}
-use Rattle.fabric.specs.declared.event.Failure.{Failure}
+use Rattle.fabric.specs.Answers.{HasElement, IsAnswer, MayEnter}
 use Rattle.fabric.specs.declared.event.Refused.TheVariants.{NoSuchPlace}
 use Rattle.fabric_script.specs.declared.entry.Entry.{Entry}
 use Rattle.fabric.specs.FabricParts.{FabricParts}
@@ -48,47 +48,27 @@ may_not parts number to entry none = λ may.
       node_there parts.area to may.destination,
     )
 
-not_element : (parts : FabricParts) (failed : FailureName) → ¬ HasNamed parts.area failed → ¬ HasElement parts (failure_of parts.area failed)
+not_element : (parts : FabricParts) (failed : FailureName) → ¬ HasNamed parts.area failed → ¬ HasElement parts.area (failure_of parts.area failed)
 not_element parts (Node id) none = λ within. none (node_there parts.area id within)
 not_element parts (Link number link_data) none =
     λ within. link_there parts.area number link_data (λ arc named. none (arc, named)) within
 
-inject_answer : (parts : FabricParts) (state : FabricState) (at to : ℕ) (entry : Entry) (answer : Answer) → ¬ MayEnter parts at to entry
-    → IsInjectAnswer parts state at to entry answer → answer ≡ Err NoSuchPlace
-inject_answer parts state at to entry answer none (MayNotEnter not) = refl
-inject_answer parts state at to entry answer none (NoRoom may full) = absurd (none may)
-inject_answer parts state at to entry answer none (GetsNumber may room) = absurd (none may)
-
-fail_answer : (parts : FabricParts) (failure : Option Failure) (failed : Failure) (answer : Answer) → ¬ HasElement parts failed
-    → IsFailAnswer parts failure failed answer → answer ≡ Err NoSuchPlace
-fail_answer parts failure failed answer none (NotThere not) = refl
-fail_answer parts failure failed answer none (FailedBefore has some) = absurd (none has)
-fail_answer parts failure failed answer none (IsKept has free) = absurd (none has)
-
 only_answer : (parts : FabricParts) (old : FabricState) (event : ScriptEvent) (answer : Answer) → ¬ AreThere parts.area event
-    → (new : FabricState) → FabricStep parts old (event_of parts.area event) answer new → answer ≡ Err NoSuchPlace
-only_answer parts old (Inject number to entry) answer none new step =
-    inject_answer parts old (spot_of parts.area (router number)) (spot_of parts.area to) entry answer
-    (may_not parts number to entry none) step.answers
-only_answer parts old (Step packet) answer none new step = absurd (none tt)
-only_answer parts old (Fail failed) answer none new step =
-    fail_answer parts old.failure (failure_of parts.area failed) answer (not_element parts failed none) step.answers
+    → IsAnswer parts old (event_of parts.area event) answer → answer ≡ Err NoSuchPlace
+only_answer parts old (Inject number to entry) answer none is =
+    is.is ∙ (rw (false_from_ne_true is.may (λ may. may_not parts number to entry none (is.may_is.0 may))) refl)
+only_answer parts old (Step packet) answer none is = absurd (none tt)
+only_answer parts old (Fail failed) answer none is = is.is ∙ (rw (false_from_ne_true is.has (λ has. not_element parts failed none (is.has_is.0 has))) refl)
 
-refused_step : (parts : FabricParts) (old : FabricState) (event : ScriptEvent) → ¬ AreThere parts.area event
-    → FabricStep parts old (event_of parts.area event) (Err NoSuchPlace) old
-refused_step parts old (Inject number to entry) none =
-    record { answers = MayNotEnter (may_not parts number to entry none); after = refl }
-refused_step parts old (Step packet) none = absurd (none tt)
-refused_step parts old (Fail failed) none = record { answers = NotThere (not_element parts failed none); after = refl }
+refused_answer : (parts : FabricParts) (old : FabricState) (event : ScriptEvent) → ¬ AreThere parts.area event → IsAnswer parts old (event_of parts.area event) (Err NoSuchPlace)
+refused_answer parts old (Inject number to entry) none = record { may = false; may_is = (λ holds. cc, λ may. absurd (may_not parts number to entry none may)); is = refl }
+refused_answer parts old (Step packet) none = absurd (none tt)
+refused_answer parts old (Fail failed) none = record { has = false; has_is = (λ holds. cc, λ has. absurd (not_element parts failed none has)); is = refl }
 
 pub refused : (parts : FabricParts) (old new : FabricState) (event : ScriptEvent) (answer : Answer) → ¬ AreThere parts.area event
     → FabricStep parts old (event_of parts.area event) answer new ↔ ((answer ≡ Err NoSuchPlace) × (new ≡ old))
 refused parts old new event answer none = (
   λ step.
-      let is = only_answer parts old event answer none new step in
-      (is, step.after ∙ ap (λ (a : Answer). state_after old (event_of parts.area event) a) is),
-  λ is.
-      subst (λ (a : Answer). FabricStep parts old (event_of parts.area event) a new) (sym is.0)
-      (subst (λ (s : FabricState). FabricStep parts old (event_of parts.area event) (Err NoSuchPlace) s) (sym is.1)
-      (refused_step parts old event none)),
+      let is = only_answer parts old event answer none step.answers in (is, step.after ∙ ap (λ (a : Answer). state_after old (event_of parts.area event) a) is),
+  λ is. rw (is.0, is.1) (record { answers = refused_answer parts old event none; after = refl }),
 )

@@ -2,15 +2,16 @@
 use Rattle.std.proofs.Common.{◌≡◌, ◌∙◌, ◌++◌, ◌+◌, ◌<◌, ◌≤◌, ◌-◌, ◌*◌, ℕ, List, [], ◌∷◌, Option, Some, None, ap, arith, length, refl, replicate, slice_get, subst, sym, inl, inr}
 use Rattle.std.specs.Prelude.{Ok}
 use Rattle.std.proofs.lemmas.Bool.{cases_lt}
-use Rattle.std.proofs.lemmas.List.{append-nil, replicate_more}
-use Rattle.std.proofs.lemmas.Option.{none-some, same_Some}
+use Rattle.std.proofs.lemmas.List.{replicate_more}
+use Rattle.std.proofs.lemmas.Option.{none-some}
 use Rattle.fabric.specs.declared.event.Event.{Event}
 use Rattle.fabric.specs.declared.event.Event.TheVariants.{Step}
+use Rattle.fabric.specs.declared.event.Failure.{Failure}
 use Rattle.fabric.specs.declared.event.Outcome.{Outcome}
 use Rattle.fabric.specs.declared.packet.Packet.{Packet}
 use Rattle.fabric.specs.declared.packet.State.{State}
 use Rattle.fabric.specs.declared.packet.State.TheVariants.{Delivered, Going, Lost}
-use Rattle.fabric.specs.Answers.{Answered, HasEnded as HasEndedBefore, IsStepAnswer, NoPacket}
+use Rattle.fabric.specs.Answers.{Answered, HasEnded as HasEndedBefore, IsStepAnswer}
 use Rattle.fabric.specs.Course.{steps_of}
 use Rattle.fabric.specs.FabricParts.{ArePartsKept, AreRowsFor, FabricParts}
 use Rattle.fabric.specs.FabricState.{Answer, FabricState, start}
@@ -40,7 +41,7 @@ no_steps parts state text unstepped = record {
   own = [];
   own_run = refl;
   not_before = λ fewer less. absurd (omega (arith, less));
-  lines = ap (λ (t : List ℕ). Some t) (append-nil text);
+  lines = refl;
   events = unstepped.events;
   answers = unstepped.answers;
   run = unstepped.run;
@@ -54,40 +55,26 @@ pub record IsGoing (state : FabricState) : Type 0 where
   pub there : slice_get state.packets 0 ≡ Some packet
   pub going : packet.state ≡ Going
 
-ended_by : (state : FabricState) (packet : Packet) (stands : State) → slice_get state.packets 0 ≡ Some packet
-    → packet.state ≡ stands → (stands ≡ Going → ⊥) → HasEnded state
-ended_by state packet stands there is not_going = λ other there' going.
-    let same : packet ≡ other = same_Some packet other (sym there ∙ there') in
-    not_going (sym is ∙ ap (λ (p : Packet). p.state) same ∙ going)
-
-going_if : (state : FabricState) (packet : Packet) (stands : State) → slice_get state.packets 0 ≡ Some packet
-    → packet.state ≡ stands → (HasEnded state → ⊥) → IsGoing state
-going_if state packet Going there is unended = record { packet = packet; there = there; going = is }
-going_if state packet Delivered there is unended =
-    absurd (unended (ended_by state packet Delivered there is (λ same. cc)))
-going_if state packet (Lost loss) there is unended =
-    absurd (unended (ended_by state packet (Lost loss) there is (λ same. cc)))
-
 pub going : (state : FabricState) → (HasEnded state → ⊥) → IsGoing state
 going state unended = by (slice_get state.packets 0) refl
   where
+    stands : (packet : Packet) (in_state : State) → slice_get state.packets 0 ≡ Some packet → packet.state ≡ in_state → IsGoing state
+    stands packet Going there is = record { packet = packet; there = there; going = is }
+    stands packet Delivered there is = absurd (unended (λ other there' going. cc))
+    stands packet (Lost loss) there is = absurd (unended (λ other there' going. cc))
+
     by : (place : Option Packet) → slice_get state.packets 0 ≡ place → IsGoing state
     by None there = absurd (unended (λ packet there'. absurd (none-some packet (sym there ∙ there'))))
-    by (Some packet) there = going_if state packet packet.state there refl unended
+    by (Some packet) there = stands packet packet.state there refl
 
 -- a step of a packet that is going is answered
 record IsAnswered (answer : Answer) : Type 0 where
   outcome : Outcome
   is : answer ≡ Ok outcome
 
-answered : (parts : FabricParts) (state : FabricState) (place : Option Packet) (answer : Answer) (packet : Packet)
-    → place ≡ Some packet → packet.state ≡ Going → IsStepAnswer parts state.failure place answer → IsAnswered answer
-answered parts state None answer packet there goes NoPacket = absurd (none-some packet there)
-answered parts state (Some other) answer packet there goes (HasEndedBefore same_one ended) =
-    let same : other ≡ packet = same_Some other packet there in
-    absurd (ended (ap (λ (p : Packet). p.state) same ∙ goes))
-answered parts state (Some other) answer packet there goes (Answered same_one outcome going handled) =
-    record { outcome = outcome; is = refl }
+answered : (parts : FabricParts) (failure : Option Failure) (packet : Packet) (answer : Answer) → packet.state ≡ Going → IsStepAnswer parts failure (Some packet) answer → IsAnswered answer
+answered parts failure packet answer goes (HasEndedBefore _ ended) = absurd (ended goes)
+answered parts failure packet answer goes (Answered _ outcome going handled) = record { outcome = outcome; is = refl }
 
 -- one step more
 step_taken : (parts : FabricParts) (old mid new : FabricState) (count : ℕ) (before between after : List ℕ)
@@ -97,7 +84,7 @@ step_taken : (parts : FabricParts) (old mid new : FabricState) (count : ℕ) (be
 step_taken parts old mid new count before between after so_far goes [] run lines = absurd run
 step_taken parts old mid new count before between after so_far goes (answer ∷ []) run lines =
     let step = run.1 in
-    let own = answered parts mid (slice_get mid.packets 0) answer goes.packet goes.there goes.going step.answers in
+    let own = answered parts mid.failure goes.packet answer goes.going (rw goes.there at step.answers) in
     record {
       own = so_far.own ++ answer ∷ [];
       own_run = subst (λ (events : List Event). IsRun parts old events (so_far.own ++ answer ∷ []) new) (replicate_more count (Step 0))

@@ -1,9 +1,9 @@
-use Rattle.std.proofs.Common.{◌≡◌, ◌∙◌, ℕ, List, Bool, true, false, Some, arith, length, slice_get, sym, ap, subst}
+use Rattle.std.proofs.Common.{◌≡◌, ◌∙◌, List, Bool, true, false, Some, arith, length, slice_get, sym, ap, subst}
 use Rattle.std.proofs.lemmas.List.{length-replicate, length-set, take_all}
-use Rattle.std.proofs.lemmas.Option.{slice_get_read}
+use Rattle.std.proofs.lemmas.Option.{none-some, same_Some, slice_get_read}
 use Rattle.fabric_script.specs.declared.event.ScriptEvent.{ScriptEvent}
 use Rattle.fabric_runs.specs.Destinations.{AreDestinations}
-use Rattle.fabric_runs.proofs.Gathered.{destination_within, known_more, new_more, none_gathered, none_more}
+use Rattle.fabric_runs.proofs.Gathered.{destination_within, known_more, new_more, none_gathered}
 use Rattle.fabric_runs.proofs.gathering.destinations.Goals as goal
 
 pub loop-event-init : goal.loop-event-init
@@ -15,8 +15,9 @@ loop-event-init c = record {
 pub loop-event-preserved-in_default : goal.loop-event-preserved-in_default
 loop-event-preserved-in_default c = record {
   one_each = c.loop-event.invariant.one_each;
-  gathered = none_more c.args.area.now c.as_slice-events.result.now _ c.loop-event.event-index c.loop-event-test.true c.loop-event.spots.items
-      c.loop-event.known.items c.loop-event.invariant.gathered c.destination.result c.destination.ensures.enters c.in_default.is;
+  gathered = known_more c.args.area.now c.as_slice-events.result.now _ c.loop-event.event-index c.loop-event-test.true c.loop-event.spots.items
+      c.loop-event.known.items c.loop-event.invariant.gathered c.destination.result c.destination.ensures.enters
+      (λ t is. absurd (none-some t (sym c.in_default.is ∙ is)));
 }
 
 pub loop-event-preserved-then-index : goal.loop-event-preserved-then-index
@@ -29,8 +30,8 @@ loop-event-preserved-then-index c =
     record {
       one_each = c.loop-event.invariant.one_each;
       gathered = known_more c.args.area.now c.as_slice-events.result.now _ c.loop-event.event-index c.loop-event-test.true c.loop-event.spots.items
-          c.loop-event.known.items c.loop-event.invariant.gathered c.destination.result c.destination.ensures.enters c.in-Some.spot c.in-Some.is
-          ((c.loop-event.invariant.gathered.marked c.in-Some.spot).0 (subst (λ (k : ℕ). slice_get c.loop-event.known.items k ≡ Some true) at known));
+          c.loop-event.known.items c.loop-event.invariant.gathered c.destination.result c.destination.ensures.enters
+          (λ t is. (c.loop-event.invariant.gathered.marked t).0 (rw (at, same_Some c.in-Some.spot t (sym c.in-Some.is ∙ is)) at known));
     }
 
 pub loop-event-preserved : goal.loop-event-preserved

@@ -4,5 +4,4 @@ use Rattle.fabric_runs.proofs.telling.tell_one.Goals as goal
 
 pub tell_all-requires-clause-served : goal.tell_all-requires-clause-served
 tell_all-requires-clause-served g c =
-    alone_served (parts_of g.R.RowsOf.rows c.args.fabric.now.tables) c.args.fabric.now.tables.routes c.args.area.now c.args.event c.as_slice.result.now
-    c.as_slice.ensures c.requires.area c.requires.served
+    rw c.as_slice.ensures (alone_served (parts_of g.R.RowsOf.rows c.args.fabric.now.tables) c.args.fabric.now.tables.routes c.args.event (rw (← c.requires.area) at c.requires.served))
