@@ -12,12 +12,13 @@ use Rattle.std.specs.Option.{option_cmp, option_map}
 use Rattle.std.specs.Cmp.{IsTotalOrder, nat_cmp_is}
 use Rattle.std.specs.Cmp.Lexicographic.{options_total}
 use Rattle.mrt_graph.proofs.ListPlaces.{set_there}
+use Rattle.mrt_graph.proofs.ListTests.{there}
 use Rattle.mrt_graph.proofs.Ties.{tie_of_equals}
 use Rattle.area_graph.specs.Parts.{AreaParts}
 use Rattle.lfa_alt.specs.declared.alternate.FreeCandidate.{FreeCandidate}
 use Rattle.lfa_alt.specs.declared.destination.Destination.{Destination}
 use Rattle.lfa_alt.specs.declared.way.Way.{Way}
-use Rattle.lfa_alt.specs.Best.{IsBetterBy, IsOfferedBy, better}
+use Rattle.lfa_alt.specs.Best.{AreBest, IsBetterBy, IsOfferedBy, better}
 use Rattle.lfa_alt.specs.LoopFree.{IsBest, NoneIs, TheBest, candidate_cmp, rank_of}
 use Rattle.lfa_alt.specs.Destinations.{Offers}
 use Rattle.lfa_alt.specs.Ways.{NotLater}
@@ -134,15 +135,25 @@ one_more area s t n entry ways way old new at best by =
 pub none_yet : (area : AreaParts) (s t : ℕ) (entry : Option Destination) (ways : List Way) → IsBest (IsOfferedBy area s t entry ways 0) None
 none_yet area s t entry ways = NoneIs (λ c is. absurd (omega (arith, is.low)))
 
--- at first there is no candidate for any node
-abbrev nothing : Option Destination → Option FreeCandidate
-nothing _ = None
+-- at first there is none for any node
+pub none_best : (area : AreaParts) (s : ℕ) (destinations : List (Option Destination)) (ways : List Way) → AreBest area s destinations ways 0 (map (λ _. None) destinations)
+none_best area s destinations ways = record {
+  one_each = length-map destinations (λ _. None);
+  each = λ t entry choice at is.
+      subst (λ (o : Option FreeCandidate). IsBest (IsOfferedBy area s t entry ways 0) o)
+      (same_Some None choice (sym (slice_get-map (λ (_ : Option Destination). None) destinations t ∙ ap (option_map (λ (_ : Option Destination). None)) at) ∙ is))
+      (none_yet area s t entry ways);
+}
 
-pub nothing_each : (destinations : List (Option Destination)) → length (map nothing destinations) ≡ length destinations
-nothing_each destinations = length-map destinations nothing
-
-pub nothing_there : (destinations : List (Option Destination)) (items : List (Option FreeCandidate)) (t : ℕ) (entry : Option Destination) (choice : Option FreeCandidate) → items ≡ map nothing destinations
-    → slice_get destinations t ≡ Some entry → slice_get items t ≡ Some choice → None ≡ choice
-nothing_there destinations items t entry choice are at is =
-    same_Some None choice
-    (sym (slice_get-map nothing destinations t ∙ ap (option_map nothing) at) ∙ ap (λ (xs : List (Option FreeCandidate)). slice_get xs t) (sym are) ∙ is)
+-- one way more, for all nodes
+pub all_more : (area : AreaParts) (s n : ℕ) (destinations : List (Option Destination)) (ways : List Way) (way : Way) (olds news : List (Option FreeCandidate)) → slice_get ways n ≡ Some way
+    → length news ≡ length olds → AreBest area s destinations ways n olds
+    → ((t : ℕ) (entry : Option Destination) (old new : Option FreeCandidate) → slice_get destinations t ≡ Some entry → slice_get olds t ≡ Some old → slice_get news t ≡ Some new
+    → IsBetterBy (Offers area s t entry way) old new)
+    → AreBest area s destinations ways (n + 1) news
+all_more area s n destinations ways way olds news at many best by = record {
+  one_each = many ∙ best.one_each;
+  each = λ t entry choice here is.
+      let old = there olds t (omega (arith, slice_get_within news t choice is, many)) in
+      one_more area s t n entry ways way old.0 choice at (best.each t entry old.0 here old.1) (by t entry old.0 choice here old.1 is);
+}

@@ -81,10 +81,7 @@ fn alternates_by(
 fn lfas(alloc: Global, best: &[Option<FreeCandidate>]) -> Result<Vec<Option<Lfa>>, NoMemory>
     ensures { IfOk result (λ entries. entries.items ≡ map (option_map alternate_of) best.now) }
 {
-    let mut entries = Vec::with_capacity(alloc, best.len())?;
-    for t in 0..best.len() {
-        entries.push_reserved(alternate_of(best[t]));
-    }
+    let entries = best.iter().map(|choice| alternate_of(*choice)).collect(alloc)?;
     Ok(entries)
 }
 
