@@ -8,6 +8,7 @@ pub mod OneCertificate
 pub mod OneProxy
 pub mod OneReading
 pub mod OneTable
+pub mod OwnPlaces
 pub mod PacketsServed
 pub mod ProxyBetween
 pub mod Tables

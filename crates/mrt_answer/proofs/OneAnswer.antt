@@ -55,7 +55,7 @@ use Rattle.mrt_words.specs.declared.task.Task.TheVariants.{Check, Fabric, Upgrad
 use Rattle.mrt_answer.specs.Certified.{IsComputed}
 use Rattle.mrt_answer.specs.Forms.{certified, checked, delivered, flooded, loop_free, loop_free_in, of_task, ordered, ordered_in, over, proxied_for, proxied_in, scripted, table_in, tabled, traced, upgraded_to}
 use Rattle.mrt_answer.specs.Input.{Input, area, policy}
-use Rattle.mrt_answer.specs.Islands.{area_of, island_in, island_of, place_of}
+use Rattle.mrt_answer.specs.Islands.{area_of, island_in, island_of, own_place, place_of}
 use Rattle.mrt_answer.specs.Ordered.{IsOrderOf}
 use Rattle.mrt_answer.specs.Packets.{ArePartsIn, IsScriptIn, IsTraceIn}
 use Rattle.mrt_answer.specs.Proxied.{proxied}
@@ -220,6 +220,12 @@ at_place : (ids : List NodeId) → IsStrictlySortedBy node_id_cmp ids → (numbe
     → ((place : ℕ) → place_of ids number (Ok place) → IsOne (next place)) → IsOne (place_of ids number ▸ next)
 at_place ids ascend number next one = one_then_one (place_of ids number) next (one_place_of ids ascend number) one
 
+-- the place of a router that is there, and then what comes of it
+at_own_place : (ids : List NodeId) → IsStrictlySortedBy node_id_cmp ids → (number : ℕ) (next : ℕ → Step (List ℕ))
+    → ((place : ℕ) → own_place ids number (Ok place) → IsOne (next place)) → IsOne (own_place ids number ▸ next)
+at_own_place ids ascend number next one =
+    one_then_one (own_place ids number) next (one_such _ (λ a b. one_place ids a b (router_node number) ascend)) one
+
 one_judged : RuleLaws → (graph : Topology) (root : ℕ) (file : CertFile) → IsOne (judged graph root file)
 one_judged laws graph root file = one_value_or_exit (judged graph root file) (λ x y one two. refl) ends no
   where
@@ -290,15 +296,15 @@ module _ (laws : Laws) where
 
     one_tabled : (router : ℕ) → IsOne (tabled input router)
     one_tabled router = in_it router (λ island. table_in (area input) island router) (λ of_kept island is.
-        at_place island.graph.ids (in_order of_kept router island is) router
-        (λ source. place_of (area input).ids router ▸ λ spot. such (IsTableOf (area input) island source spot)) (λ source at.
-        at_place (area input).ids of_kept.ids_ascend router (λ spot. such (IsTableOf (area input) island source spot)) (λ spot too.
+        at_own_place island.graph.ids (in_order of_kept router island is) router
+        (λ source. own_place (area input).ids router ▸ λ spot. such (IsTableOf (area input) island source spot)) (λ source at.
+        at_own_place (area input).ids of_kept.ids_ascend router (λ spot. such (IsTableOf (area input) island source spot)) (λ spot too.
         one_such (IsTableOf (area input) island source spot)
         (one_table laws.tables (area input) of_kept island source spot (one_file (policy input) (area input) router island is)))))
 
     one_ordered : (router : ℕ) → IsOne (ordered input router)
     one_ordered router = in_it router (λ island. ordered_in island.graph island.root router) (λ of_kept island is.
-        at_place island.graph.ids (in_order of_kept router island is) router (λ source. such (IsOrderOf island.graph island.root source)) (λ source at.
+        at_own_place island.graph.ids (in_order of_kept router island is) router (λ source. such (IsOrderOf island.graph island.root source)) (λ source at.
         one_such (IsOrderOf island.graph island.root source) (λ text other one two.
         laws.texts.order island.graph island.root source text other two.kept
         (root_within (policy input) (area input) router island.graph island.root island.link_of is)

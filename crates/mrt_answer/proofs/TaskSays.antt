@@ -68,8 +68,8 @@ module _ (Missing Verdict : Type 0) where
   by_router (Certify router) input exit (inl said) = by_island input router exit said
   by_router (Certify router) input exit (inr (island, is, said)) = absurd said
   by_router (Table router) input exit (inl said) = by_island input router exit said
-  by_router (Table router) input exit (inr (island, is, inl said)) = by_place island.graph.ids router exit said
-  by_router (Table router) input exit (inr (island, is, inr (source, at, inl said))) = by_place (area input).ids router exit said
+  by_router (Table router) input exit (inr (island, is, inl said)) = absurd said
+  by_router (Table router) input exit (inr (island, is, inr (source, at, inl said))) = absurd said
   by_router (Table router) input exit (inr (island, is, inr (source, at, inr (spot, too, said)))) = absurd said
   by_router (Trace trace) input exit (inl said) = by_island input trace.from exit said
   by_router (Trace trace) input exit (inr (island, is, said)) = absurd said
@@ -77,7 +77,7 @@ module _ (Missing Verdict : Type 0) where
   by_router (Lfa router) input exit (inr (of, is, inl said)) = by_place of.ids router exit said
   by_router (Lfa router) input exit (inr (of, is, inr (spot, at, said))) = absurd said
   by_router (Order router) input exit (inl said) = by_island input router exit said
-  by_router (Order router) input exit (inr (island, is, inl said)) = by_place island.graph.ids router exit said
+  by_router (Order router) input exit (inr (island, is, inl said)) = absurd said
   by_router (Order router) input exit (inr (island, is, inr (source, at, said))) = absurd said
   by_router (Proxy router first second) input exit (inl said) = by_island input router exit said
   by_router (Proxy router first second) input exit (inr (island, is, inl said)) = by_place island.graph.ids first exit said

@@ -23,7 +23,7 @@ use Rattle.mrt_answer.specs.Certified.{IsComputed}
 use Rattle.area_graph.specs.Parts.{AreaParts}
 use Rattle.mrt_island.specs.declared.island.Island.{Island}
 use Rattle.mrt_answer.specs.Input.{Input, area}
-use Rattle.mrt_answer.specs.Islands.{area_of, island_in, place_of}
+use Rattle.mrt_answer.specs.Islands.{area_of, island_in, own_place, place_of}
 use Rattle.mrt_answer.specs.Ordered.{IsOrderOf}
 use Rattle.mrt_answer.specs.Packets.{IsScriptIn, IsTraceIn}
 use Rattle.mrt_answer.specs.Proxied.{proxied}
@@ -32,10 +32,10 @@ use Rattle.mrt_answer.specs.Tabled.{IsTableOf}
 use Rattle.mrt_answer.specs.Upgraded.{IsUpgrade}
 use Rattle.mrt_answer.specs.Verdict.{accepted_line, judged}
 
--- the table of a router of an area and an island
+-- the table of a router of an island, in the island and in its area
 abbrev pub table_in : AreaParts → Island → ℕ → Step (List ℕ)
 table_in area island router =
-    place_of island.graph.ids router ▸ λ source. place_of area.ids router ▸ λ spot. such (IsTableOf area island source spot)
+    own_place island.graph.ids router ▸ λ source. own_place area.ids router ▸ λ spot. such (IsTableOf area island source spot)
 
 -- the certificate of a router's island
 abbrev pub certified : Input → ℕ → Step (List ℕ)
@@ -61,9 +61,9 @@ loop_free_in area router = place_of area.ids router ▸ λ spot. such (IsLfaText
 abbrev pub loop_free : Input → ℕ → Step (List ℕ)
 loop_free input router = area_of input.newest ▸ λ area. loop_free_in area router
 
--- the repairs by order of a router of a graph, and of one of its island
+-- the repairs by order of a router of a graph, and of one in its island
 abbrev pub ordered_in : Topology → ℕ → ℕ → Step (List ℕ)
-ordered_in graph root router = place_of graph.ids router ▸ λ source. such (IsOrderOf graph root source)
+ordered_in graph root router = own_place graph.ids router ▸ λ source. such (IsOrderOf graph root source)
 
 abbrev pub ordered : Input → ℕ → Step (List ℕ)
 ordered input router = island_in input router ▸ λ island. ordered_in island.graph island.root router

@@ -3,7 +3,7 @@ use Rattle.std.specs.Prelude.{◌≡◌, ◌⊎◌, ◌<◌, ◌≤◌, ◌-◌,
 use Rattle.area_graph.specs.AreaOf.{area_of as area_of_newest}
 use Rattle.area_graph.specs.AreaSize.{IsTooLarge}
 use Rattle.area_graph.specs.Parts.{AreaParts}
-use Rattle.mrt_exit.specs.Steps.{Step, ◌▸◌}
+use Rattle.mrt_exit.specs.Steps.{Step, such, ◌▸◌}
 use Rattle.mrt_exit.specs.declared.exit.Exit.TheVariants.{NotThere, TooLarge}
 use Rattle.mrt_exit.specs.declared.exit.What.{What}
 use Rattle.mrt_exit.specs.declared.exit.What.TheVariants as whats
@@ -50,6 +50,10 @@ abbrev pub place_of : List NodeId → ℕ → Step ℕ
 place_of ids number (Ok place) = slice_get ids place ≡ Some (router_node number)
 place_of ids number (Err (NotThere missing)) = (missing ≡ number) × IsAbsent ids number
 place_of ids number (Err _) = ⊥
+
+-- the place of a router that is one of the nodes
+abbrev pub own_place : List NodeId → ℕ → Step ℕ
+own_place ids number = such (λ place. slice_get ids place ≡ Some (router_node number))
 
 -- the area, and then the island of a router in it
 abbrev pub island_in : Input → ℕ → Step Island

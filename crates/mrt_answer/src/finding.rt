@@ -1,7 +1,9 @@
 //! The routers that are asked for, found in an area or in an island.
 
-ghost use Rattle.mrt_answer.specs.Islands.{place_of};
+ghost use Rattle.std.specs.Prelude.{Contains};
+ghost use Rattle.mrt_answer.specs.Islands.{own_place, place_of};
 ghost use Rattle.mrt_exit.specs.Steps.{IsAnswer};
+ghost use Rattle.mrt_graph.specs.NodeIds.{router as router_node};
 
 use area_graph::{Area, Spot};
 use mrt_exit::Exit;
@@ -25,4 +27,20 @@ pub(crate) fn spot_of(area: &Area, router: u32) -> Result<Spot, Exit>
         Some(spot) => Ok(spot),
         None => Err(Exit::NotThere { number: router }),
     }
+}
+
+/// The number in an island of a router that is in it.
+pub(crate) fn own_node(graph: &Graph, router: u32) -> Result<NodeNo, Exit>
+    requires { Contains graph.now.ids (router_node router) }
+    ensures { IsAnswer (own_place graph.now.ids router) result }
+{
+    node_of(graph, router)
+}
+
+/// The number in an area of a router that is in it.
+pub(crate) fn own_spot(area: &Area, router: u32) -> Result<Spot, Exit>
+    requires { Contains area.now.ids (router_node router) }
+    ensures { IsAnswer (own_place area.now.ids router) result }
+{
+    spot_of(area, router)
 }

@@ -1,9 +1,10 @@
 //! `order DB PROFILE ROUTER`: a router's repairs by order.
 
-ghost use Rattle.std.specs.Prelude.{◌<◌, IfOk, length};
+ghost use Rattle.std.specs.Prelude.{◌<◌, IfOk, Contains, length};
+ghost use Rattle.mrt_graph.specs.NodeIds.{router as router_node};
 ghost use Rattle.mrt_answer.specs.{Forms.ordered, Forms.ordered_in, Ordered.IsOrderOf, TextBytes.IsTextAnswer};
 
-use crate::finding::node_of;
+use crate::finding::own_node;
 use crate::given::Given;
 use crate::island::island_in;
 use crate::text::{Text, bytes_answer};
@@ -22,13 +23,14 @@ pub(crate) fn order(alloc: Global, given: &Given, router: u32) -> Result<Text, E
     order_in(alloc, &island.graph, island.root, router)
 }
 
-/// The same, in an island.
+/// The same, in an island that the router is in.
 #[tactic(auto, using(crate::proofs::TextSteps::ends_first, crate::proofs::TextSteps::ends_second, crate::proofs::TextSteps::of_bytes))]
 fn order_in(alloc: Global, graph: &Graph, root: NodeNo, router: u32) -> Result<Text, Exit>
     requires root { root < length graph.now.ids }
+    requires inside { Contains graph.now.ids (router_node router) }
     ensures { IsTextAnswer (ordered_in graph.now root router) result }
 {
-    let source = node_of(graph, router)?;
+    let source = own_node(graph, router)?;
     bytes_answer(order_of(alloc, graph, root, source))
 }
 

@@ -1,15 +1,15 @@
 //! `table DB PROFILE ROUTER`: what a router installs.
 
-ghost use Rattle.std.specs.Prelude.{◌≡◌, ◌≢◌, ◌<◌, IfOk, length};
+ghost use Rattle.std.specs.Prelude.{◌≡◌, ◌≢◌, ◌<◌, IfOk, Contains, length};
 ghost use Rattle.area_graph.specs.Fits.{Fits};
-ghost use Rattle.mrt_graph.specs.{declared.cert.CertFile.CertFile, GraphInvariant.IsNetwork};
+ghost use Rattle.mrt_graph.specs.{declared.cert.CertFile.CertFile, GraphInvariant.IsNetwork, NodeIds.router as router_node};
 ghost use Rattle.text_parts.specs.Adds.{Adds};
 ghost use Rattle.mrt_report.specs.{AddsLines.AddsLines, ByColumn.IsLineByColumn, TableText.IsTableText};
 ghost use Rattle.mrt_rows.specs.{CertOf.IsCertOf, Rooted.MakeColumns};
 ghost use Rattle.mrt_answer.specs.{Certified.IsComputedFile, Forms.table_in as table_step, Forms.tabled, TableMade.AreParts, TableMade.with_cert, TextBytes.IsTextAnswer};
 
 use crate::columns::columns_of;
-use crate::finding::{node_of, spot_of};
+use crate::finding::{own_node, own_spot};
 use crate::given::Given;
 use crate::packets::{AreaAndIsland, area_and_island};
 use crate::text::{Text, bytes_answer};
@@ -48,11 +48,12 @@ fn table_in(alloc: Global, net: &AreaAndIsland, router: u32) -> Result<Text, Exi
     requires fits { Fits net.now.area net.now.island.graph net.now.island.link_of }
     requires root { net.now.island.root < length net.now.island.graph.ids }
     requires root_router { ¬ IsNetwork net.now.island.graph.ids net.now.island.root }
+    requires inside { Contains net.now.island.graph.ids (router_node router) }
     ensures { IsTextAnswer (table_step net.now.area net.now.island router) result }
 {
     let island = &net.island.graph;
-    let source = node_of(island, router)?;
-    let spot = spot_of(&net.area, router)?;
+    let source = own_node(island, router)?;
+    let spot = own_spot(&net.area, router)?;
     let primaries = primaries(alloc, &net.area, spot)?;
     let parts = Parts {
         area: &net.area,

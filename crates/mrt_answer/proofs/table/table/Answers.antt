@@ -4,7 +4,7 @@ use Rattle.mrt_answer.specs.Forms.{table_in}
 use Rattle.mrt_answer.specs.Input.{area}
 use Rattle.mrt_answer.specs.Islands.{island_in}
 use Rattle.mrt_answer.specs.TextBytes.{IsTextAnswer}
-use Rattle.mrt_answer.proofs.Tables.{root_is_router}
+use Rattle.mrt_answer.proofs.Tables.{in_own_island, root_is_router}
 use Rattle.mrt_answer.proofs.TextSteps.{ends_second}
 use Rattle.mrt_answer.proofs.table.table.Goals as goal
 
@@ -16,6 +16,10 @@ table_in-requires-clause-root c = c.in_ok-net.ensures.root
 
 pub table_in-requires-clause-root_router : goal.table_in-requires-clause-root_router
 table_in-requires-clause-root_router c = let is = c.in_ok-net.ensures.island in root_is_router _ _ _ _ _ _ is.2
+
+-- a router is in its own island
+pub table_in-requires-clause-inside : goal.table_in-requires-clause-inside
+table_in-requires-clause-inside c = let is = c.in_ok-net.ensures.island in in_own_island _ _ _ _ _ _ is.2
 
 pub returns : goal.returns
 returns c =

@@ -9,7 +9,7 @@ use Rattle.mrt_words.proofs.HandedOn.{if_ok}
 use Rattle.mrt_exit.specs.Steps.{such, ◌▸◌}
 use Rattle.mrt_report.specs.TableParts.{table_parts}
 use Rattle.mrt_report.specs.TableText.{IsTableText}
-use Rattle.mrt_answer.specs.Islands.{place_of}
+use Rattle.mrt_answer.specs.Islands.{own_place}
 use Rattle.area_graph.specs.Parts.{AreaParts}
 use Rattle.mrt_answer.specs.Tabled.{IsTableOf}
 use Rattle.mrt_answer.proofs.Tables.{not_network}
@@ -44,9 +44,9 @@ returns c =
     let island : Island = c.args.net.now.island in
     let source = c.in_ok-source.source in
     let spot = c.in_ok-spot.spot in
-    ends_second (place_of island.graph.ids c.args.router) (λ source. place_of area.ids c.args.router ▸ λ spot. such (IsTableOf area island source spot))
+    ends_second (own_place island.graph.ids c.args.router) (λ source. own_place area.ids c.args.router ▸ λ spot. such (IsTableOf area island source spot))
     source c.in_ok-source.ensures c.bytes_answer.result
-    (ends_second (place_of area.ids c.args.router) (λ spot. such (IsTableOf area island source spot)) spot c.in_ok-spot.ensures c.bytes_answer.result
+    (ends_second (own_place area.ids c.args.router) (λ spot. such (IsTableOf area island source spot)) spot c.in_ok-spot.ensures c.bytes_answer.result
     (of_bytes (such (IsTableOf area island source spot)) c.table_of.result c.bytes_answer.result
     (if_ok c.table_of.result _ _ c.table_of.ensures (λ text made. record {
       file = made.0;
