@@ -26,8 +26,7 @@ use Rattle.mrt_words.specs.declared.task.Task.TheVariants.{Check, Upgrade, OfRou
 use Rattle.mrt_answer.specs.Input.{Input, policy}
 use Rattle.mrt_answer.specs.Islands.{area_of, island_in}
 use Rattle.mrt_words.specs.CertSpelling.{IsSpellingOf}
-use Rattle.mrt_answer.specs.Upgraded.{upgraded}
-use Rattle.mrt_answer.specs.Verdict.{accepted_line}
+use Rattle.mrt_answer.specs.Texts.{accepted_line, upgraded}
 use Rattle.mrt_answer.proofs.OneAnswer.{AreaLaws, area_kept}
 use Rattle.mrt_answer.proofs.Islands.{contained}
 use Rattle.mrt_answer.proofs.Upgrades.{upgraded_accepted}
@@ -108,11 +107,10 @@ module _ (areas : AreaLaws) (each : EachRouterLaw) where
             (
               tt,
               (computed.certificate.accepted, computed.certificate.sound),
-              record {
-                accepted = upgraded_accepted island.graph island.root file computed.certificate.accepted;
-                sound = computed.certificate.sound;
-                spelled = subst (λ (f : CertFile). IsSpellingOf text f) same computed.spelled;
-              },
+              (
+                upgraded_accepted island.graph island.root file computed.certificate.accepted,
+                subst (λ (f : CertFile). IsSpellingOf text f) same computed.spelled,
+              ),
             ),
           ),
         ),

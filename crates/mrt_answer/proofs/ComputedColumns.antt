@@ -10,7 +10,7 @@ use Rattle.mrt_graph.specs.Sound.{Sound}
 use Rattle.mrt_graph.specs.Topology.{Topology}
 use Rattle.mrt_rows.specs.CertOf.{IsCertOf}
 use Rattle.mrt_rows.specs.declared.rooted.RootedColumns.{RootedColumns}
-use Rattle.mrt_answer.specs.Computed.{HasComputed}
+use Rattle.mrt_answer.specs.Made.{HasComputed}
 
 -- the laws of the layers below
 pub record AcceptedLaws : Type 0 where

@@ -52,19 +52,12 @@ use Rattle.mrt_words.specs.FileBytes.{FileBytes}
 use Rattle.mrt_words.specs.Form.{Task}
 use Rattle.mrt_words.specs.declared.task.RouterTask.TheVariants.{Certify, Table, Trace, Lfa, Order, Proxy}
 use Rattle.mrt_words.specs.declared.task.Task.TheVariants.{Check, Fabric, Upgrade, OfRouter}
-use Rattle.mrt_answer.specs.Certified.{IsComputed}
+use Rattle.mrt_answer.specs.Texts.{ArePartsIn, IsComputed, IsComputedFile, IsOrderOf, IsScriptIn, IsTableOf, IsTraceIn, IsUpgrade, accepted_line, judged, proxied}
 use Rattle.mrt_answer.specs.Forms.{certified, checked, delivered, flooded, loop_free, loop_free_in, of_task, ordered, ordered_in, over, proxied_for, proxied_in, scripted, table_in, tabled, traced, upgraded_to}
 use Rattle.mrt_answer.specs.Input.{Input, area, policy}
 use Rattle.mrt_answer.specs.Islands.{area_of, island_in, island_of, own_place, place_of}
-use Rattle.mrt_answer.specs.Ordered.{IsOrderOf}
-use Rattle.mrt_answer.specs.Packets.{ArePartsIn, IsScriptIn, IsTraceIn}
-use Rattle.mrt_answer.specs.Proxied.{proxied}
 use Rattle.mrt_answer.specs.Reading.{certificate_of, deliveries_of, input_of, profile_of, script_of, updates_of}
-use Rattle.mrt_answer.specs.Certified.{IsComputedFile}
 use Rattle.mrt_answer.specs.Surveyed.{IsSummedUp, IsSurveyed, made_input, summed_up_in}
-use Rattle.mrt_answer.specs.Tabled.{IsTableOf}
-use Rattle.mrt_answer.specs.Upgraded.{IsUpgrade}
-use Rattle.mrt_answer.specs.Verdict.{accepted_line, judged}
 use Rattle.mrt_answer.proofs.Islands.{contained, inside_is_there, island_ascends, no_large_area, one_large_area, root_within}
 use Rattle.mrt_answer.proofs.OneProxy.{ProxyLaws, accepted_for, one_proxied_of}
 use Rattle.mrt_answer.proofs.OneReading.{
@@ -306,9 +299,9 @@ module _ (laws : Laws) where
     one_ordered router = in_it router (λ island. ordered_in island.graph island.root router) (λ of_kept island is.
         at_own_place island.graph.ids (in_order of_kept router island is) router (λ source. such (IsOrderOf island.graph island.root source)) (λ source at.
         one_such (IsOrderOf island.graph island.root source) (λ text other one two.
-        laws.texts.order island.graph island.root source text other two.kept
+        laws.texts.order island.graph island.root source text other two.0
         (root_within (policy input) (area input) router island.graph island.root island.link_of is)
-        (slice_get_within island.graph.ids source (router_node router) at) one.spelled two.spelled)))
+        (slice_get_within island.graph.ids source (router_node router) at) one.1 two.1)))
 
     one_loop_free : (router : ℕ) → IsOne (loop_free input router)
     one_loop_free router =
@@ -361,7 +354,7 @@ module _ (laws : Laws) where
 
     one_upgraded : (file : CertFile) → IsOne (upgraded_to input file)
     one_upgraded file = judged_then file (λ island. such (IsUpgrade island.graph island.root file)) (λ island. one_such (IsUpgrade island.graph island.root file)
-        (λ text other one two. one.spelled.spelled ∙ sym two.spelled.spelled))
+        (λ text other one two. one.1.spelled ∙ sym two.1.spelled))
 
     one_summed_up : (number : ℕ) → IsOne (summed_up_in number input)
     one_summed_up number = in_it 1 (λ island. such (IsSummedUp number island.graph island.root)) (λ of_kept island is. one_such (IsSummedUp number island.graph island.root) (λ text other one two.

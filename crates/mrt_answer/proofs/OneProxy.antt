@@ -11,8 +11,7 @@ use Rattle.mrt_exit.specs.Steps.{IsOne}
 use Rattle.mrt_exit.specs.declared.exit.Exit.{Exit}
 use Rattle.mrt_exit.specs.declared.exit.Exit.TheVariants.{NoCommonBlock}
 use Rattle.mrt_exit.proofs.Stepping.{one_value_or_exit}
-use Rattle.mrt_answer.specs.Proxied.{proxied}
-use Rattle.mrt_answer.specs.Certified.{IsComputedFile}
+use Rattle.mrt_answer.specs.Texts.{IsComputedFile, proxied}
 
 -- the laws of the layer below on texts
 pub record ProxyLaws : Type 0 where

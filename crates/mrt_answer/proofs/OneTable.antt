@@ -15,8 +15,7 @@ use Rattle.primary_alt.specs.Primaries.{ArePrimaries, IsPrimary}
 use Rattle.mrt_island.specs.IslandOf.{IsIsland}
 use Rattle.mrt_island.specs.Policy.{Policy}
 use Rattle.mrt_island.specs.declared.island.Island.{Island}
-use Rattle.mrt_answer.specs.Certified.{IsComputedFile}
-use Rattle.mrt_answer.specs.Tabled.{IsTableOf}
+use Rattle.mrt_answer.specs.Texts.{IsComputedFile, IsTableOf}
 
 -- the law of the layer below on the certificate that is computed
 abbrev pub CertificateLaw : Type 0

@@ -22,8 +22,8 @@ use Rattle.primary_alt.specs.RouteLists.{RouteLists}
 use Rattle.primary_alt.specs.RoutesMade.{AreMade}
 use Rattle.mrt_answer.specs.declared.packets.AreaAndIsland.{AreaAndIsland}
 use Rattle.mrt_answer.specs.declared.packets.Tables.{Tables}
-use Rattle.mrt_answer.specs.PacketTables.{AreTablesTo}
-use Rattle.mrt_answer.specs.Packets.{ArePartsIn}
+use Rattle.mrt_answer.specs.Made.{AreTablesTo}
+use Rattle.mrt_answer.specs.Texts.{ArePartsIn}
 use Rattle.mrt_answer.proofs.OneProxy.{accepted_for}
 
 -- tables to the numbers that are lent are tables to the destinations

@@ -10,7 +10,7 @@ use Rattle.mrt_rows.specs.declared.rooted.RootedColumns.{RootedColumns}
 use Rattle.proxy_rows.specs.declared.attachment.Attachment.{Attachment}
 use Rattle.proxy_rows.specs.Attachment.{IsAttachment}
 use Rattle.proxy_rows.specs.ReadFrom.{ReadFrom}
-use Rattle.mrt_answer.specs.Computed.{HasComputed}
+use Rattle.mrt_answer.specs.Made.{HasComputed}
 use Rattle.mrt_answer.proofs.OneProxy.{accepted_for}
 
 -- what the rows for a prefix are read from, by its words and one column of it

@@ -16,9 +16,8 @@ use Rattle.mrt_words.specs.Form.{Task, AsksVerdictTask}
 use Rattle.mrt_answer.specs.Forms.{flooded, of_router, of_task, over}
 use Rattle.mrt_answer.specs.Input.{Input, area, policy}
 use Rattle.mrt_answer.specs.Islands.{area_of, island_in, island_of, place_of}
-use Rattle.mrt_answer.specs.Proxied.{proxied}
+use Rattle.mrt_answer.specs.Texts.{judged, proxied}
 use Rattle.mrt_answer.specs.Reading.{certificate_of, database_of, deliveries_of, input_of, profile_of, script_of, updates_of}
-use Rattle.mrt_answer.specs.Verdict.{judged}
 
 -- the exits that may come where a file may be missing, and where a verdict is asked for
 abbrev pub MaySay : Type 0 → Type 0 → Exit → Type 0

@@ -14,7 +14,7 @@ use Rattle.mrt_island.specs.ProfileFaults.{AreSettings}
 use Rattle.mrt_island.specs.declared.setting.Setting.{Setting}
 use Rattle.mrt_words.specs.FileBytes.{FileBytes}
 use Rattle.mrt_graph.specs.TextLines.{text_lines}
-use Rattle.mrt_answer.specs.Flooded.{HoldsFlood}
+use Rattle.mrt_answer.specs.Reading.{HoldsFlood}
 use Rattle.mrt_answer.specs.Forms.{flooded}
 
 -- the law of the layer below on the lines of a script that compare such routers

@@ -5,7 +5,7 @@ use Rattle.mrt_graph.specs.RootAndOrders.{RootAndOrders}
 use Rattle.mrt_graph.specs.Rules.{GraphRule, OrderRule, HeadRule, LinkRule, LoneRule, ClosedRule, TagRule, BlockRule}
 use Rattle.mrt_graph.specs.Topology.{Topology}
 use Rattle.std.proofs.Common.{ℕ}
-use Rattle.mrt_answer.specs.Upgraded.{upgraded}
+use Rattle.mrt_answer.specs.Texts.{upgraded}
 
 module _ (g : Topology) (root : ℕ) (file : CertFile) where
   pub upgraded_accepted : Accepted g root file → Accepted g root (upgraded file)

@@ -19,18 +19,12 @@ use Rattle.mrt_words.specs.Form.{Task}
 use Rattle.mrt_words.specs.declared.task.RouterTask.{RouterTask}
 use Rattle.mrt_words.specs.declared.task.RouterTask.TheVariants.{Certify, Table, Trace, Lfa, Order, Proxy}
 use Rattle.mrt_words.specs.declared.task.Task.TheVariants.{Check, Fabric, Upgrade, OfRouter}
-use Rattle.mrt_answer.specs.Certified.{IsComputed}
+use Rattle.mrt_answer.specs.Texts.{IsComputed, IsOrderOf, IsScriptIn, IsTableOf, IsTraceIn, IsUpgrade, accepted_line, judged, proxied}
 use Rattle.area_graph.specs.Parts.{AreaParts}
 use Rattle.mrt_island.specs.declared.island.Island.{Island}
 use Rattle.mrt_answer.specs.Input.{Input, area}
 use Rattle.mrt_answer.specs.Islands.{area_of, island_in, own_place, place_of}
-use Rattle.mrt_answer.specs.Ordered.{IsOrderOf}
-use Rattle.mrt_answer.specs.Packets.{IsScriptIn, IsTraceIn}
-use Rattle.mrt_answer.specs.Proxied.{proxied}
 use Rattle.mrt_answer.specs.Reading.{certificate_of, deliveries_of, input_of, profile_of, script_of, updates_of}
-use Rattle.mrt_answer.specs.Tabled.{IsTableOf}
-use Rattle.mrt_answer.specs.Upgraded.{IsUpgrade}
-use Rattle.mrt_answer.specs.Verdict.{accepted_line, judged}
 
 -- the table of a router of an island, in the island and in its area
 abbrev pub table_in : AreaParts → Island → ℕ → Step (List ℕ)

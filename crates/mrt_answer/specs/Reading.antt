@@ -17,6 +17,7 @@ use Rattle.ospf_lsa.specs.declared.lsa.Lsa.{Lsa}
 use Rattle.mrt_exit.specs.Steps.{Step, such, ◌▸◌}
 use Rattle.mrt_exit.specs.declared.exit.Exit.TheVariants.{BadDatabase, BadProfile, BadCertificate, BadScript, BadUpdate}
 use Rattle.mrt_words.specs.CertSpelling.{IsSpellingOf}
+use Rattle.mrt_words.specs.FileBytes.{FileBytes}
 use Rattle.mrt_answer.specs.Database.{IsBadDatabase}
 use Rattle.mrt_answer.specs.Input.{Input, IsProfile}
 
@@ -55,6 +56,15 @@ abbrev pub deliveries_of : List ℕ → Step FloodScript
 deliveries_of bytes (Ok script) = IsFloodScript (text_lines bytes) script
 deliveries_of bytes (Err (BadScript line)) = IsFirstFaultOfDeliveries (text_lines bytes) line
 deliveries_of bytes (Err _) = ⊥
+
+-- the bytes of the three files are packets, a profile and a script of deliveries
+pub record HoldsFlood (bytes : FileBytes) : Type 0 where
+  pub updates : List Update
+  pub packets : updates_of bytes.first (Ok updates)
+  pub settings : List Setting
+  pub profile_is : profile_of bytes.profile (Ok settings)
+  pub script : FloodScript
+  pub script_is : deliveries_of bytes.last (Ok script)
 
 -- a database, and then a profile
 abbrev pub input_of : List ℕ → List ℕ → Step Input

@@ -9,7 +9,7 @@ use Rattle.mrt_words.specs.Form.{IsNetworkSize}
 use Rattle.mrt_answer.specs.Input.{Input}
 use Rattle.mrt_answer.specs.Islands.{island_in}
 use Rattle.mrt_island.specs.declared.island.Island.{Island}
-use Rattle.mrt_answer.specs.Certified.{IsComputedFile}
+use Rattle.mrt_answer.specs.Texts.{IsComputedFile}
 
 -- the LSAs of the network, under a profile that says nothing
 abbrev pub made_input : ℕ → ℕ → Input

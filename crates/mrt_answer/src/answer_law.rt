@@ -6,8 +6,8 @@ ghost use Rattle.fabric.specs.{FabricParts.ArePartsKept, FabricParts.FabricParts
 ghost use Rattle.flood_verdict.specs.{Alike.ComparesAlike, Alike.IsToldAlike, Says.Says};
 ghost use Rattle.mrt_words.specs.{FileBytes.FileBytes, FileBytes.with_last, Files.certificate_limit, declared.task.RouterTask.TheVariants.Certify, Form.Task};
 ghost use Rattle.mrt_words.specs.declared.task.Task.TheVariants.{Check, Upgrade, OfRouter};
-ghost use Rattle.mrt_answer.specs.{Certified.IsComputedFile, Flooded.HoldsFlood, Forms.flooded, Forms.over, Input.Input, Input.area, Islands.island_in, Packets.ArePartsIn};
-ghost use Rattle.mrt_answer.specs.{Reading.input_of, SameFile.IsSameFile, Surveyed.IsSurveyed};
+ghost use Rattle.mrt_answer.specs.{Texts.IsComputedFile, Reading.HoldsFlood, Forms.flooded, Forms.over, Input.Input, Input.area, Islands.island_in, Texts.ArePartsIn};
+ghost use Rattle.mrt_answer.specs.{Reading.input_of, Surveyed.IsSurveyed};
 ghost use Rattle.mrt_exit.specs.Steps.{IsOne};
 ghost use Rattle.mrt_graph.specs.declared.cert.CertFile.{CertFile};
 ghost use Rattle.mrt_island.specs.declared.island.Island.{Island};
@@ -98,7 +98,7 @@ pub fn an_island_has_one_certificate()
         → (router other : ℕ) (one two : Island) → island_in input router (Ok one) → island_in input other (Ok two)
         → Contains one.graph.ids (router_node other)
         → (file second : CertFile) → IsComputedFile one.graph one.root file → IsComputedFile two.graph two.root second
-        → IsSameFile one.graph one.root file two.graph two.root second }
+        → (one.graph ≡ two.graph) × (one.root ≡ two.root) × (file ≡ second) }
 {
     an_lsa_without_a_fault_may_be_installed();
     the_newest_records_give_an_area();

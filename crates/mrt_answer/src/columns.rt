@@ -2,7 +2,7 @@
 
 ghost use Rattle.std.specs.Prelude.{◌<◌, IfOk, length};
 ghost use Rattle.mrt_rows.specs.Rooted.{MakeColumns};
-ghost use Rattle.mrt_answer.specs.Computed.{HasComputed};
+ghost use Rattle.mrt_answer.specs.Made.{HasComputed};
 
 use mrt_graph::{Graph, NoMemory, NodeNo, accepted_implies_sound};
 use mrt_rows::{RootedColumns, certificates_are_accepted};

@@ -2,7 +2,7 @@
 
 ghost use Rattle.std.specs.Prelude.{◌<◌, IfOk, Contains, length};
 ghost use Rattle.mrt_graph.specs.NodeIds.{router as router_node};
-ghost use Rattle.mrt_answer.specs.{Forms.ordered, Forms.ordered_in, Ordered.IsOrderOf, TextBytes.IsTextAnswer};
+ghost use Rattle.mrt_answer.specs.{Forms.ordered, Forms.ordered_in, Texts.IsOrderOf, TextBytes.IsTextAnswer};
 
 use crate::finding::own_node;
 use crate::given::Given;

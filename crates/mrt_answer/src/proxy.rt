@@ -3,7 +3,7 @@
 ghost use Rattle.std.specs.Prelude.{◌≢◌, ◌<◌, IfOk, length};
 ghost use Rattle.mrt_rows.specs.Rooted.{MakeColumns};
 ghost use Rattle.proxy_rows.specs.ProxyRows.{AreProxyRows};
-ghost use Rattle.mrt_answer.specs.{Attached.IsAttachedBy, Computed.HasComputed, Forms.proxied_for, Forms.proxied_in, Proxied.proxied, TextBytes.IsTextAnswer};
+ghost use Rattle.mrt_answer.specs.{Made.IsAttachedBy, Made.HasComputed, Forms.proxied_for, Forms.proxied_in, Texts.proxied, TextBytes.IsTextAnswer};
 
 use crate::columns::columns_of;
 use crate::finding::node_of;

@@ -6,7 +6,7 @@ ghost use Rattle.mrt_graph.specs.{declared.cert.CertFile.CertFile, GraphInvarian
 ghost use Rattle.text_parts.specs.Adds.{Adds};
 ghost use Rattle.mrt_report.specs.{AddsLines.AddsLines, ByColumn.IsLineByColumn, TableText.IsTableText};
 ghost use Rattle.mrt_rows.specs.{CertOf.IsCertOf, Rooted.MakeColumns};
-ghost use Rattle.mrt_answer.specs.{Certified.IsComputedFile, Forms.table_in as table_step, Forms.tabled, TableMade.AreParts, TableMade.with_cert, TextBytes.IsTextAnswer};
+ghost use Rattle.mrt_answer.specs.{Texts.IsComputedFile, Forms.table_in as table_step, Forms.tabled, Made.AreParts, Made.with_cert, TextBytes.IsTextAnswer};
 
 use crate::columns::columns_of;
 use crate::finding::{own_node, own_spot};

@@ -2,7 +2,7 @@
 
 ghost use Rattle.std.specs.Prelude.{◌≡◌, ◌<◌, ◌↔◌, ℕ, Some, IfOk, Contains, length, slice_get};
 ghost use Rattle.area_graph.specs.Fits.{Fits};
-ghost use Rattle.mrt_answer.specs.{Forms.traced, Packets.IsTraceIn, TextBytes.IsTextAnswer};
+ghost use Rattle.mrt_answer.specs.{Forms.traced, Texts.IsTraceIn, TextBytes.IsTextAnswer};
 
 use crate::given::Given;
 use crate::packets::{AreaAndIsland, area_and_island, tables_to};

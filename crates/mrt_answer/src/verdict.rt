@@ -2,7 +2,7 @@
 
 ghost use Rattle.std.specs.Prelude.{◌≡◌, ◌<◌, ℕ, List, Ok, length};
 ghost use Rattle.mrt_words.specs.Kept.{IsCertRead};
-ghost use Rattle.mrt_answer.specs.{Forms.checked as checked_step, Forms.said_yes, Reading.certificate_of, TextBytes.IsTextAnswer, Verdict.accepted_line as line_of_accepted, Verdict.judged};
+ghost use Rattle.mrt_answer.specs.{Forms.checked as checked_step, Forms.said_yes, Reading.certificate_of, TextBytes.IsTextAnswer, Texts.accepted_line as line_of_accepted, Texts.judged};
 ghost use Rattle.mrt_exit.specs.Steps.{IsAnswer, ◌▸◌};
 
 use crate::given::Given;

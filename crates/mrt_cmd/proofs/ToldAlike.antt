@@ -8,7 +8,7 @@ use Rattle.mrt_words.specs.FileBytes.{FileBytes}
 use Rattle.mrt_words.specs.Files.{flood_names}
 use Rattle.mrt_words.specs.declared.form.Form.{Form}
 use Rattle.mrt_words.specs.declared.form.Form.TheVariants.{Flood}
-use Rattle.mrt_answer.specs.Flooded.{HoldsFlood}
+use Rattle.mrt_answer.specs.Reading.{HoldsFlood}
 use Rattle.mrt_answer.specs.Forms.{flooded}
 use Rattle.mrt_cmd.specs.Comes.{GivesText, of_form}
 use Rattle.mrt_cmd.specs.Headline.{FloodsAlike}

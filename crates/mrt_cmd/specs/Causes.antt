@@ -5,22 +5,7 @@ use Rattle.mrt_io.specs.Counts.{Rose}
 use Rattle.mrt_io.specs.Holding.{Files}
 use Rattle.mrt_io.specs.Writing.{Gained}
 use Rattle.mrt_exit.specs.declared.exit.Exit.{Exit}
-use Rattle.mrt_exit.specs.declared.exit.Exit.TheVariants.{
-  Done,
-  No,
-  Usage,
-  BadDatabase,
-  BadProfile,
-  BadCertificate,
-  TooLarge,
-  NotThere,
-  ReadFault,
-  WriteFault,
-  NoMemory,
-  BadScript,
-  NoCommonBlock,
-  BadUpdate,
-}
+use Rattle.mrt_exit.specs.declared.exit.Exit.TheVariants.{Done, No, Usage, TooLarge, ReadFault, WriteFault, NoMemory}
 use Rattle.mrt_exit.specs.declared.exit.What.TheVariants.{DatabaseFile, UpdatesFile, ProfileFile, CertificateFile, ScriptFile}
 use Rattle.mrt_cmd.specs.Comes.{Comes, FailsAt, GivesText, IsRefused, MissesAt, NamesHeld}
 use Rattle.mrt_exit.specs.Exits.{line_of}
@@ -74,18 +59,11 @@ sink_over healthy_for faults written before now = record {
 abbrev pub HasNoText : List (List ℕ) → ShelfInCall → Exit → Type 0
 HasNoText words shelf Usage = IsNone (form_of words) × shelf.untouched
 HasNoText words shelf (ReadFault word) = FailsAt shelf.held words word × Rose shelf.faults shelf.faults_now
-HasNoText words shelf (BadDatabase at kind) = IsRefused shelf.held words (BadDatabase at kind)
-HasNoText words shelf (BadProfile line kind) = IsRefused shelf.held words (BadProfile line kind)
-HasNoText words shelf (BadCertificate at kind) = IsRefused shelf.held words (BadCertificate at kind)
-HasNoText words shelf (BadScript line) = IsRefused shelf.held words (BadScript line)
-HasNoText words shelf (TooLarge what size) = IsRefused shelf.held words (TooLarge what size)
-HasNoText words shelf (NotThere number) = IsRefused shelf.held words (NotThere number)
-HasNoText words shelf NoCommonBlock = IsRefused shelf.held words NoCommonBlock
-HasNoText words shelf (BadUpdate at kind) = IsRefused shelf.held words (BadUpdate at kind)
 HasNoText words shelf (No rule a b) = IsRefused shelf.held words (No rule a b) × IsSomeAnd (form_of words) AsksVerdict
 HasNoText words shelf NoMemory = IsSome (form_of words)
 HasNoText words shelf Done = ⊥
 HasNoText words shelf (WriteFault taken) = ⊥
+HasNoText words shelf exit = IsRefused shelf.held words exit
 
 -- why an exit came, and what the output gained: on Done the text; on a fault of the output the text's first bytes,
 -- its count having risen and it not having been healthy for the text; else nothing, and the words give no text

@@ -9,7 +9,7 @@ use Rattle.mrt_words.specs.FileBytes.{FileBytes}
 use Rattle.mrt_words.specs.FileBytes.{AreRead}
 use Rattle.mrt_cmd.specs.Comes.{GivesText}
 use Rattle.mrt_words.specs.Files.{flood_names}
-use Rattle.mrt_answer.specs.Flooded.{HoldsFlood}
+use Rattle.mrt_answer.specs.Reading.{HoldsFlood}
 use Rattle.mrt_words.specs.declared.form.FloodForm.{FloodForm}
 use Rattle.mrt_words.specs.declared.form.Form.TheVariants.{Flood}
 use Rattle.mrt_words.specs.Form.{form_of, profile_name}

@@ -3,7 +3,7 @@ use Rattle.cert_format.specs.CertText.{cert_text}
 use Rattle.mrt_graph.specs.declared.cert.CertFile.{CertFile}
 use Rattle.cert_stream.specs.Stream.{Stream}
 use Rattle.mrt_rows.specs.CertOf.{IsCertOf}
-use Rattle.mrt_answer.specs.Certified.{IsComputed}
+use Rattle.mrt_answer.specs.Texts.{IsComputed}
 use Rattle.mrt_answer.proofs.certificate.certificate.Goals as goal
 
 pub new-requires : goal.new-requires

@@ -4,7 +4,7 @@ use Rattle.area_graph.specs.Parts.{AreaParts}
 use Rattle.mrt_exit.specs.Steps.{such}
 use Rattle.mrt_answer.specs.Input.{area}
 use Rattle.mrt_answer.specs.Islands.{island_in}
-use Rattle.mrt_answer.specs.Packets.{IsScriptIn}
+use Rattle.mrt_answer.specs.Texts.{IsScriptIn}
 use Rattle.mrt_answer.proofs.TextSteps.{ends_second, of_bytes}
 use Rattle.mrt_answer.proofs.events.run_of.Goals as goal
 

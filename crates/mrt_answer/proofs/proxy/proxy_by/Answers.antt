@@ -4,12 +4,11 @@ use Rattle.mrt_graph.specs.Topology.{Topology}
 use Rattle.mrt_rows.specs.declared.rooted.RootedColumns.{RootedColumns}
 use Rattle.proxy_rows.specs.declared.attachment.Attachment.{Attachment}
 use Rattle.proxy_rows.specs.Attachment.{IsAttachment}
-use Rattle.mrt_answer.specs.Attached.{IsAttachedBy}
-use Rattle.mrt_answer.specs.Computed.{HasComputed}
+use Rattle.mrt_answer.specs.Made.{HasComputed, IsAttachedBy}
 use Rattle.proxy_rows.specs.declared.proxy_row.ProxyRow.{ProxyRow}
 use Rattle.proxy_rows.specs.ProxyRows.{AreProxyRows}
 use Rattle.mrt_words.proofs.HandedOn.{if_ok}
-use Rattle.mrt_answer.specs.Proxied.{proxied}
+use Rattle.mrt_answer.specs.Texts.{proxied}
 use Rattle.mrt_answer.proofs.ComputedColumns.{as_many}
 use Rattle.mrt_answer.proofs.OneProxy.{accepted_for}
 use Rattle.mrt_answer.proofs.TextSteps.{of_bytes}

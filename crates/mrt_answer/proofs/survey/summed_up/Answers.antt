@@ -1,6 +1,6 @@
 use Rattle.mrt_graph.proofs.ListTests.{there}
 use Rattle.mrt_rows.specs.CertOf.{file_of}
-use Rattle.mrt_answer.specs.Certified.{IsComputedFile}
+use Rattle.mrt_answer.specs.Texts.{IsComputedFile}
 use Rattle.mrt_words.proofs.HandedOn.{if_ok}
 use Rattle.mrt_answer.proofs.survey.summed_up.Goals as goal
 

@@ -5,7 +5,7 @@ use Rattle.mrt_report.specs.AddsLines.{AddsLines}
 use Rattle.mrt_report.specs.ByColumn.{IsLineByColumn}
 use Rattle.mrt_rows.specs.CertOf.{IsCertOf}
 use Rattle.mrt_report.proofs.AddingLines.{no_lines, line_added, line_passed}
-use Rattle.mrt_answer.specs.TableMade.{with_cert}
+use Rattle.mrt_answer.specs.Made.{with_cert}
 use Rattle.mrt_answer.proofs.table.push_lines.Goals.{then-ne+in_ok-push_line, else-ne}
 use Rattle.mrt_answer.proofs.table.push_lines.Goals as goal
 

@@ -4,7 +4,7 @@ use Rattle.mrt_report.specs.AddsLines.{AddsLines}
 use Rattle.mrt_report.specs.ByColumn.{IsLineByColumn}
 use Rattle.mrt_rows.specs.CertOf.{IsCertOf}
 use Rattle.mrt_rows.specs.Rooted.{MakeColumns}
-use Rattle.mrt_answer.specs.TableMade.{with_cert}
+use Rattle.mrt_answer.specs.Made.{with_cert}
 use Rattle.mrt_answer.proofs.table.push_lines.Given as goal
 
 abbrev pub invariant-loop-place : goal.invariant-loop-place

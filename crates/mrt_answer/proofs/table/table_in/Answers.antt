@@ -11,7 +11,7 @@ use Rattle.mrt_report.specs.TableParts.{table_parts}
 use Rattle.mrt_report.specs.TableText.{IsTableText}
 use Rattle.mrt_answer.specs.Islands.{own_place}
 use Rattle.area_graph.specs.Parts.{AreaParts}
-use Rattle.mrt_answer.specs.Tabled.{IsTableOf}
+use Rattle.mrt_answer.specs.Texts.{IsTableOf}
 use Rattle.mrt_answer.proofs.Tables.{not_network}
 use Rattle.mrt_answer.proofs.TextSteps.{ends_second, of_bytes}
 use Rattle.mrt_answer.proofs.table.table_in.Goals as goal

@@ -1,6 +1,6 @@
 use Rattle.std.proofs.Common.{ℕ, List, sym, subst}
 use Rattle.mrt_report.specs.TableText.{IsTableText}
-use Rattle.mrt_answer.specs.TableMade.{with_cert}
+use Rattle.mrt_answer.specs.Made.{with_cert}
 use Rattle.mrt_answer.proofs.table.table_text.Goals as goal
 
 pub returns : goal.returns

@@ -26,9 +26,8 @@ returns c =
     let said = c.in_ok-judge.ensures in (
       tt,
       said,
-      record {
-        accepted = upgraded_accepted island.graph island.root c.args.file said.0;
-        sound = said.1;
-        spelled = record { within = c.in_ok-new.ensures.within; spelled = ap cert_text c.in_ok-new.ensures.file };
-      },
+      (
+        upgraded_accepted island.graph island.root c.args.file said.0,
+        record { within = c.in_ok-new.ensures.within; spelled = ap cert_text c.in_ok-new.ensures.file },
+      ),
     )
