@@ -33,16 +33,8 @@ record Begun (parts : FabricParts) (events : List Event) (packets : List Packet)
 begun_later : (parts : FabricParts) (event : Event) (events : List Event) (packets : List Packet)
     → (packets ≡ []) ⊎ Begun parts events packets → (packets ≡ []) ⊎ Begun parts (event ∷ events) packets
 begun_later parts event events packets (inl none) = inl none
-begun_later parts event events packets (inr begun) = inr (record {
-  q = begun.q;
-  rest = begun.rest;
-  from = begun.from;
-  entry = begun.entry;
-  enters = contains_later event (Inject begun.from begun.q.to begun.entry) events begun.enters;
-  kept = begun.kept;
-  chain = begun.chain;
-  same = begun.same;
-})
+begun_later parts event events packets (inr b) =
+    inr (record { q = b.q; rest = b.rest; from = b.from; entry = b.entry; enters = contains_later event (Inject b.from b.q.to b.entry) events b.enters; kept = b.kept; chain = b.chain; same = b.same })
 
 module _ (parts : FabricParts) (are : ArePartsKept parts) (p : ℕ) where
   next_run : (old new : FabricState) (event : Event) (events : List Event) (answer : Answer) (answers : List Answer) → IsRun parts old (event ∷ events) (answer ∷ answers) new

@@ -1,5 +1,5 @@
 -- What holds of the destination of each packet goes on to hold.
-use Rattle.std.proofs.Common.{◌≡◌, ◌++◌, ◌∙◌, ℕ, List, [], ◌∷◌, Option, Some, None, Ok, Err, set, slice_get, inl, inr, refl, sym, subst}
+use Rattle.std.proofs.Common.{◌≡◌, ◌<◌, ◌++◌, ◌∙◌, ℕ, List, [], ◌∷◌, Option, Some, None, Ok, Err, length, set, slice_get, inl, inr, refl, sym, subst}
 use Rattle.std.specs.Prelude.{slice_set}
 use Rattle.std.specs.Option.{option_map_or}
 use Rattle.std.proofs.lemmas.Bool.{cases_eq}
@@ -12,6 +12,17 @@ use Rattle.fabric.specs.declared.event.Outcome.TheVariants as outcomes
 use Rattle.fabric_script.specs.declared.entry.Entry.{Entry}
 use Rattle.fabric.specs.declared.packet.Packet.{Packet}
 use Rattle.mrt_graph.proofs.ListPlaces.{pushed_at, set_elsewhere, set_there}
+
+-- what holds of each item goes on to hold of each, where it holds of one that is put last, or in place of another
+module _ {X : Type 0} (P : X → Type 0) (xs : List X) (each : (p : ℕ) (x : X) → slice_get xs p ≡ Some x → P x) where
+  pub each_pushed : (y : X) → P y → (p : ℕ) (x : X) → slice_get (xs ++ y ∷ []) p ≡ Some x → P x
+  each_pushed y new p x there = elim (pushed_at xs y x p there) [ inl before ↦ each p x before | inr last ↦ subst P last.1 new ]
+
+  pub each_set : (k : ℕ) (y : X) → k < length xs → P y → (p : ℕ) (x : X) → slice_get (set xs k y) p ≡ Some x → P x
+  each_set k y within new p x there = elim (cases_eq p k) [
+    | inl here ↦ subst P (same_Some y x (sym (set_there xs k y within) ∙ (rw here at there))) new
+    | inr other ↦ each p x (sym (set_elsewhere xs k p y other) ∙ there)
+  ]
 
 -- it holds of the destination of each of the packets
 abbrev pub EachTo : (ℕ → Type 0) → List Packet → Type 0
@@ -28,22 +39,12 @@ to_stays outcomes.Failed q = refl
 
 module _ (P : ℕ → Type 0) (packets : List Packet) (each : EachTo P packets) where
   pub each_entered : (at to : ℕ) (entry : Entry) → P to → EachTo P (packets ++ entering at to entry ∷ [])
-  each_entered at to entry new p packet there = elim (pushed_at packets (entering at to entry) packet p there) [
-    | inl before ↦ each p packet before
-    | inr last ↦ subst (λ (q : Packet). P q.to) last.1 new
-  ]
+  each_entered at to entry new = each_pushed (λ (q : Packet). P q.to) packets each (entering at to entry) new
 
   pub each_handled : (k : ℕ) (q : Packet) (outcome : Outcome) → slice_get packets k ≡ Some q
       → EachTo P (slice_set packets k (packet_after outcome q))
-  each_handled k q outcome at p packet there = elim (cases_eq p k) [
-    | inl here ↦
-        let now : slice_get (set packets k (packet_after outcome q)) k ≡ Some packet =
-        subst (λ (j : ℕ). slice_get (set packets k (packet_after outcome q)) j ≡ Some packet) here there in
-        let same : packet_after outcome q ≡ packet =
-        same_Some _ _ (sym (set_there packets k (packet_after outcome q) (slice_get_within packets k q at)) ∙ now) in
-        subst (λ (x : Packet). P x.to) same (subst P (sym (to_stays outcome q)) (each k q at))
-    | inr other ↦ each p packet (sym (set_elsewhere packets k p (packet_after outcome q) other) ∙ there)
-  ]
+  each_handled k q outcome at =
+      each_set (λ (x : Packet). P x.to) packets each k (packet_after outcome q) (slice_get_within packets k q at) (subst P (sym (to_stays outcome q)) (each k q at))
 
   each_stepped : (k : ℕ) (outcome : Outcome) → EachTo P (packets_after packets k outcome)
   each_stepped k outcome = go (slice_get packets k) refl

@@ -19,6 +19,7 @@ use Rattle.fabric.specs.declared.event.Refused.TheVariants as refusals
 use Rattle.fabric_script.specs.declared.entry.Entry.{Entry}
 use Rattle.fabric.specs.declared.packet.Packet.{Packet}
 use Rattle.fabric.specs.declared.packet.State.TheVariants as states
+use Rattle.fabric.proofs.Destinations.{each_pushed, each_set}
 use Rattle.fabric.proofs.LifeSteps.{entering_kept}
 use Rattle.fabric.proofs.PacketChains.{kept_next, next_of}
 use Rattle.mrt_graph.proofs.ListPlaces.{pushed_at, set_elsewhere, set_there}
@@ -26,10 +27,7 @@ use Rattle.mrt_graph.proofs.ListPlaces.{pushed_at, set_elsewhere, set_there}
 module _ (parts : FabricParts) (are : ArePartsKept parts) (packets : List Packet) (failure : Option Failure) (room : ℕ) (kept : IsKeptState parts (state_of packets failure room)) where
   pub kept_entered : (at to : ℕ) (entry : Entry) → MayEnter parts at to entry → length packets < room → IsKeptState parts (state_of (packets ++ entering at to entry ∷ []) failure room)
   kept_entered at to entry may less = record {
-    packets = λ p packet there. elim (pushed_at packets (entering at to entry) packet p there) [
-      | inl before ↦ kept.packets p packet before
-      | inr last ↦ subst (λ (q : Packet). IsKeptPacket parts q) last.1 (entering_kept parts are at to entry may)
-    ];
+    packets = each_pushed (IsKeptPacket parts) packets kept.packets (entering at to entry) (entering_kept parts are at to entry may);
     failure = kept.failure;
     few = omega (arith, less, length-append packets (entering at to entry ∷ []));
   }
@@ -37,13 +35,8 @@ module _ (parts : FabricParts) (are : ArePartsKept parts) (packets : List Packet
   pub kept_handled : (p : ℕ) (q : Packet) (outcome : Outcome) → AreRowsFor parts q.to → slice_get packets p ≡ Some q → q.state ≡ states.Going → IsHandled parts failure q outcome
       → IsKeptState parts (state_of (slice_set packets p (packet_after outcome q)) failure room)
   kept_handled p q outcome rows there going handled = record {
-    packets = λ k packet at. elim (cases_eq k p) [
-      | inl here ↦
-          let now : slice_get (set packets p (packet_after outcome q)) p ≡ Some packet = subst (λ (j : ℕ). slice_get (set packets p (packet_after outcome q)) j ≡ Some packet) here at in
-          let same : packet_after outcome q ≡ packet = same_Some _ _ (sym (set_there packets p (packet_after outcome q) (slice_get_within packets p q there)) ∙ now) in
-          subst (λ (x : Packet). IsKeptPacket parts x) same (kept_next parts are q (packet_after outcome q) rows (kept.packets p q there) going (next_of parts failure q outcome handled))
-      | inr other ↦ kept.packets k packet (sym (set_elsewhere packets p k (packet_after outcome q) other) ∙ at)
-    ];
+    packets = each_set (IsKeptPacket parts) packets kept.packets p (packet_after outcome q) (slice_get_within packets p q there)
+        (kept_next parts are q (packet_after outcome q) rows (kept.packets p q there) going (next_of parts failure q outcome handled));
     failure = kept.failure;
     few = let few = kept.few in omega (arith, few, length-set packets p (packet_after outcome q));
   }
@@ -54,36 +47,3 @@ module _ (parts : FabricParts) (are : ArePartsKept parts) (packets : List Packet
       → FabricStep parts (state_of packets failure room) (Inject at to entry) (Ok (outcomes.Entered number)) (state_of items failure room)
   step_entered at to number entry items may less number_is items_is =
       rw (number_is, items_is) (record { answers = record { may = true; may_is = (λ holds. may, λ may. refl); is = rw (lt-ltb (length packets) room less) refl }; after = refl })
-
-  -- the steps of a packet
-  pub step_unmade : (p : ℕ) → length packets ≤ p → FabricStep parts (state_of packets failure room) (Step p) (Err refusals.NoSuchPacket) (state_of packets failure room)
-  step_unmade p past = record { answers = go (slice_get packets p) (slice_get_past packets p past); after = refl }
-    where
-      go : (o : Option Packet) → o ≡ None → IsStepAnswer parts failure o (Err refusals.NoSuchPacket)
-      go None none = NoPacket
-      go (Some q) none = cc
-
-  pub step_ended : (p : ℕ) (q : Packet) → slice_get packets p ≡ Some q → q.state ≢ states.Going
-      → FabricStep parts (state_of packets failure room) (Step p) (Err refusals.Ended) (state_of packets failure room)
-  step_ended p q there ended = record { answers = go (slice_get packets p) there; after = refl }
-    where
-      go : (o : Option Packet) → o ≡ Some q → IsStepAnswer parts failure o (Err refusals.Ended)
-      go None none = cc
-      go (Some r) same = HasEnded r (λ going. ended (ap (λ (x : Packet). x.state) (sym (same_Some r q same)) ∙ going))
-
-  pub step_handled : (p : ℕ) (q : Packet) (outcome : Outcome) → slice_get packets p ≡ Some q → q.state ≡ states.Going → IsHandled parts failure q outcome
-      → FabricStep parts (state_of packets failure room) (Step p) (Ok outcome) (state_of (slice_set packets p (packet_after outcome q)) failure room)
-  step_handled p q outcome there going handled = record { answers = go (slice_get packets p) there; after = after }
-    where
-      go : (o : Option Packet) → o ≡ Some q → IsStepAnswer parts failure o (Ok outcome)
-      go None none = cc
-      go (Some r) same = subst (λ (x : Packet). IsStepAnswer parts failure (Some x) (Ok outcome)) (sym (same_Some r q same)) (Answered q outcome going handled)
-
-      after : state_of (slice_set packets p (packet_after outcome q)) failure room ≡ state_after (state_of packets failure room) (Step p) (Ok outcome)
-      after = ap (λ (xs : List Packet). state_of xs failure room)
-          (sym (ap (λ (o : Option Packet). option_map_or (λ (packet : Packet). slice_set packets p (packet_after outcome packet)) o packets) there))
-
--- what is read twice at one place is the same
-pub read_again : {X : Type 0} (xs : List X) (n i : ℕ) (x y : X) → n ≡ length xs → i < n → x ≡ get_or xs i x → y ≡ get_or xs i y → x ≡ y
-read_again xs n i x y count inside one other =
-    same_Some x y (sym (slice_get_read xs n i x count inside one) ∙ slice_get_read xs n i y count inside other)

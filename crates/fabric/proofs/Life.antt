@@ -151,22 +151,11 @@ module _ (parts : FabricParts) (are : ArePartsKept parts) where
 
   abbrev pub left_after : (color : Color) (q : Packet) (left : IsLeft parts color q) (hop : NextHop) (on : Onward parts color q.to hop left.d left.hops)
       → IsLeft parts color (record q { place = hop.next })
-  left_after color q left hop on = record {
-    n = on.m;
-    d = left.d;
-    at = on.at;
-    to = left.to;
-    hops = on.rest;
-    follows = on.follows;
-    differ = on.differ left.n left.differ;
-  }
+  left_after color q left hop on = record { n = on.m; d = left.d; at = on.at; to = left.to; hops = on.rest; follows = on.follows; differ = on.differ left.n left.differ }
 
   pub avoids_after : (color : Color) (failure : Option Failure) (q : Packet) (left : IsLeft parts color q) (hop : NextHop) (on : Onward parts color q.to hop left.d left.hops)
       → Avoids parts failure left.n left.hops → Avoids parts failure on.m on.rest
-  avoids_after color failure q left hop on avoids = record {
-    failed = avoids.failed;
-    not_on = go;
-  }
+  avoids_after color failure q left hop on avoids = record { failed = avoids.failed; not_on = go }
     where
       go : (x : Element) → element_of parts failure ≡ Some x → On on.m on.rest x → ⊥
       go (elements.Link e) is has = avoids.not_on (elements.Link e) is (on.links e has)
@@ -193,14 +182,7 @@ module _ (parts : FabricParts) (are : ArePartsKept parts) where
 
   -- a packet that is lost, or delivered
   pub ended_kept : (q : Packet) → IsKeptPacket parts q → (loss : Loss) → IsKeptPacket parts (record q { state = states.Lost loss })
-  ended_kept q kept loss = record {
-    place = kept.place;
-    to = kept.to;
-    place_inside = kept.place_inside;
-    to_inside = kept.to_inside;
-    router = λ going. cc;
-    apart = λ going. cc;
-  }
+  ended_kept q kept loss = record { place = kept.place; to = kept.to; place_inside = kept.place_inside; to_inside = kept.to_inside; router = λ going. cc; apart = λ going. cc }
 
   pub lost_life : (failure : Option Failure) (q : Packet) (steps : ℕ) (loss : Loss) → Lives parts failure q steps → q.state ≡ states.Going → Why parts failure q loss
       → Lives parts failure (record q { state = states.Lost loss }) (steps + 1)

@@ -42,14 +42,7 @@ module _ (parts : FabricParts) (are : ArePartsKept parts) where
   -- a packet that moves
   pub moved_kept : (q : Packet) (hop : NextHop) → IsKeptPacket parts q → hop.next < length parts.area.ids → (q.mode ≢ modes.Primary → IsSome (node_at parts hop.next))
       → ¬ IsNetwork parts.area.ids hop.next → hop.next ≢ q.to → IsKeptPacket parts (record q { place = hop.next })
-  moved_kept q hop kept within inside router other = record {
-    place = within;
-    to = kept.to;
-    place_inside = inside;
-    to_inside = kept.to_inside;
-    router = λ going. router;
-    apart = λ going. other;
-  }
+  moved_kept q hop kept within inside router other = record { place = within; to = kept.to; place_inside = inside; to_inside = kept.to_inside; router = λ going. router; apart = λ going. other }
 
   pub router_there : (t v : ℕ) → (v ≡ t) ⊎ (¬ IsNetwork parts.area.ids v) → v ≢ t → ¬ IsNetwork parts.area.ids v
   router_there t v (inl here) other = absurd (other here)
@@ -125,14 +118,7 @@ module _ (parts : FabricParts) (are : ArePartsKept parts) where
 
   -- a packet that is delivered
   pub delivered_kept : (q : Packet) → IsKeptPacket parts q → IsKeptPacket parts (record q { place = q.to; state = states.Delivered })
-  delivered_kept q kept = record {
-    place = kept.to;
-    to = kept.to;
-    place_inside = kept.to_inside;
-    to_inside = kept.to_inside;
-    router = λ going. cc;
-    apart = λ going. cc;
-  }
+  delivered_kept q kept = record { place = kept.to; to = kept.to; place_inside = kept.to_inside; to_inside = kept.to_inside; router = λ going. cc; apart = λ going. cc }
 
   delivered_life : (failure : Option Failure) (q : Packet) (steps : ℕ) → Lives parts failure q steps → q.state ≡ states.Going
       → Lives parts failure (record q { place = q.to; state = states.Delivered }) (steps + 1)
@@ -174,14 +160,7 @@ module _ (parts : FabricParts) (are : ArePartsKept parts) where
   -- a packet that is switched
   pub switched_kept : (q : Packet) (color : Color) → IsKeptPacket parts q → IsSome (node_at parts q.place) → IsSome (node_at parts q.to)
       → IsKeptPacket parts (record q { mode = modes.Switched color })
-  switched_kept q color kept place to = record {
-    place = kept.place;
-    to = kept.to;
-    place_inside = λ c. place;
-    to_inside = λ c. to;
-    router = kept.router;
-    apart = kept.apart;
-  }
+  switched_kept q color kept place to = record { place = kept.place; to = kept.to; place_inside = λ c. place; to_inside = λ c. to; router = kept.router; apart = kept.apart }
 
   switched_life : (failure : Option Failure) (q : Packet) (steps : ℕ) (color : Color) → AreRowsFor parts q.to → Lives parts failure q steps → q.state ≡ states.Going → q.mode ≡ modes.Primary
       → IsCutOff parts failure q → IsRepair parts failure q (Some (Some color)) → Lives parts failure (record q { mode = modes.Switched color }) (steps + 1)

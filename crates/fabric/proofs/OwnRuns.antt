@@ -44,11 +44,6 @@ module _ (parts : FabricParts) (are : ArePartsKept parts) where
       one.2.1.1 ∙ ap (λ (x : Answer). x ∷ one.2.1.0) same ∙ ap (λ (xs : List Answer). b ∷ xs) rest ∙ sym other.2.1.1
 
   module _ (p : ℕ) where
-    same_start : (f f' : Option Failure) (q q' : Option Packet) (events : List OwnEvent) (answers : List Answer) → f' ≡ f → q' ≡ q
-        → OwnRun parts f' q' events answers → OwnRun parts f q events answers
-    same_start f f' q q' events answers same same' run =
-        subst (λ (x : Option Failure). OwnRun parts x q events answers) same (subst (λ (x : Option Packet). OwnRun parts f' x events answers) same' run)
-
     own_run : (events : List Event) (answers : List Answer) (old new : FabricState) → IsRun parts old events answers new
         → OwnRun parts old.failure (slice_get old.packets p) (own_events p events answers) (step_answers p events answers)
     own_run [] [] old new run = refl
@@ -58,48 +53,16 @@ module _ (parts : FabricParts) (are : ArePartsKept parts) where
         go (effect parts p old event answer run.1.answers)
         (own_run events answers (state_after old event answer) new (subst (λ (s : FabricState). IsRun parts s events answers new) run.1.after run.2))
       where
-        after : FabricState
-        after = state_after old event answer
-
-        rest_of : List OwnEvent
-        rest_of = own_events p events answers
-
         go : Effect parts p old (state_after old event answer) event answer
             → OwnRun parts (state_after old event answer).failure (slice_get (state_after old event answer).packets p) (own_events p events answers) (step_answers p events answers)
             → OwnRun parts old.failure (slice_get old.packets p) (own_events p (event ∷ events) (answer ∷ answers)) (step_answers p (event ∷ events) (answer ∷ answers))
-        go (Apart same failure to) rest = rw (to.own_is, to.answers_is) (same_start old.failure _ (slice_get old.packets p) _ (own_events p events answers) (step_answers p events answers) failure same rest)
-        go (Made at t entry is none now failure may to) rest =
-            rw (to.own_is, to.answers_is) (same_start old.failure _ (Some (entering at t entry)) _ (own_events p events answers) (step_answers p events answers) failure now rest)
-        go (FailsNow failed same none kept element to) rest =
-            rw (to.own_is, to.answers_is) (same_start (Some failed) _ (slice_get old.packets p) _ (own_events p events answers) (step_answers p events answers) kept same rest)
+        go (Apart same failure to) rest = rw (to.own_is, to.answers_is) (rw (failure, same) at rest)
+        go (Made at t entry is none now failure may to) rest = rw (to.own_is, to.answers_is) (rw (failure, now) at rest)
+        go (FailsNow failed same none kept element to) rest = rw (to.own_is, to.answers_is) (rw (kept, same) at rest)
         go (Handled q outcome there going handled now failure to) rest =
-            rw (to.own_is, to.answers_is) (
-              q,
-              there,
-              (
-                Ok outcome,
-                (
-                  step_answers p events answers,
-                  refl,
-                  Answered q outcome going handled,
-                  same_start old.failure _ (Some (packet_after outcome q)) _ (own_events p events answers) (step_answers p events answers) failure now rest,
-                ),
-              ),
-            )
+            rw (to.own_is, to.answers_is) (q, there, (Ok outcome, (step_answers p events answers, refl, Answered q outcome going handled, rw (failure, now) at rest)))
         go (AfterEnd q there ended same failure to) rest =
-            rw (to.own_is, to.answers_is) (
-              q,
-              there,
-              (
-                _,
-                (
-                  step_answers p events answers,
-                  refl,
-                  HasEnded q ended,
-                  same_start old.failure _ (Some q) _ (own_events p events answers) (step_answers p events answers) failure (same ∙ there) rest,
-                ),
-              ),
-            )
+            rw (to.own_is, to.answers_is) (q, there, (_, (step_answers p events answers, refl, HasEnded q ended, rw (failure, same, there) at rest)))
 
 pub same_answers : (parts : FabricParts) → ArePartsKept parts → (room : ℕ) (events : List Event) (answers : List Answer) (end : FabricState) → IsRun parts (start room) events answers end
     → (other : ℕ) (events' : List Event) (answers' : List Answer) (end' : FabricState) → IsRun parts (start other) events' answers' end'

@@ -33,19 +33,15 @@ abbrev after_step : Bool → ℕ → ℕ
 after_step handled steps = if handled then steps + 1 else steps
 
 module _ (parts : FabricParts) (are : ArePartsKept parts) (p : ℕ) where
-  same_failure : (old new : Option Failure) (q : Packet) (steps : ℕ) → new ≡ old → Lives parts old q steps → Lives parts new q steps
-  same_failure old new q steps same lives = subst (λ (f : Option Failure). Lives parts f q steps) (sym same) lives
-
   -- where nothing changes of the packet and the failure
   stays : (old new : FabricState) (steps : ℕ) → slice_get new.packets p ≡ slice_get old.packets p → new.failure ≡ old.failure → IsAt parts p old steps → IsAt parts p new steps
   stays old new steps same failure (Unmade none count) = Unmade (same ∙ none) count
-  stays old new steps same failure (Living q there rows lives) = Living q (same ∙ there) rows (same_failure old.failure new.failure q steps failure lives)
+  stays old new steps same failure (Living q there rows lives) = Living q (same ∙ there) rows (rw failure lives)
 
   fails : (old new : FabricState) (failed : Failure) (steps : ℕ) → slice_get new.packets p ≡ slice_get old.packets p → old.failure ≡ None → new.failure ≡ Some failed
       → IsAt parts p old steps → IsAt parts p new steps
   fails old new failed steps same none kept (Unmade nothing count) = Unmade (same ∙ nothing) count
-  fails old new failed steps same none kept (Living q there rows lives) =
-      Living q (same ∙ there) rows (same_failure (Some failed) new.failure q steps kept (life_fails parts failed q steps (same_failure old.failure None q steps (sym none) lives)))
+  fails old new failed steps same none kept (Living q there rows lives) = Living q (same ∙ there) rows (rw kept (life_fails parts failed q steps (rw none at lives)))
 
   goes_on : (old new : FabricState) (event : Event) (answer : Answer) (steps : ℕ) → ((at to : ℕ) (entry : Entry) → event ≡ Inject at to entry → AreRowsFor parts to)
       → Effect parts p old new event answer → IsAt parts p old steps
@@ -57,7 +53,7 @@ module _ (parts : FabricParts) (are : ArePartsKept parts) (p : ℕ) where
     where
       made : IsAt parts p old steps → IsAt parts p new steps
       made (Unmade nothing count) =
-          Living (entering from t entry) there (enters from t entry is) (same_failure old.failure new.failure (entering from t entry) steps failure (subst (λ (k : ℕ). Lives parts old.failure (entering from t entry) k) (sym count) (life_begins parts are old.failure from t entry (enters from t entry is) may)))
+          Living (entering from t entry) there (enters from t entry is) (rw (failure, count) (life_begins parts are old.failure from t entry (enters from t entry is) may))
       made (Living q before rows lives) = cc
   goes_on old new event answer steps enters (Handled q outcome there going handled now failure to) at = rw to.handles_is (handle at)
     where
@@ -65,10 +61,8 @@ module _ (parts : FabricParts) (are : ArePartsKept parts) (p : ℕ) where
       handle (Unmade nothing count) = cc
       handle (Living q' before rows lives) =
           let same : q' ≡ q = same_Some _ _ (sym before ∙ there) in
-          let still : AreRowsFor parts q.to = subst (λ (r : Packet). AreRowsFor parts r.to) same rows in
-          Living (packet_after outcome q) now (subst (λ (t : ℕ). AreRowsFor parts t) (sym (to_stays outcome q)) still)
-          (same_failure old.failure new.failure (packet_after outcome q) (steps + 1) failure
-          (life_after parts are old.failure q steps still (subst (λ (r : Packet). Lives parts old.failure r steps) same lives) going outcome handled))
+          let still : AreRowsFor parts q.to = rw same at rows in
+          Living (packet_after outcome q) now (rw (to_stays outcome q) still) (rw failure (life_after parts are old.failure q steps still (rw same at lives) going outcome handled))
 
   pub at_step : (old next : FabricState) (event : Event) (answer : Answer) (steps : ℕ) → ((at to : ℕ) (entry : Entry) → event ≡ Inject at to entry → AreRowsFor parts to)
       → FabricStep parts old event answer next → IsAt parts p old steps

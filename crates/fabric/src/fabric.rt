@@ -1,6 +1,6 @@
 //! Packets on their way.
 
-ghost use Rattle.std.specs.Prelude.{◌≡◌, ◌≤◌, IfOk};
+ghost use Rattle.std.specs.Prelude.{◌≡◌, ◌≤◌, IfOk, slice_get};
 ghost use Rattle.fabric.specs.FabricState.{packet_after};
 ghost use Rattle.fabric.specs.declared.event.Event.TheVariants as events;
 
@@ -120,7 +120,7 @@ impl<'a, R: RowsOf> Fabric<'a, R> {
     pub fn packet(&self, p: PacketNo) -> Option<Packet>
         ensures { result ≡ slice_get self.now.state.packets p }
     {
-        self.packets.get(p.get() as usize).copied()
+        packet_of(&self.packets, p)
     }
 
     /// A packet enters, if it may and there is room.
@@ -149,15 +149,14 @@ impl<'a, R: RowsOf> Fabric<'a, R> {
         ensures tables { self.new.tables ≡ self.old.tables }
         ensures told { IsTellable self.old.tables.area.ids result }
     {
-        let place = p.get() as usize;
-        if place >= self.packets.len() {
+        let Some(packet) = packet_of(&self.packets, p) else {
             return Err(Refused::NoSuchPacket);
-        }
-        let packet = &self.packets[place];
+        };
         let State::Going = packet.state else {
             return Err(Refused::Ended);
         };
-        let outcome = handled(&self.parts, self.failure, packet);
+        let outcome = handled(&self.parts, self.failure, &packet);
+        let place = p.get() as usize;
         change(&mut self.packets[place], &outcome);
         Ok(outcome)
     }
@@ -178,6 +177,13 @@ impl<'a, R: RowsOf> Fabric<'a, R> {
         self.failure = Some(failed);
         Ok(Outcome::Failed)
     }
+}
+
+/// The packet of that number, if it is one of these.
+fn packet_of(packets: &[Packet], p: PacketNo) -> Option<Packet>
+    ensures { result ≡ slice_get packets.now p }
+{
+    packets.get(p.get() as usize).copied()
 }
 
 /// Makes a packet what it is after an outcome of its own.
