@@ -32,7 +32,7 @@ pub data Effect (parts : FabricParts) (p : ℕ) (old new : FabricState) (event :
   Apart : slice_get new.packets p ≡ slice_get old.packets p → new.failure ≡ old.failure
       → AreTo p event answer [] [] false false → Effect parts p old new event answer
   Made : (at to : ℕ) (entry : Entry) → event ≡ Inject at to entry → slice_get old.packets p ≡ None → slice_get new.packets p ≡ Some (entering at to entry)
-      → new.failure ≡ old.failure → MayEnter parts at to entry
+      → new.failure ≡ old.failure → MayEnter parts.area parts.island at to entry
       → AreTo p event answer (Enters at to entry ∷ []) [] true false → Effect parts p old new event answer
   FailsNow : (failed : Failure) → slice_get new.packets p ≡ slice_get old.packets p → old.failure ≡ None
       → new.failure ≡ Some failed → HasElement parts.area failed
@@ -54,11 +54,11 @@ pushed_apart (x ∷ xs) y (suc k) other = pushed_apart xs y k (λ same. other (o
 
 module _ (parts : FabricParts) (p : ℕ) (old : FabricState) where
   -- of a packet that enters
-  entered : (at to : ℕ) (entry : Entry) (answer : Answer) → IsInjectAnswer parts old at to entry answer
+  entered : (at to : ℕ) (entry : Entry) (answer : Answer) → IsInjectAnswer parts.area parts.island old at to entry answer
       → Effect parts p old (state_after old (Inject at to entry) answer) (Inject at to entry) answer
   entered at to entry answer is = rw is.is (go is.may (nat_lt (length old.packets) old.room) is.may_is)
     where
-      go : (may room : Bool) → IsTrue may ↔ MayEnter parts at to entry
+      go : (may room : Bool) → IsTrue may ↔ MayEnter parts.area parts.island at to entry
           → Effect parts p old (state_after old (Inject at to entry) (inject_answer may room (length old.packets))) (Inject at to entry) (inject_answer may room (length old.packets))
       go false room may_is = Apart refl refl (record { own_is = refl; answers_is = refl; makes_is = refl; handles_is = refl })
       go true false may_is = Apart refl refl (record { own_is = refl; answers_is = refl; makes_is = refl; handles_is = refl })

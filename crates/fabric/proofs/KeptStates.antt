@@ -25,7 +25,7 @@ use Rattle.fabric.proofs.PacketChains.{kept_next, next_of}
 use Rattle.mrt_graph.proofs.ListPlaces.{pushed_at, set_elsewhere, set_there}
 
 module _ (parts : FabricParts) (are : ArePartsKept parts) (packets : List Packet) (failure : Option Failure) (room : ℕ) (kept : IsKeptState parts (state_of packets failure room)) where
-  pub kept_entered : (at to : ℕ) (entry : Entry) → MayEnter parts at to entry → length packets < room → IsKeptState parts (state_of (packets ++ entering at to entry ∷ []) failure room)
+  pub kept_entered : (at to : ℕ) (entry : Entry) → MayEnter parts.area parts.island at to entry → length packets < room → IsKeptState parts (state_of (packets ++ entering at to entry ∷ []) failure room)
   kept_entered at to entry may less = record {
     packets = each_pushed (IsKeptPacket parts) packets kept.packets (entering at to entry) (entering_kept parts are at to entry may);
     failure = kept.failure;
@@ -42,7 +42,7 @@ module _ (parts : FabricParts) (are : ArePartsKept parts) (packets : List Packet
   }
 
   -- a packet that enters
-  pub step_entered : (at to number : ℕ) (entry : Entry) (items : List Packet) → MayEnter parts at to entry → length packets < room → number ≡ length packets
+  pub step_entered : (at to number : ℕ) (entry : Entry) (items : List Packet) → MayEnter parts.area parts.island at to entry → length packets < room → number ≡ length packets
       → items ≡ packets ++ entering at to entry ∷ []
       → FabricStep parts (state_of packets failure room) (Inject at to entry) (Ok (outcomes.Entered number)) (state_of items failure room)
   step_entered at to number entry items may less number_is items_is =

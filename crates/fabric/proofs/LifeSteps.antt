@@ -199,7 +199,7 @@ module _ (parts : FabricParts) (are : ArePartsKept parts) where
       go (IsSwitched color primary off by) = switched_life failure q steps color rows lives going primary off by
 
   -- where it enters
-  pub entering_kept : (at to : ℕ) (entry : Entry) → MayEnter parts at to entry → IsKeptPacket parts (entering at to entry)
+  pub entering_kept : (at to : ℕ) (entry : Entry) → MayEnter parts.area parts.island at to entry → IsKeptPacket parts (entering at to entry)
   entering_kept at to entry may = record {
     place = router_within parts.area.ids at may.router;
     to = may.destination;
@@ -209,12 +209,12 @@ module _ (parts : FabricParts) (are : ArePartsKept parts) where
     apart = λ going. may.apart;
   }
     where
-      inside : (entry : Entry) → mode_of entry ≢ modes.Primary → IsOpen parts at to entry → AreInside parts at to
+      inside : (entry : Entry) → mode_of entry ≢ modes.Primary → IsOpen parts.area parts.island at to entry → AreInside parts.area parts.island at to
       inside entries.Blue color are = are
       inside entries.Red color are = are
       inside entries.Repair color anywhere = absurd (color refl)
 
-  pub life_begins : (failure : Option Failure) (at to : ℕ) (entry : Entry) → AreRowsFor parts to → MayEnter parts at to entry → Lives parts failure (entering at to entry) 0
+  pub life_begins : (failure : Option Failure) (at to : ℕ) (entry : Entry) → AreRowsFor parts to → MayEnter parts.area parts.island at to entry → Lives parts failure (entering at to entry) 0
   life_begins failure at to entry rows may = record { kept = kept; life = go entry refl }
     where
       kept : IsKeptPacket parts (entering at to entry)

@@ -2,7 +2,7 @@
 use Rattle.std.proofs.Common.{◌≡◌, ◌∙◌, ℕ, List, [], ◌∷◌, Option, Some, None, length, slice_get, refl, sym, ap, subst}
 use Rattle.std.specs.Prelude.{Contains}
 use Rattle.std.specs.Option.{option_and_then}
-use Rattle.fabric.specs.Answers.{Answered, AreInside, HasEnded, IsAnswer, IsInjectAnswer, IsOpen, IsStepAnswer, MayEnter, NoPacket}
+use Rattle.fabric.specs.Answers.{Answered, HasEnded, IsAnswer, IsStepAnswer, NoPacket}
 use Rattle.fabric.specs.FabricParts.{FabricParts, element_of}
 use Rattle.fabric.specs.FabricState.{Answer, FabricState, start}
 use Rattle.fabric.specs.Handling.{IsHandled, IsHopOrNone, IsInside, IsOutside, IsRepair}
@@ -31,36 +31,12 @@ use Rattle.primary_alt.proofs.AgreeingRows.{alternate_too}
 
 -- what reads no rows
 module _ (parts : FabricParts) (rows : Rows) where
-  inside_too : (at to : ℕ) → AreInside parts at to → AreInside (with_rows parts rows) at to
-  inside_too at to are = record { place = are.place; destination = are.destination }
-
-  open_too : (at to : ℕ) (entry : Entry) → IsOpen parts at to entry → IsOpen (with_rows parts rows) at to entry
-  open_too at to entries.Blue is = inside_too at to is
-  open_too at to entries.Red is = inside_too at to is
-  open_too at to entries.Repair is = tt
-
-  may_too : (at to : ℕ) (entry : Entry) → MayEnter parts at to entry → MayEnter (with_rows parts rows) at to entry
-  may_too at to entry may = record {
-    router = may.router;
-    destination = may.destination;
-    apart = may.apart;
-    is_open = open_too at to entry may.is_open;
-  }
-
   place_too : (failure : Option Failure) → element_of (with_rows parts rows) failure ≡ element_of parts failure
   place_too None = refl
   place_too (Some (failures.Node s)) = refl
   place_too (Some (failures.Bond b)) = refl
 
 module _ (parts : FabricParts) (rows : Rows) where
-  inject_too : (state : FabricState) (at to : ℕ) (entry : Entry) (answer : Answer) → IsInjectAnswer parts state at to entry answer
-      → IsInjectAnswer (with_rows parts rows) state at to entry answer
-  inject_too state at to entry answer is = record {
-    may = is.may;
-    may_is = (λ holds. may_too parts rows at to entry (is.may_is.0 holds), λ may. is.may_is.1 (may_too (with_rows parts rows) parts.rows at to entry may));
-    is = is.is;
-  }
-
   -- hops on a color
   over_too : (color : Color) (n d : ℕ) (c : Crossing) → ((s : ℕ) → parts.rows s d ≡ rows s d) → IsOver parts color n d c → IsOver (with_rows parts rows) color n d c
   over_too color n d c same over = record {
@@ -106,7 +82,7 @@ module _ (parts : FabricParts) (rows : Rows) where
 
   answer_too : (state : FabricState) (event : Event) (answer : Answer) → EachTo (AgreeFor parts rows) state.packets → IsAnswer parts state event answer
       → IsAnswer (with_rows parts rows) state event answer
-  answer_too state (Inject at to entry) answer agree is = inject_too state at to entry answer is
+  answer_too state (Inject at to entry) answer agree is = is
   answer_too state (Step p) answer agree is = step_too state.failure (slice_get state.packets p) answer (agree p) is
   answer_too state (Fail failed) answer agree is = is
 

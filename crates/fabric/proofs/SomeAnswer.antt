@@ -69,7 +69,7 @@ pub some_answer : (parts : FabricParts) → ArePartsKept parts → (entries : �
     → (room : ℕ) (events : List Event) (answers : List Answer) (end : FabricState) → AreRowsOn parts events → IsRun parts (start room) events answers end
     → (event : Event) → (answer : Answer) × IsAnswer parts end event answer
 some_answer parts are entries primaries room events answers end on run (Inject at to entry) =
-    let may = may_is parts at to entry in (_, record { may = may.0; may_is = may.1; is = refl })
+    let may = may_is parts.area parts.island at to entry in (_, record { may = may.0; may_is = may.1; is = refl })
 some_answer parts are entries primaries room events answers end on run (Fail failed) =
     let has = element_is parts.area failed in (_, record { has = has.0; has_is = has.1; is = refl })
 some_answer parts are entries primaries room events answers end on run (Step p) = go (run_lives parts are room events answers end on run p)

@@ -1,7 +1,7 @@
 -- The answers to events.
 use Rattle.std.specs.Prelude.{◌≡◌, ◌≢◌, ◌<◌, ◌↔◌, ⊤, ℕ, Bool, true, false, Option, Some, None, Ok, Err, IsSome, IsTrue, length, nat_lt, slice_get}
 use Rattle.area_graph.specs.Parts.{AreaParts}
-use Rattle.fabric.specs.FabricParts.{FabricParts, node_at}
+use Rattle.fabric.specs.FabricParts.{FabricParts, node_in}
 use Rattle.fabric.specs.FabricState.{Answer, FabricState}
 use Rattle.fabric.specs.Handling.{IsHandled}
 use Rattle.fabric.specs.declared.event.Event.{Event}
@@ -15,26 +15,27 @@ use Rattle.fabric_script.specs.declared.entry.Entry.{Entry}
 use Rattle.fabric_script.specs.declared.entry.Entry.TheVariants.{Blue, Red, Repair}
 use Rattle.fabric.specs.declared.packet.Packet.{Packet}
 use Rattle.fabric.specs.declared.packet.State.TheVariants.{Going}
+use Rattle.mrt_graph.specs.Topology.{Topology}
 use Rattle.primary_alt.specs.Routers.{IsRouter}
 
 -- both nodes are of the island
-pub record AreInside (parts : FabricParts) (at to : ℕ) : Type 0 where
-  pub place : IsSome (node_at parts at)
-  pub destination : IsSome (node_at parts to)
+pub record AreInside (area : AreaParts) (island : Topology) (at to : ℕ) : Type 0 where
+  pub place : IsSome (node_in area island at)
+  pub destination : IsSome (node_in area island to)
 
 -- an entry is open from one node to another: a color where both are of the island, primary mode everywhere
-abbrev pub IsOpen : FabricParts → ℕ → ℕ → Entry → Type 0
-IsOpen parts at to Blue = AreInside parts at to
-IsOpen parts at to Red = AreInside parts at to
-IsOpen parts at to Repair = ⊤
+abbrev pub IsOpen : AreaParts → Topology → ℕ → ℕ → Entry → Type 0
+IsOpen area island at to Blue = AreInside area island at to
+IsOpen area island at to Red = AreInside area island at to
+IsOpen area island at to Repair = ⊤
 
 -- a packet may enter: it enters at a router of the area; its destination is a node of the area, and another one; and the
 -- entry is open
-pub record MayEnter (parts : FabricParts) (at to : ℕ) (entry : Entry) : Type 0 where
-  pub router : IsRouter parts.area.ids at
-  pub destination : to < length parts.area.ids
+pub record MayEnter (area : AreaParts) (island : Topology) (at to : ℕ) (entry : Entry) : Type 0 where
+  pub router : IsRouter area.ids at
+  pub destination : to < length area.ids
   pub apart : at ≢ to
-  pub is_open : IsOpen parts at to entry
+  pub is_open : IsOpen area island at to entry
 
 -- the answer to a packet that enters, by whether it may enter, whether there is room, and the next number
 abbrev pub inject_answer : Bool → Bool → ℕ → Answer
@@ -42,9 +43,10 @@ inject_answer false room number = Err NoSuchPlace
 inject_answer true false number = Err Full
 inject_answer true true number = Ok (outcomes.Entered number)
 
-pub record IsInjectAnswer (parts : FabricParts) (state : FabricState) (at to : ℕ) (entry : Entry) (answer : Answer) : Type 0 where
+pub record IsInjectAnswer (area : AreaParts) (island : Topology) (state : FabricState) (at to : ℕ) (entry : Entry) (answer : Answer)
+    : Type 0 where
   pub may : Bool
-  pub may_is : IsTrue may ↔ MayEnter parts at to entry
+  pub may_is : IsTrue may ↔ MayEnter area island at to entry
   pub is : answer ≡ inject_answer may (nat_lt (length state.packets) state.room) (length state.packets)
 
 -- an area has an element
@@ -72,6 +74,6 @@ pub data IsStepAnswer (parts : FabricParts) (failure : Option Failure) : Option 
 
 -- the answer to an event
 abbrev pub IsAnswer : FabricParts → FabricState → Event → Answer → Type 0
-IsAnswer parts state (Inject at to entry) answer = IsInjectAnswer parts state at to entry answer
+IsAnswer parts state (Inject at to entry) answer = IsInjectAnswer parts.area parts.island state at to entry answer
 IsAnswer parts state (Step p) answer = IsStepAnswer parts state.failure (slice_get state.packets p) answer
 IsAnswer parts state (Fail failed) answer = IsFailAnswer parts.area state.failure failed answer

@@ -35,8 +35,11 @@ pub record AreRowsAccepted (parts : FabricParts) (d : ℕ) : Type 0 where
   pub same : AreSameFor d parts.rows (row_of cert)
 
 -- the island node that a node of the area is: the one with its identifier; none where it is outside the island
+abbrev pub node_in : AreaParts → Topology → ℕ → Option ℕ
+node_in area island s = option_and_then (number_of island.ids) (slice_get area.ids s)
+
 abbrev pub node_at : FabricParts → ℕ → Option ℕ
-node_at parts s = option_and_then (number_of parts.island.ids) (slice_get parts.area.ids s)
+node_at parts s = node_in parts.area parts.island s
 
 -- the island link that a bond is; none where it is outside the island
 abbrev pub link_at : FabricParts → ℕ → Option ℕ

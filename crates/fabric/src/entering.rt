@@ -16,7 +16,7 @@ use mrt_graph::{Color, RowsOf};
 pub fn may_enter<R: RowsOf>(parts: &Parts<'_, R>, at: Spot, to: Spot, entry: Entry) -> bool
     requires kept { ArePartsKept (viewed R.rows parts.now) }
     requires routed { AreRouted parts.now }
-    ensures { IsTrue result ↔ MayEnter (viewed R.rows parts.now) at to entry }
+    ensures { IsTrue result ↔ MayEnter parts.now.area.now parts.now.island.now at to entry }
 {
     let count = parts.area.count();
     at.get() < count
@@ -32,7 +32,7 @@ fn is_open<R: RowsOf>(parts: &Parts<'_, R>, at: Spot, to: Spot, entry: Entry) ->
     requires routed { AreRouted parts.now }
     requires at { at < length parts.now.area.now.ids }
     requires to { to < length parts.now.area.now.ids }
-    ensures { IsTrue result ↔ IsOpen (viewed R.rows parts.now) at to entry }
+    ensures { IsTrue result ↔ IsOpen parts.now.area.now parts.now.island.now at to entry }
 {
     match entry {
         Entry::Blue => are_inside(parts, at, to),
@@ -47,7 +47,7 @@ fn are_inside<R: RowsOf>(parts: &Parts<'_, R>, at: Spot, to: Spot) -> bool
     requires routed { AreRouted parts.now }
     requires at { at < length parts.now.area.now.ids }
     requires to { to < length parts.now.area.now.ids }
-    ensures { IsTrue result ↔ AreInside (viewed R.rows parts.now) at to }
+    ensures { IsTrue result ↔ AreInside parts.now.area.now parts.now.island.now at to }
 {
     node_of(parts, at).is_some() && node_of(parts, to).is_some()
 }

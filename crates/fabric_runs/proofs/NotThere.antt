@@ -41,7 +41,7 @@ link_there area number link_data none within = go (bond_named area number link_d
     go (Some b) none within = cc
 
 may_not : (parts : FabricParts) (number : ℕ) (to : NodeId) (entry : Entry) → ¬ AreThere parts.area (Inject number to entry)
-    → ¬ MayEnter parts (spot_of parts.area (router number)) (spot_of parts.area to) entry
+    → ¬ MayEnter parts.area parts.island (spot_of parts.area (router number)) (spot_of parts.area to) entry
 may_not parts number to entry none = λ may.
     none (
       node_there parts.area (router number) (router_within parts.area.ids (spot_of parts.area (router number)) may.router),
