@@ -81,7 +81,10 @@ fn alternates_by(
 fn lfas(alloc: Global, best: &[Option<FreeCandidate>]) -> Result<Vec<Option<Lfa>>, NoMemory>
     ensures { IfOk result (λ entries. entries.items ≡ map (option_map alternate_of) best.now) }
 {
-    let entries = best.iter().map(|choice| alternate_of(*choice)).collect(alloc)?;
+    let entries = best
+        .iter()
+        .map(|choice| alternate_of(*choice))
+        .collect(alloc)?;
     Ok(entries)
 }
 

@@ -1,4 +1,4 @@
-use Rattle.std.proofs.Common.{◌≡◌, ℕ, List, Option, Some, get_or, length, slice_get, refl, ap, subst, arith}
+use Rattle.std.proofs.Common.{◌≡◌, ℕ, List, Some, get_or, length, slice_get, refl, ap, arith}
 use Rattle.std.proofs.lemmas.Option.{slice_get_within}
 use Rattle.area_graph.specs.declared.area_types.Arc.{Arc}
 use Rattle.area_graph.specs.AreaInvariant.{IsArea}
@@ -21,7 +21,7 @@ pub overflow_sub-result : goal.overflow_sub-result
 overflow_sub-result c =
     let area = c.args.area.now in
     let primary : Primary = c.in_ok-primary.primary in
-    let is = subst (λ (o : Option Primary). IsPrimary area c.args.source c.args.t o) c.in_ok-primary.was c.requires.primary in
+    let is = rw c.in_ok-primary.was at c.requires.primary in
     let at = first_read area c.requires.kept c.args.source c.args.t primary is c.args.arcs.now c.get.result c.index-arcs-get.result c.requires.arcs c.get.ensures.value c.index-arcs-get.is in
     (left_of area c.requires.kept c.args.source c.args.t primary is c.index-arcs-get.result c.in_ok-distance.distance at (c.requires.distance c.in_ok-distance.distance c.in_ok-distance.was)).0
 
@@ -29,7 +29,7 @@ pub returns : goal.returns
 returns c =
     let area = c.args.area.now in
     let primary : Primary = c.in_ok-primary.primary in
-    let is = subst (λ (o : Option Primary). IsPrimary area c.args.source c.args.t o) c.in_ok-primary.was c.requires.primary in
+    let is = rw c.in_ok-primary.was at c.requires.primary in
     let at = first_read area c.requires.kept c.args.source c.args.t primary is c.args.arcs.now c.get.result c.index-arcs-get.result c.requires.arcs c.get.ensures.value c.index-arcs-get.is in
     let far = c.requires.distance c.in_ok-distance.distance c.in_ok-distance.was in
     record {

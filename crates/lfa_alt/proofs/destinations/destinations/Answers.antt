@@ -1,9 +1,7 @@
-use Rattle.std.proofs.Common.{rules, ◌∙◌, ◌≡◌, ◌<◌, ℕ, List, Option, None, Some, length, slice_get, inl, inr, refl, sym, ap, subst, arith}
+use Rattle.std.proofs.Common.{rules, ◌∙◌, ◌<◌, ℕ, Option, None, Some, length, inl, inr, refl, sym, ap, arith}
 use Rattle.std.proofs.lemmas.Option.{slice_get-get_or, slice_get_read, slice_get_within}
 use Rattle.mrt_graph.proofs.ListPlaces.{pushed_at}
 use Rattle.primary_alt.proofs.NumbersRead.{number_read}
-use Rattle.lfa_alt.specs.declared.destination.Destination.{Destination}
-use Rattle.lfa_alt.specs.Destinations.{IsDestinationFor}
 use Rattle.lfa_alt.proofs.destinations.destinations.Goals as goal
 
 pub loop-t-preserved : goal.loop-t-preserved
@@ -11,13 +9,10 @@ loop-t-preserved c = record {
   many = omega (arith, c.push_reserved.ensures.len, c.loop-t.invariant.many);
   told = search rules;
   room = omega (arith, c.push_reserved.ensures.capacity, c.loop-t.invariant.room);
-  each = λ t entry at.
-      elim (pushed_at c.loop-t.destinations.items c.destination.result entry t (subst (λ (xs : List (Option Destination)). slice_get xs t ≡ Some entry) c.push_reserved.ensures.items at)) [
+  each = λ t entry stands.
+      elim (pushed_at c.loop-t.destinations.items c.destination.result entry t (rw c.push_reserved.ensures.items at stands)) [
         | inl early ↦ c.loop-t.invariant.each t entry early
-        | inr last ↦
-            let here : t ≡ c.loop-t.t = last.0 ∙ c.loop-t.invariant.told in
-            subst (λ (o : Option Destination). IsDestinationFor c.args.area.now c.args.source t o) last.1
-            (subst (λ (i : ℕ). IsDestinationFor c.args.area.now c.args.source i c.destination.result) (sym here) c.destination.ensures)
+        | inr last ↦ rw (last.0 ∙ c.loop-t.invariant.told, sym last.1) c.destination.ensures
       ];
 }
 

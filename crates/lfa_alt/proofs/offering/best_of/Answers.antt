@@ -1,12 +1,7 @@
-use Rattle.std.proofs.Common.{◌≡◌, ◌<◌, ◌+◌, ◌∙◌, ℕ, List, Option, length, sym, ap, subst, refl, arith}
-use Rattle.std.proofs.lemmas.Option.{slice_get_read, slice_get_within}
+use Rattle.std.proofs.Common.{◌∙◌, length, sym, ap, refl, arith}
+use Rattle.std.proofs.lemmas.Option.{slice_get_read}
 use Rattle.mrt_graph.proofs.ListPlaces.{contains_at}
-use Rattle.mrt_graph.proofs.ListTests.{there}
 use Rattle.area_graph.specs.Parts.{AreaParts}
-use Rattle.primary_alt.specs.DistancesFrom.{AreDistancesFrom}
-use Rattle.lfa_alt.specs.declared.alternate.FreeCandidate.{FreeCandidate}
-use Rattle.lfa_alt.specs.Best.{IsOfferedBy}
-use Rattle.lfa_alt.specs.LoopFree.{IsBest}
 use Rattle.lfa_alt.proofs.Bettering.{all_more, none_best}
 use Rattle.lfa_alt.proofs.LfasFound.{throughs, ways_within}
 use Rattle.lfa_alt.proofs.NetworkWays.{to_network_by_test}

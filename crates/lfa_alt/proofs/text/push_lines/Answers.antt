@@ -1,10 +1,7 @@
-use Rattle.std.proofs.Common.{◌≡◌, ◌<◌, ℕ, length, refl, sym, subst, arith}
+use Rattle.std.proofs.Common.{◌≡◌, ◌<◌, length, refl, sym, arith}
 use Rattle.std.proofs.lemmas.Option.{slice_get_read}
-use Rattle.primary_alt.specs.Primaries.{IsPrimary}
-use Rattle.text_parts.specs.Adds.{Adds}
 use Rattle.text_parts.specs.Parts.{AreParts}
 use Rattle.lfa_alt.specs.LfaText.{IsPartOn}
-use Rattle.lfa_alt.specs.LoopFree.{IsLfa}
 use Rattle.text_parts.proofs.Adding.{nothing, one_part_more}
 use Rattle.lfa_alt.proofs.text.push_lines.Goals as goal
 
@@ -13,7 +10,7 @@ loop-t-preserved c = record {
   count = c.loop-t.invariant.count;
   lines =
       one_part_more (IsPartOn c.args.area.now c.args.source) c.loop-t.t c.args.text.now.items c.loop-t.text.items c.push_part.new.text.items c.loop-t.invariant.lines
-      (subst (λ (n : ℕ). Adds (IsPartOn c.args.area.now c.args.source n) c.loop-t.text.items c.push_part.new.text.items) c.new.ensures c.in_ok-push_part.ensures);
+      (rw c.new.ensures at c.in_ok-push_part.ensures);
 }
 
 pub loop-t-init : goal.loop-t-init
@@ -25,7 +22,6 @@ loop-t-init c = record {
 pub push_part-requires : goal.push_part-requires
 push_part-requires c =
     let area = c.args.area.now in
-    let s = c.args.source in
     let t = c.loop-t.t in
     let within : t < length area.ids = omega (arith, c.loop-t-test.true, c.loop-t.invariant.count) in
     let primary = slice_get_read c.args.primaries.now (length area.ids) t c.index-primaries-place.result (sym c.requires.primaries.one_each) within c.index-primaries-place.is in
@@ -33,11 +29,11 @@ push_part-requires c =
     record {
       kept = c.count-count.ensures.kept;
       within = omega (arith, within, c.new.ensures);
-      primary = subst (λ (n : ℕ). IsPrimary area s n c.index-primaries-place.result) (sym c.new.ensures) (c.requires.primaries.each t c.index-primaries-place.result primary);
-      lfa = subst (λ (n : ℕ). IsLfa area s n c.index-entries-place.result) (sym c.new.ensures) (c.requires.entries.each t c.index-entries-place.result lfa);
+      primary = rw c.new.ensures (c.requires.primaries.each t c.index-primaries-place.result primary);
+      lfa = rw c.new.ensures (c.requires.entries.each t c.index-entries-place.result lfa);
     }
 
 pub returns : goal.returns
 returns c =
     let all : c.loop-t.t ≡ length c.args.area.now.ids = omega (arith, c.loop-t-test.false, c.loop-t.auto.t-end, c.loop-t.invariant.count) in
-    subst (λ (n : ℕ). Adds (AreParts (IsPartOn c.args.area.now c.args.source) n) c.args.text.now.items c.loop-t.text.items) all c.loop-t.invariant.lines
+    rw all at c.loop-t.invariant.lines

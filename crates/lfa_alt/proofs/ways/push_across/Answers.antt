@@ -1,7 +1,6 @@
-use Rattle.std.proofs.Common.{◌∙◌, ◌+◌, ℕ, List, Vec, Global, Some, length, sym, ap, subst, refl, true≢false}
+use Rattle.std.proofs.Common.{◌∙◌, ℕ, Some, length, sym, ap, refl, true≢false}
 use Rattle.std.proofs.lemmas.Option.{slice_get_read}
-use Rattle.lfa_alt.specs.declared.way.Way.{Way}
-use Rattle.lfa_alt.specs.Ways.{AddsAcross, way_across}
+use Rattle.lfa_alt.specs.Ways.{way_across}
 use Rattle.lfa_alt.proofs.WaysFound.{across_again, across_all, across_left, across_more, across_none}
 use Rattle.lfa_alt.proofs.ways.push_across.Goals.{then-leads_on+then-not-is_again+in_ok-push, else-leads_on, else-leads_on-via-then-leads_on+else-not-is_again, else-leads_on-via-else-leads_on}
 use Rattle.lfa_alt.proofs.ways.push_across.Goals as goal
@@ -23,13 +22,10 @@ loop-second-preserved c =
     let are = c.loop-second.invariant in
     elim c.if-leads_on.branch [
       | then-leads_on+then-not-is_again+in_ok-push w ↦
-          subst (λ (v : Vec Way Global). AddsAcross arcs s number arc (second + 1) olds v.items) (sym w.ways-is)
-          (subst (λ (ws : List Way). AddsAcross arcs s number arc (second + 1) olds ws) (sym w.in_ok-push.ensures.items)
-          (across_more arcs s number arc olds ways second onward at are (c.leads_on.ensures.0 w.if-leads_on.true) w.way_across.result
-          (w.way_across.ensures ∙ ap (λ (n : ℕ). way_across number arc (Some n) onward) w.new.ensures)))
+          rw (w.ways-is, w.in_ok-push.ensures.items) (across_more arcs s number arc olds ways second onward at are (c.leads_on.ensures.0 w.if-leads_on.true) w.way_across.result
+          (w.way_across.ensures ∙ ap (λ (n : ℕ). way_across number arc (Some n) onward) w.new.ensures))
       | else-leads_on w ↦
-          subst (λ (v : Vec Way Global). AddsAcross arcs s number arc (second + 1) olds v.items) (sym w.ways-is)
-          (across_left arcs s number arc olds ways second onward at are
+          rw w.ways-is (across_left arcs s number arc olds ways second onward at are
           (elim w.else-leads_on.branch [
             | else-leads_on-via-then-leads_on+else-not-is_again v ↦ across_again arcs s number arc olds ways second onward at are (v.is_again.ensures.0 v.if-not-is_again.false)
             | else-leads_on-via-else-leads_on v ↦ λ on. absurd (true≢false (sym (c.leads_on.ensures.1 on) ∙ v.if-leads_on.false))

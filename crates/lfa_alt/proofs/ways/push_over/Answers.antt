@@ -1,11 +1,10 @@
-use Rattle.std.proofs.Common.{◌≡◌, ◌∙◌, ◌<◌, ℕ, List, Some, get_or, length, slice_get, sym, subst, refl, arith}
+use Rattle.std.proofs.Common.{◌≡◌, ◌∙◌, ◌<◌, ℕ, List, Some, get_or, length, slice_get, sym, refl, arith}
 use Rattle.std.proofs.lemmas.Result.{on_ok_weaker}
 use Rattle.area_graph.specs.declared.area_types.Arc.{Arc}
 use Rattle.area_graph.specs.Parts.{AreaParts}
 use Rattle.primary_alt.proofs.ArcWalks.{network_by_test, no_network_by_test}
 use Rattle.primary_alt.proofs.Beginning.{at_own}
 use Rattle.lfa_alt.specs.Candidates.{Leaves}
-use Rattle.lfa_alt.specs.Ways.{AddsAcross}
 use Rattle.lfa_alt.proofs.WaysFound.{network_adds, router_adds}
 use Rattle.lfa_alt.proofs.ways.push_over.Goals as goal
 
@@ -29,7 +28,7 @@ returns-in_ok-push c =
     (λ are.
     network_adds area c.args.source c.args.number arc leaves c.requires.kept network c.args.ways.now.items c.push.new.self.items c.push_across.new.ways.items c.way_over.result c.way_over.ensures
     c.in_ok-push.ensures.items
-    (subst (λ (xs : List Arc). AddsAcross xs c.args.source c.args.number arc (length xs) c.push.new.self.items c.push_across.new.ways.items) c.requires.arcs are))
+    (rw c.requires.arcs at are))
     c.push_across.ensures
 
 pub returns-in_ok-push-2 : goal.returns-in_ok-push-2
