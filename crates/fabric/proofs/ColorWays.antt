@@ -1,13 +1,12 @@
 -- Color walks, hop by hop.
-use Rattle.std.proofs.Common.{◌≡◌, ◌≢◌, ◌<◌, ◌≤◌, ℕ, List, [], ◌∷◌, Option, Some, None, length, slice_get, inl, inr, refl, sym, subst, arith}
-use Rattle.std.specs.Option.{option_and_then}
+use Rattle.std.proofs.Common.{◌≡◌, ◌≢◌, ◌<◌, ◌≤◌, ℕ, List, [], ◌∷◌, Option, Some, length, slice_get, inl, inr, sym, subst, arith}
 use Rattle.std.proofs.lemmas.List.{length-map}
+use Rattle.std.proofs.lemmas.Option.{option_and_then_some}
 use Rattle.fabric.specs.FabricParts.{ArePartsKept, FabricParts, AreRowsAccepted}
 use Rattle.mrt_graph.specs.declared.cert.CertFile.{CertFile}
 use Rattle.mrt_graph.specs.declared.cert.Color.{Color}
 use Rattle.mrt_graph.specs.declared.cert.Color.TheVariants.{Blue, Red}
 use Rattle.mrt_graph.specs.declared.link.Element.{Element}
-use Rattle.mrt_graph.specs.declared.link.Link.{Link}
 use Rattle.mrt_graph.specs.Alternate.{UsesOn}
 use Rattle.mrt_graph.specs.Certificate.{row_of}
 use Rattle.mrt_graph.specs.ColorWalk.{links_followed}
@@ -53,18 +52,12 @@ module _ (parts : FabricParts) (are : ArePartsKept parts) where
 
   -- where a hop leads to is a node
   pub leads_within : (e u v : ℕ) → leads parts.island.links e u ≡ Some v → v < length parts.island.ids
-  leads_within e u v on = go (slice_get parts.island.links e) refl on
-    where
-      go : (o : Option Link) → slice_get parts.island.links e ≡ o → option_and_then (far_node u) o ≡ Some v → v < length parts.island.ids
-      go None there is = cc
-      go (Some link) there is =
-          let kept = all_at (IsLink parts.island.ids) parts.island.links e link are.island_kept.links_kept there in
-          let less = kept.ascending in
-          let upper = kept.upper in
-          elim (far_ends link u v is) [
-            | inl up ↦ subst (λ (y : ℕ). y < length parts.island.ids) up.1 upper
-            | inr down ↦ subst (λ (y : ℕ). y < length parts.island.ids) down.1 (omega (arith, less, upper))
-          ]
+  leads_within e u v on = option_and_then_some (far_node u) (slice_get parts.island.links e) v on (λ link there is.
+      let kept = all_at (IsLink parts.island.ids) parts.island.links e link are.island_kept.links_kept there in
+      elim (far_ends link u v is) [
+        | inl up ↦ subst (λ (y : ℕ). y < length parts.island.ids) up.1 kept.upper
+        | inr down ↦ subst (λ (y : ℕ). y < length parts.island.ids) down.1 (let less = kept.ascending in let upper = kept.upper in omega (arith, less, upper))
+      ])
 
   pub trail : (color : Color) (d n : ℕ) (hops : List Hop) → Follows (next_on parts color d) d n hops → Trail parts.island.links n hops d
   trail color d n hops follows = follows_trail parts.island.links (next_on parts color d) (color_leads parts.island.links parts.rows color d) d n hops follows

@@ -1,5 +1,5 @@
 -- Tests that tell whether a packet may enter, and whether an element is of the area.
-use Rattle.std.proofs.Common.{◌==◌, ℕ, Bool, true, not, List, length, refl, arith}
+use Rattle.std.proofs.Common.{◌==◌, ℕ, Bool, true, not, List, length, refl}
 use Rattle.std.specs.Prelude.{◌↔◌, ◌&&◌, IsTrue, is_some, nat_lt}
 use Rattle.std.proofs.lemmas.Bool.Decides.{Decides-and, Decides-eqb, Decides-like, Decides-ltb, Decides-not}
 use Rattle.area_graph.specs.Parts.{AreaParts}

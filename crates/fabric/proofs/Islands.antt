@@ -1,9 +1,9 @@
 -- Nodes, links and elements of the area and of the island that belong together.
 use Rattle.std.proofs.Common.{Contains, true, ◌≡◌, ◌<◌, ◌≤◌, ◌∙◌, ℕ, List, Option, Some, None, length, slice_get, refl, sym, ap, arith}
 use Rattle.std.specs.List.{position}
-use Rattle.std.specs.Option.{option_and_then, option_map}
+use Rattle.std.specs.Option.{option_map}
 use Rattle.std.proofs.lemmas.Bool.{eq-eqb, eqb-true}
-use Rattle.std.proofs.lemmas.Option.{get_or_from_slice_get, same_Some, slice_get_within}
+use Rattle.std.proofs.lemmas.Option.{get_or_from_slice_get, option_and_then_some, same_Some, slice_get_within}
 use Rattle.area_graph.specs.Fits.{names}
 use Rattle.mrt_graph.specs.NodeIds.{number_of}
 use Rattle.mrt_graph.proofs.IdPlaces.{number_found, place_of_one}
@@ -24,11 +24,8 @@ pub record IsOne (parts : FabricParts) (s n : ℕ) : Type 0 where
   pub in_island : slice_get parts.island.ids n ≡ Some id
 
 pub is_one : (parts : FabricParts) (s n : ℕ) → node_at parts s ≡ Some n → IsOne parts s n
-is_one parts s n is = go (slice_get parts.area.ids s) refl is
-  where
-    go : (o : Option NodeId) → slice_get parts.area.ids s ≡ o → option_and_then (number_of parts.island.ids) o ≡ Some n → IsOne parts s n
-    go None there is = cc
-    go (Some id) there is = record { id = id; in_area = there; in_island = number_found parts.island.ids id n is }
+is_one parts s n is =
+    option_and_then_some (number_of parts.island.ids) (slice_get parts.area.ids s) n is (λ id there here. record { id = id; in_area = there; in_island = number_found parts.island.ids id n here })
 
 module _ (parts : FabricParts) (are : ArePartsKept parts) where
   -- an island node is one node of the area
@@ -56,11 +53,7 @@ module _ (parts : FabricParts) (are : ArePartsKept parts) where
       ap (λ (o : Option NodeId). option_map (λ id. id.kind) o) (one.in_area ∙ sym one.in_island) ∙ network
 
   link_there : (b e : ℕ) → link_at parts b ≡ Some e → slice_get parts.link_of b ≡ Some (Some e)
-  link_there b e is = go (slice_get parts.link_of b) refl is
-    where
-      go : (o : Option (Option ℕ)) → slice_get parts.link_of b ≡ o → option_and_then (λ entry. entry) o ≡ Some e → slice_get parts.link_of b ≡ Some (Some e)
-      go None there is = cc
-      go (Some x) there is = there ∙ ap (λ y. Some y) is
+  link_there b e is = option_and_then_some (λ entry. entry) (slice_get parts.link_of b) e is (λ entry there here. there ∙ ap (λ o. Some o) here)
 
   pub bond_within : (b e : ℕ) → link_at parts b ≡ Some e → b < length parts.area.bonds
   bond_within b e is =

@@ -1,28 +1,25 @@
 -- What a fabric keeps, event by event.
-use Rattle.std.proofs.Common.{◌≡◌, ◌≢◌, ◌<◌, ◌≤◌, ◌++◌, ◌∙◌, ℕ, true, List, [], ◌∷◌, Option, Some, None, Ok, Err, get_or, length, set, slice_get, inl, inr, refl, sym, ap, subst, arith}
+use Rattle.std.proofs.Common.{◌≡◌, ◌<◌, ◌++◌, ℕ, true, List, [], ◌∷◌, Option, Some, Ok, length, slice_get, refl, arith}
 use Rattle.std.specs.Prelude.{slice_set}
-use Rattle.std.specs.Option.{option_map_or}
-use Rattle.std.proofs.lemmas.Bool.{cases_eq, lt-ltb}
+use Rattle.std.proofs.lemmas.Bool.{lt-ltb}
 use Rattle.std.proofs.lemmas.List.{length-append, length-set}
-use Rattle.std.proofs.lemmas.Option.{same_Some, slice_get_past, slice_get_read, slice_get_within}
-use Rattle.fabric.specs.Answers.{Answered, HasEnded, IsStepAnswer, MayEnter, NoPacket}
+use Rattle.std.proofs.lemmas.Option.{slice_get_within}
+use Rattle.fabric.specs.Answers.{MayEnter}
 use Rattle.fabric.specs.FabricParts.{ArePartsKept, AreRowsFor, FabricParts}
-use Rattle.fabric.specs.FabricState.{entering, packet_after, state_after, state_of}
+use Rattle.fabric.specs.FabricState.{entering, packet_after, state_of}
 use Rattle.fabric.specs.FabricStep.{FabricStep}
 use Rattle.fabric.specs.Handling.{IsHandled}
 use Rattle.fabric.specs.KeptState.{IsKeptPacket, IsKeptState}
-use Rattle.fabric.specs.declared.event.Event.TheVariants.{Inject, Step}
+use Rattle.fabric.specs.declared.event.Event.TheVariants.{Inject}
 use Rattle.fabric.specs.declared.event.Failure.{Failure}
 use Rattle.fabric.specs.declared.event.Outcome.{Outcome}
 use Rattle.fabric.specs.declared.event.Outcome.TheVariants as outcomes
-use Rattle.fabric.specs.declared.event.Refused.TheVariants as refusals
 use Rattle.fabric_script.specs.declared.entry.Entry.{Entry}
 use Rattle.fabric.specs.declared.packet.Packet.{Packet}
 use Rattle.fabric.specs.declared.packet.State.TheVariants as states
 use Rattle.fabric.proofs.Destinations.{each_pushed, each_set}
 use Rattle.fabric.proofs.LifeSteps.{entering_kept}
 use Rattle.fabric.proofs.PacketChains.{kept_next, next_of}
-use Rattle.mrt_graph.proofs.ListPlaces.{pushed_at, set_elsewhere, set_there}
 
 module _ (parts : FabricParts) (are : ArePartsKept parts) (packets : List Packet) (failure : Option Failure) (room : ℕ) (kept : IsKeptState parts (state_of packets failure room)) where
   pub kept_entered : (at to : ℕ) (entry : Entry) → MayEnter parts.area parts.island at to entry → length packets < room → IsKeptState parts (state_of (packets ++ entering at to entry ∷ []) failure room)

@@ -1,6 +1,6 @@
 -- What holds of a packet on its way, whatever happens to it.
 use Rattle.std.proofs.Common.{◌≡◌, ◌≢◌, ◌⊎◌, ◌<◌, ◌≤◌, ◌+◌, ◌*◌, ◌-◌, ◌∙◌, ℕ, List, [], ◌∷◌, Option, Some, None, length, inl, inr, refl, ap, subst, arith}
-use Rattle.std.specs.Prelude.{IsSome, IsTrue}
+use Rattle.std.specs.Prelude.{IsSome}
 use Rattle.std.specs.Option.{option_map}
 use Rattle.fabric.specs.FabricParts.{ArePartsKept, FabricParts, element_of, node_at}
 use Rattle.fabric.specs.Causes.{IsCut}

@@ -112,17 +112,14 @@ module _ (parts : FabricParts) (are : ArePartsKept parts) where
           → (r.mode ≡ modes.Primary → (z : ℕ) → Has (visits is_primary rest) z → IsFarther parts r.to r.place z) → IsFarther parts q.to q.place y
       go (ByMove hop is other same) (inl here) further = one hop (near_of hop is) (sym (ap (λ (p : Packet). p.place) same) ∙ here.2)
       go (ByMove hop is other same) (inr later) further =
-          let rest_of : IsFarther parts r.to r.place y = further (ap (λ (p : Packet). p.mode) same ∙ mode) y later in
-          on hop (near_of hop is) (subst (λ (p : Packet). IsFarther parts p.to p.place y) same rest_of)
+          on hop (near_of hop is) (rw same at (further (ap (λ (p : Packet). p.mode) same ∙ mode) y later))
       go (ByArrival hop is here' same) (inl here) further = one hop (near_of hop is) (here' ∙ sym (ap (λ (p : Packet). p.place) same) ∙ here.2)
       go (ByArrival hop is here' same) (inr later) further =
           absurd (ended_visits is_primary r rest chain.2 (λ going. let delivered = ap (λ (p : Packet). p.state) same in cc) y later)
-      go (ByLoss loss same) (inl here) further =
-          let lost : is_lost r.state ≡ true = ap (λ (p : Packet). is_lost p.state) same in cc
+      go (ByLoss loss same) (inl here) further = let lost : is_lost r.state ≡ true = ap (λ (p : Packet). is_lost p.state) same in cc
       go (ByLoss loss same) (inr later) further =
           absurd (ended_visits is_primary r rest chain.2 (λ going. let lost = ap (λ (p : Packet). p.state) same in cc) y later)
-      go (BySwitch color primary place to same) (inl here) further =
-          let switched : is_primary r.mode ≡ false = ap (λ (p : Packet). is_primary p.mode) same in cc
+      go (BySwitch color primary place to same) (inl here) further = let switched : is_primary r.mode ≡ false = ap (λ (p : Packet). is_primary p.mode) same in cc
       go (BySwitch color primary place to same) (inr later) further =
           absurd (none_primary parts r rest chain.2 (λ primary'. let switched = ap (λ (p : Packet). p.mode) same in cc) y later)
 
@@ -147,17 +144,12 @@ module _ (parts : FabricParts) (are : ArePartsKept parts) where
       go (ByMove hop is other same) (inl here) further = here_is hop (on_of hop is) (sym (ap (λ (p : Packet). p.place) same) ∙ here.2)
       go (ByMove hop is other same) (inr later) further =
           let on = on_of hop is in
-          let left' : IsLeft parts color (record q { place = hop.next }) = left_after parts are color q left hop on in
-          let further' : (q.mode ≡ modes.Entered color) ⊎ (q.mode ≡ modes.Switched color) → (left'' : IsLeft parts color (record q { place = hop.next })) → (m : ℕ) × (node_at parts y ≡ Some m) × Has (nodes_behind left''.hops) m =
-          subst (λ (p : Packet). (p.mode ≡ modes.Entered color) ⊎ (p.mode ≡ modes.Switched color) → (left'' : IsLeft parts color p) → (m : ℕ) × (node_at parts y ≡ Some m) × Has (nodes_behind left''.hops) m) same
-          (λ m l. further m l later) in
-          let found = further' mode left' in
+          let found = (rw same at further) mode (left_after parts are color q left hop on) later in
           (found.0, found.1, on.nodes found.0 (inr found.2))
       go (ByArrival hop is here' same) (inl here) further = here_is hop (on_of hop is) (here' ∙ sym (ap (λ (p : Packet). p.place) same) ∙ here.2)
       go (ByArrival hop is here' same) (inr later) further =
           absurd (ended_visits is_on_color r rest chain.2 (λ going. let delivered = ap (λ (p : Packet). p.state) same in cc) y later)
-      go (ByLoss loss same) (inl here) further =
-          let lost : is_lost r.state ≡ true = ap (λ (p : Packet). is_lost p.state) same in cc
+      go (ByLoss loss same) (inl here) further = let lost : is_lost r.state ≡ true = ap (λ (p : Packet). is_lost p.state) same in cc
       go (ByLoss loss same) (inr later) further =
           absurd (ended_visits is_on_color r rest chain.2 (λ going. let lost = ap (λ (p : Packet). p.state) same in cc) y later)
       go (BySwitch c primary place to same) visit further = absurd (elim mode [ inl entered ↦ cc | inr switched ↦ cc ])

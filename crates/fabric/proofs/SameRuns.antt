@@ -15,7 +15,6 @@ use Rattle.fabric.specs.declared.event.Failure.{Failure}
 use Rattle.fabric.specs.declared.event.Failure.TheVariants as failures
 use Rattle.fabric.specs.declared.event.Outcome.{Outcome}
 use Rattle.fabric_script.specs.declared.entry.Entry.{Entry}
-use Rattle.fabric_script.specs.declared.entry.Entry.TheVariants as entries
 use Rattle.fabric.specs.declared.next_hop.Crossing.{Crossing}
 use Rattle.fabric.specs.declared.next_hop.NextHop.{NextHop}
 use Rattle.fabric.specs.declared.packet.Mode.{Mode}

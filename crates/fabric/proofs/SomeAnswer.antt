@@ -1,6 +1,5 @@
 -- Each event has an answer.
 use Rattle.std.proofs.Common.{◌≡◌, ◌≢◌, ◌⊎◌, ◌<◌, ◌∙◌, ℕ, List, Option, Some, None, length, slice_get, inl, inr, refl, sym}
-use Rattle.std.proofs.lemmas.Bool.{cases_lt}
 use Rattle.fabric.specs.Answers.{Answered, HasEnded, IsAnswer, IsStepAnswer, NoPacket}
 use Rattle.fabric.specs.Course.{steps_of}
 use Rattle.fabric.specs.FabricParts.{ArePartsKept, AreRowsFor, FabricParts}
@@ -20,7 +19,6 @@ use Rattle.fabric.specs.declared.packet.Mode.TheVariants as modes
 use Rattle.fabric.specs.declared.packet.Packet.{Packet}
 use Rattle.fabric.specs.declared.packet.State.{State}
 use Rattle.fabric.specs.declared.packet.State.TheVariants as states
-use Rattle.fabric_script.specs.declared.entry.Entry.{Entry}
 use Rattle.fabric.proofs.EnterOrNot.{element_is, may_is}
 use Rattle.fabric.proofs.OneHop.{one_over, two_over}
 use Rattle.fabric.proofs.PacketChains.{left_now}

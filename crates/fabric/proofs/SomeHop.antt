@@ -1,8 +1,7 @@
 -- A packet on a color has a hop, and for each failure there is an alternate or none.
 use Rattle.std.proofs.Common.{◌≡◌, ◌≢◌, ◌⊎◌, ◌<◌, ◌∙◌, ℕ, List, [], ◌∷◌, Option, Some, None, length, slice_get, inl, inr, refl, ap}
-use Rattle.std.specs.Option.{option_and_then}
 use Rattle.std.proofs.lemmas.Bool.{cases_Bool, cases_eq}
-use Rattle.std.proofs.lemmas.Option.{slice_get_within}
+use Rattle.std.proofs.lemmas.Option.{option_and_then_some, slice_get_within}
 use Rattle.fabric.specs.FabricParts.{ArePartsKept, FabricParts, element_of, node_at}
 use Rattle.fabric.specs.Handling.{IsInside, IsOutside, IsRepair}
 use Rattle.fabric.specs.PacketHop.{IsColorHop, IsOver, OverNetwork, Straight}
@@ -58,11 +57,7 @@ some_alternate links n rows s t (Some x) = elim (between_or_not x s t) [
 
 -- where a link leads, it is one
 link_there : (links : List Link) (e s v : ℕ) → leads links e s ≡ Some v → e < length links
-link_there links e s v is = go (slice_get links e) refl is
-  where
-    go : (o : Option Link) → slice_get links e ≡ o → option_and_then (far_node s) o ≡ Some v → e < length links
-    go None there is = cc
-    go (Some link) there is = slice_get_within links e link there
+link_there links e s v is = option_and_then_some (far_node s) (slice_get links e) v is (λ link there far. slice_get_within links e link there)
 
 -- for each packet there is a repair, or its place or its destination is outside
 pub some_repair : (parts : FabricParts) (failure : Option Failure) (q : Packet) → (repair : Option (Option Color)) × IsRepair parts failure q repair
