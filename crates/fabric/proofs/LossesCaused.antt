@@ -137,8 +137,8 @@ module _ (parts : FabricParts) (are : ArePartsKept parts) (failure : Option Fail
 
     at_cut : (at : IsCut parts failure q) → outcome ≡ sent q at.hop true (has_failed failure q.to) is.repair
     at_cut at =
-        is.is
-        ∙ (rw (false_from_ne_true (has_failed failure q.place) (λ failed. at.stands ((failed_is failure q.place).0 failed)), one_hop_or_none parts are q.mode q.place q.to is.hop (Some at.hop) is.hop_is at.is, at.cut) refl)
+        let stands = false_from_ne_true (has_failed failure q.place) (λ failed. at.stands ((failed_is failure q.place).0 failed)) in
+        is.is ∙ (rw (stands, one_hop_or_none parts are q.mode q.place q.to is.hop (Some at.hop) (is.hop_is stands) at.is, at.cut) refl)
 
     cut_off : IsCutOff parts failure q → outcome ≡ repaired q.mode is.repair
     cut_off off = at_cut off.0 ∙ (rw (false_from_ne_true (has_failed failure q.to) (λ failed. off.1 ((failed_is failure q.to).0 failed))) refl)
@@ -148,9 +148,9 @@ module _ (parts : FabricParts) (are : ArePartsKept parts) (failure : Option Fail
 
     lost : (loss : Loss) → Cause parts failure q loss → outcome ≡ Lost loss
     lost Inside at = is.is ∙ (rw ((failed_is failure q.place).1 at) refl)
-    lost NoRoute (primary, stands, none) =
-        is.is
-        ∙ (rw (false_from_ne_true (has_failed failure q.place) (λ at. stands ((failed_is failure q.place).0 at)), one_hop_or_none parts are q.mode q.place q.to is.hop None is.hop_is (primary, none)) refl)
+    lost NoRoute (primary, apart, none) =
+        let stands = false_from_ne_true (has_failed failure q.place) (λ at. apart ((failed_is failure q.place).0 at)) in
+        is.is ∙ (rw (stands, one_hop_or_none parts are q.mode q.place q.to is.hop None (is.hop_is stands) (primary, none)) refl)
     lost IsDestination (at, destination) = at_cut at ∙ (rw ((failed_is failure q.to).1 destination) refl)
     lost ColorCut (entered, off) = cut_off off ∙ (rw entered.1 refl)
     lost Outside (primary, off, out) = cut_off off ∙ (rw (primary, repair_is None (IsOutside out)) refl)

@@ -1,6 +1,7 @@
 -- A step of a packet has one outcome, and an event has one answer.
-use Rattle.std.proofs.Common.{◌≡◌, ◌∙◌, Bool, List, [], ◌∷◌, Option, Some, None, Ok, length, slice_get, refl, sym, ap, subst}
+use Rattle.std.proofs.Common.{◌≡◌, ◌∙◌, Bool, List, [], ◌∷◌, Option, Some, None, Ok, length, slice_get, inl, inr, refl, sym, ap, subst}
 use Rattle.std.specs.Prelude.{nat_lt}
+use Rattle.std.proofs.lemmas.Bool.{cases_Bool}
 use Rattle.std.proofs.lemmas.Bool.Decides.{same_from_decides}
 use Rattle.fabric.specs.Answers.{Answered, HasEnded, IsAnswer, IsStepAnswer, NoPacket, fail_answer, inject_answer}
 use Rattle.fabric.specs.FabricParts.{ArePartsKept, FabricParts}
@@ -17,11 +18,15 @@ use Rattle.fabric.proofs.OneHop.{one_hop_or_none, one_repair}
 
 pub one_outcome : (parts : FabricParts) → ArePartsKept parts → (failure : Option Failure) (q : Packet) (outcome other : Outcome) → IsHandled parts failure q outcome → IsHandled parts failure q other
     → outcome ≡ other
-one_outcome parts are failure q outcome other is is' =
-    is.is
-    ∙ ap (λ (h : Option NextHop). handled failure q (has_failed failure q.place) h is.repair) (one_hop_or_none parts are q.mode q.place q.to is.hop is'.hop is.hop_is is'.hop_is)
-    ∙ ap (handled failure q (has_failed failure q.place) is'.hop) (one_repair parts failure q is.repair is'.repair is.repair_is is'.repair_is)
-    ∙ sym is'.is
+one_outcome parts are failure q outcome other is is' = elim (cases_Bool (has_failed failure q.place)) [
+  | inl inside ↦ (rw inside at is.is) ∙ sym (rw inside at is'.is)
+  | inr stands ↦
+      is.is
+      ∙ ap (λ (h : Option NextHop). handled failure q (has_failed failure q.place) h is.repair)
+      (one_hop_or_none parts are q.mode q.place q.to is.hop is'.hop (is.hop_is stands) (is'.hop_is stands))
+      ∙ ap (handled failure q (has_failed failure q.place) is'.hop) (one_repair parts failure q is.repair is'.repair is.repair_is is'.repair_is)
+      ∙ sym is'.is
+]
 
 module _ (parts : FabricParts) (are : ArePartsKept parts) where
   pub one_step_answer : (failure : Option Failure) (there : Option Packet) (answer other : Answer) → IsStepAnswer parts failure there answer → IsStepAnswer parts failure there other

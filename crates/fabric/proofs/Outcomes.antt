@@ -59,11 +59,11 @@ module _ (parts : FabricParts) (failure : Option Failure) (q : Packet) where
   with_hop hop true false repair is stands cut other by =
       after_cut q.mode repair refl (record { stands = iff_false (failed_is failure q.place) stands; hop = hop; is = is; cut = cut }, iff_false (failed_is failure q.to) other) by
 
-  at_place : (failed : Bool) (hop : Option NextHop) (repair : Option (Option Color)) → has_failed failure q.place ≡ failed → IsHopOrNone parts q.mode q.place q.to hop
+  at_place : (failed : Bool) (hop : Option NextHop) (repair : Option (Option Color)) → has_failed failure q.place ≡ failed → (failed ≡ false → IsHopOrNone parts q.mode q.place q.to hop)
       → IsRepair parts failure q repair → Becomes parts failure q (handled failure q failed hop repair)
   at_place true hop repair at is by = IsLost Inside ((failed_is failure q.place).0 at)
-  at_place false None repair stands is by = IsLost NoRoute (is.0, iff_false (failed_is failure q.place) stands, is.1)
-  at_place false (Some hop) repair stands is by = with_hop hop (cuts failure hop) (has_failed failure q.to) repair is stands refl refl by
+  at_place false None repair stands is by = IsLost NoRoute ((is refl).0, iff_false (failed_is failure q.place) stands, (is refl).1)
+  at_place false (Some hop) repair stands is by = with_hop hop (cuts failure hop) (has_failed failure q.to) repair (is refl) stands refl refl by
 
   pub becomes : (outcome : Outcome) → IsHandled parts failure q outcome → Becomes parts failure q outcome
   becomes outcome is = subst (Becomes parts failure q) (sym is.is) (at_place (has_failed failure q.place) is.hop is.repair refl is.hop_is is.repair_is)

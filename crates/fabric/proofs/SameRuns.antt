@@ -67,7 +67,7 @@ module _ (parts : FabricParts) (rows : Rows) where
   handled_too : (failure : Option Failure) (q : Packet) (outcome : Outcome) → AgreeFor parts rows q.to → IsHandled parts failure q outcome → IsHandled (with_rows parts rows) failure q outcome
   handled_too failure q outcome agree is = record {
     hop = is.hop;
-    hop_is = hop_too q.mode q.place q.to is.hop agree is.hop_is;
+    hop_is = λ stands. hop_too q.mode q.place q.to is.hop agree (is.hop_is stands);
     repair = is.repair;
     repair_is = repair_too failure q is.repair agree is.repair_is;
     is = is.is;

@@ -54,7 +54,7 @@ module _ (parts : FabricParts) (are : ArePartsKept parts) (entries : ℕ → ℕ
   some_outcome =
       let hop = some_hop q.mode refl in
       let repair = some_repair parts failure q in
-      (_, record { hop = hop.0; hop_is = hop.1; repair = repair.0; repair_is = repair.1; is = refl })
+      (_, record { hop = hop.0; hop_is = λ stands. hop.1; repair = repair.0; repair_is = repair.1; is = refl })
 
 going_or_not : (state : State) → (state ≡ states.Going) ⊎ (state ≢ states.Going)
 going_or_not states.Going = inl refl

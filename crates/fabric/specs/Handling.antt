@@ -65,10 +65,10 @@ handled failure packet false None repair = Lost NoRoute
 handled failure packet false (Some hop) repair =
     sent packet hop (cuts failure hop) (has_failed failure packet.to) repair
 
--- what happens to a packet: the first line of these tables that applies
+-- what happens to a packet: the first line of these tables that applies. Where its place has failed no hop is asked for
 pub record IsHandled (parts : FabricParts) (failure : Option Failure) (packet : Packet) (outcome : Outcome) : Type 0 where
   pub hop : Option NextHop
-  pub hop_is : IsHopOrNone parts packet.mode packet.place packet.to hop
+  pub hop_is : has_failed failure packet.place ≡ false → IsHopOrNone parts packet.mode packet.place packet.to hop
   pub repair : Option (Option Color)
   pub repair_is : IsRepair parts failure packet repair
   pub is : outcome ≡ handled failure packet (has_failed failure packet.place) hop repair

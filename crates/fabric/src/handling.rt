@@ -36,14 +36,13 @@ pub fn handled<R: RowsOf>(
         → HasElement parts.now.area.now failed }
     ensures { IsHandled (viewed R.rows parts.now) failure packet.now result }
 {
-    let hop = next_hop(parts, packet);
     if has_failed(&failure, packet.place) {
         return Outcome::Lost(Loss::Inside);
     }
-    match hop {
-        None => Outcome::Lost(Loss::NoRoute),
-        Some(hop) => sent(parts, &failure, packet, &hop),
-    }
+    let Some(hop) = next_hop(parts, packet) else {
+        return Outcome::Lost(Loss::NoRoute);
+    };
+    sent(parts, &failure, packet, &hop)
 }
 
 /// What happens to a packet whose place has not failed, by its hop.
