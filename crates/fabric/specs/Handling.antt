@@ -51,21 +51,22 @@ repaired modes.Primary None = Lost Outside
 repaired modes.Primary (Some None) = Lost NoAlternate
 repaired modes.Primary (Some (Some color)) = Switched color
 
--- by its hop, whether this is cut and whether its destination has failed: a packet whose hop is not cut moves to the next
--- node, and is delivered if this is its destination
+-- what happens to a packet with a hop, by whether this is cut, and whether its destination has failed: where its hop is not
+-- cut it moves to the next node, and is delivered if this is its destination
 abbrev pub sent : Packet → NextHop → Bool → Bool → Option (Option Color) → Outcome
 sent packet hop false ended repair = if hop.next == packet.to then Delivered packet.to else Moved hop.next
 sent packet hop true true repair = Lost IsDestination
 sent packet hop true false repair = repaired packet.mode repair
 
--- by whether its place has failed, and by its hop
+-- what happens to a packet, by whether its place has failed, and by its hop, if it has one
 abbrev pub handled : Option Failure → Packet → Bool → Option NextHop → Option (Option Color) → Outcome
 handled failure packet true hop repair = Lost Inside
 handled failure packet false None repair = Lost NoRoute
 handled failure packet false (Some hop) repair =
     sent packet hop (cuts failure hop) (has_failed failure packet.to) repair
 
--- what happens to a packet: the first line of these tables that applies. Where its place has failed no hop is asked for
+-- a packet is handled so: by its hop and its repair, the first line of these tables that applies. Where its place has failed
+-- no hop is asked for
 pub record IsHandled (parts : FabricParts) (failure : Option Failure) (packet : Packet) (outcome : Outcome) : Type 0 where
   pub hop : Option NextHop
   pub hop_is : has_failed failure packet.place ≡ false → IsHopOrNone parts packet.mode packet.place packet.to hop
