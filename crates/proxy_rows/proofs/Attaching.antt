@@ -1,20 +1,22 @@
 -- Two nodes with a block in common, by their order.
-use Rattle.std.proofs.Common.{◌≡◌, ◌≢◌, ◌<◌, ◌∙◌, ℕ, true, false, List, [], Option, Some, slice_get, length, inl, inr, refl, sym, ap, subst, arith}
+use Rattle.std.proofs.Common.{◌≡◌, ◌≢◌, ◌<◌, ◌∙◌, ℕ, true, false, List, [], Option, Some, None, slice_get, length, inl, inr, refl, sym, ap, subst, arith}
 use Rattle.std.proofs.lemmas.Bool.{cases_eq, eq-eqb, false_from_ne_true, false≢true, lt-ltb, or_right}
 use Rattle.std.proofs.lemmas.Bool.Decides.{eqb_tells}
 use Rattle.std.proofs.lemmas.Option.{slice_get_within}
 use Rattle.std.specs.Option.{option_map, unwrap_or}
 use Rattle.mrt_graph.specs.declared.cert.CertNode.{CertNode}
 use Rattle.mrt_graph.specs.Certificate.{Certificate, certificate_of}
+use Rattle.mrt_graph.specs.CertWords.{head_of}
 use Rattle.mrt_graph.specs.Related.{are_unrelated, is_common_block}
 use Rattle.mrt_graph.specs.Topology.{Topology}
 use Rattle.mrt_graph.proofs.AcceptedBlocks.{blocks}
 use Rattle.mrt_graph.proofs.Blocks.{Words, Blocks}
 use Rattle.mrt_graph.proofs.Relations.{unrelated_holds, unrelated_tells}
+use Rattle.mrt_graph.proofs.TestFacts.{number_is}
 use Rattle.mrt_graph.proofs.WordsOf.{words_of}
 use Rattle.proxy_rows.specs.declared.attachment.Attachment.{Attachment}
 use Rattle.mrt_graph.specs.AcceptedFor.{IsAcceptedFor}
-use Rattle.proxy_rows.specs.Attachment.{IsAttachment}
+use Rattle.proxy_rows.specs.Attachment.{IsAttachment, IsHeadOf}
 
 -- the words of an accepted certificate
 abbrev pub words : (g : Topology) (c : Certificate) → IsAcceptedFor g c → Words
@@ -27,12 +29,19 @@ blocks_of g c accepted = blocks g accepted.root _ accepted.accepted
 pub unrelated_in : (c : Certificate) (nodes : List CertNode) (a b : ℕ) → c.nodes ≡ nodes → are_unrelated c a b ≡ are_unrelated (certificate_of nodes [] []) a b
 unrelated_in c nodes a b same = ap (λ (them : List CertNode). are_unrelated (certificate_of them [] []) a b) same
 
--- the head of a node is one
-pub head_there : (g : Topology) (c : Certificate) → IsAcceptedFor g c → (a : ℕ) (one : CertNode) → slice_get c.nodes a ≡ Some one → one.head < length c.nodes
-head_there g c accepted a one at_a =
-    let w = words g c accepted in
-    let is_head : w.head a ≡ one.head = ap (λ (o : Option CertNode). unwrap_or (option_map (λ node. node.head) o) 0) at_a in
-    subst (λ (h : ℕ). h < length c.nodes) is_head ((blocks_of g c accepted).head_within a (slice_get_within c.nodes a one at_a))
+-- a node of which something is known is there
+pub node_there : (f : CertNode → ℕ) (c : Certificate) (a k : ℕ) → option_map f (slice_get c.nodes a) ≡ Some k → a < length c.nodes
+node_there f c a k is = go (slice_get c.nodes a) refl is
+  where
+    go : (o : Option CertNode) → slice_get c.nodes a ≡ o → option_map f o ≡ Some k → a < length c.nodes
+    go None found is = cc
+    go (Some node) found is = slice_get_within c.nodes a node found
+
+-- the head of a block is a node
+pub head_there : (g : Topology) (c : Certificate) → IsAcceptedFor g c → (h k : ℕ) → IsHeadOf c h k → h < length c.nodes
+head_there g c accepted h k is =
+    subst (λ (h : ℕ). h < length c.nodes) (number_is (head_of c is.member) h is.head)
+    ((blocks_of g c accepted).head_within is.member (node_there (λ node. node.head) c is.member h is.head))
 
 -- the head of a node has no greater order
 head_before : (g : Topology) (c : Certificate) → IsAcceptedFor g c → (a b : ℕ) (one other : CertNode)

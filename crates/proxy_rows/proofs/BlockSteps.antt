@@ -1,5 +1,5 @@
 -- By the proxy rows, from each node of the block and from its head both colors lead on by moves to the new node.
-use Rattle.std.proofs.Common.{◌≡◌, ◌≢◌, ◌⊎◌, ◌<◌, ◌+◌, ◌∙◌, ℕ, List, Option, Some, None, slice_get, length, inl, inr, refl, sym, ap, subst, arith}
+use Rattle.std.proofs.Common.{◌≡◌, ◌≢◌, ◌<◌, ◌+◌, ◌∙◌, ℕ, List, Option, Some, None, slice_get, length, inl, inr, refl, sym, ap, subst, arith}
 use Rattle.std.proofs.lemmas.Bool.{eq-eqb, ne_eqb}
 use Rattle.std.specs.Option.{option_and_then, option_map}
 use Rattle.mrt_graph.specs.declared.cert.Color.{Color}
@@ -10,13 +10,13 @@ use Rattle.mrt_graph.specs.declared.cert.Tag.{Tag}
 use Rattle.mrt_graph.specs.declared.cert.Tag.TheVariants as tags
 use Rattle.mrt_graph.specs.declared.link.End.{End}
 use Rattle.mrt_graph.specs.declared.link.Link.{Link}
-use Rattle.mrt_graph.specs.Certificate.{Certificate, row_of}
+use Rattle.mrt_graph.specs.Certificate.{Certificate}
 use Rattle.mrt_graph.specs.FirstEnd.{IsFirstEnd}
 use Rattle.mrt_graph.specs.Hop.{Hop, color_hop, hop_over}
 use Rattle.mrt_graph.specs.Leads.{leads}
 use Rattle.mrt_graph.specs.Rows.{Rows, link_of_color}
 use Rattle.mrt_graph.specs.Topology.{Topology}
-use Rattle.mrt_graph.proofs.Blocks.{Words, Blocks, At, Inner, Top}
+use Rattle.mrt_graph.proofs.Blocks.{Words, Blocks, At, Top}
 use Rattle.mrt_graph.proofs.Bridge.{color_leads}
 use Rattle.mrt_graph.proofs.ColorMoves.{Moving, There, Onward, Passage, Step, passage}
 use Rattle.mrt_graph.proofs.EndsAt.{end_leads}
@@ -24,6 +24,7 @@ use Rattle.mrt_graph.proofs.Hops.{lead_back}
 use Rattle.mrt_graph.proofs.InBlock.{at_within}
 use Rattle.mrt_graph.proofs.ListTests.{there}
 use Rattle.mrt_graph.proofs.Moves.{Ends, Move, BlueTop, BlueBelow, BlueAbove, BlueAboveHome, BlueUnordered, BlueUnorderedIn, BlueUnorderedHome, RedTop, RedBelow, RedBelowHome, RedAbove, RedUnordered, RedUnorderedIn}
+use Rattle.mrt_graph.proofs.Steps.{next_of}
 use Rattle.proxy_rows.specs.declared.attachment.Attachment.{Attachment}
 use Rattle.proxy_rows.specs.declared.proxy_row.Out.{Out}
 use Rattle.proxy_rows.specs.declared.proxy_row.Out.TheVariants as outs
@@ -36,10 +37,11 @@ use Rattle.proxy_rows.specs.declared.standing.Standing.TheVariants as places
 use Rattle.proxy_rows.specs.ProxyRows.{IsBlue, IsHeadBlue, IsHeadRed, IsLinkFor, IsOnward, IsPlainToLow, IsProxyRow, IsRed, IsSideOut, Here, Over}
 use Rattle.proxy_rows.specs.Sides.{IsIn, IsMember, IsOfBlock}
 use Rattle.proxy_rows.proofs.Attaching.{words}
-use Rattle.proxy_rows.proofs.BlockRows.{HeadHops, head_hops, high_more, link_is, low_more, side_member, stays, to_high}
-use Rattle.proxy_rows.proofs.Grounds.{apart, b, counts, head_is, head_no_member, is_higher, is_lower, is_member, member_at, upper_member}
+use Rattle.proxy_rows.proofs.BlockRows.{head_hops, high_more, low_more, side_member, stays, to_high}
+use Rattle.proxy_rows.proofs.Grounds.{apart, b, counts, head_is, head_no_member, is_higher, is_lower, member_at, upper_member}
 use Rattle.proxy_rows.proofs.HeadLinks.{red_link, same_as_red}
 use Rattle.proxy_rows.proofs.NewLinks.{lower_leads, old_leads, upper_leads}
+use Rattle.proxy_rows.proofs.OutsideRows.{link_over, not_at}
 use Rattle.proxy_rows.proofs.Stands.{Tells, head_stands, high_stands, low_stands, tells}
 
 -- a color takes a link that leads on
@@ -233,12 +235,9 @@ module _ (g : Topology) (c : Certificate) (at : Attachment) (ground : IsGround g
       over Red s end.link end.to tags.Above tags.Above (member_at g c at ground s (side_member g c at ground High s high)) (red_over s end.link end.to entry at_s red on)
       first.asked.of_block on (high_is s high) (high_is end.to first.asked.within) (RedAbove _ _ (is_higher g c at ground s end.to first.asked.onward))
 
-  -- the links of a member's row for the head
-  blue_link : (s : ℕ) (out : Out) (h : HeadHops g c at ground s) → IsLinkFor c Blue s at.head out → out ≡ outs.Link h.blue.link
-  blue_link s out h is = is.out_is ∙ ap (λ (k : ℕ). outs.Link k) (link_is g.links (row_of c) Blue at.head s is.row h.blue is.row_is h.blue_is)
-
-  red_link_of : (s : ℕ) (out : Out) (h : HeadHops g c at ground s) → IsLinkFor c Red s at.head out → out ≡ outs.Link h.red.link
-  red_link_of s out h is = is.out_is ∙ ap (λ (k : ℕ). outs.Link k) (link_is g.links (row_of c) Red at.head s is.row h.red is.row_is h.red_is)
+  -- the link of a color of a member's row for the head
+  link_for : (color : Color) (s : ℕ) (out : Out) (hop : Hop) → next_of w color at.head s ≡ Some hop → IsLinkFor c color s at.head out → out ≡ outs.Link hop.link
+  link_for color s out hop takes_it is = is.out_is ∙ ap (λ (k : ℕ). outs.Link k) (link_over g c at ground color at.head s is.row hop is.row_is takes_it)
 
   -- on the two sides, towards the head
   low_red : (s : ℕ) (entry : ProxyRow) → IsIn g.links c at Low s → slice_get entries s ≡ Some entry → IsLinkFor c Red s at.head entry.red → StepOf Red s
@@ -246,7 +245,7 @@ module _ (g : Topology) (c : Certificate) (at : Attachment) (ground : IsGround g
       let member = side_member g c at ground Low s low in
       let h = head_hops g c at ground s member in
       let at_n = member_at g c at ground s member in
-      let on = red_over s h.red.link h.red.to entry at_s (red_link_of s entry.red h is) h.red_leads in
+      let on = red_over s h.red.link h.red.to entry at_s (link_for Red s entry.red h.red h.red_is is) h.red_leads in
       elim h.red_goes [
         | inl lower ↦ over Red s h.red.link h.red.to tags.Below tags.Below at_n on h.red_of h.red_leads (low_is s low)
             (low_is h.red.to (low_more g c at ground h.red.to h.red.link s lower.0 h.red_of (lead_back g.links h.red.link s h.red.to h.red_leads) lower.1 low))
@@ -259,7 +258,7 @@ module _ (g : Topology) (c : Certificate) (at : Attachment) (ground : IsGround g
       let member = side_member g c at ground High s high in
       let h = head_hops g c at ground s member in
       let at_n = member_at g c at ground s member in
-      let on = blue_over s h.blue.link h.blue.to entry at_s (blue_link s entry.blue h is) h.blue_leads in
+      let on = blue_over s h.blue.link h.blue.to entry at_s (link_for Blue s entry.blue h.blue h.blue_is is) h.blue_leads in
       elim h.blue_goes [
         | inl higher ↦ over Blue s h.blue.link h.blue.to tags.Above tags.Above at_n on h.blue_of h.blue_leads (high_is s high)
             (high_is h.blue.to (high_more g c at ground h.blue.to h.blue.link s higher.0 h.blue_of (lead_back g.links h.blue.link s h.blue.to h.blue_leads) higher.1 high))
@@ -273,7 +272,7 @@ module _ (g : Topology) (c : Certificate) (at : Attachment) (ground : IsGround g
   other_blue s entry member not_high known_as at_s is =
       let h = head_hops g c at ground s member in
       let at_n = member_at g c at ground s member in
-      let on = blue_over s h.red.link h.red.to entry at_s (red_link_of s entry.blue h is) h.red_leads in
+      let on = blue_over s h.red.link h.red.to entry at_s (link_for Red s entry.blue h.red h.red_is is) h.red_leads in
       elim h.red_goes [
         | inl lower ↦ elim (place h.red.to lower.0) [
           | IsLow low ↦ over Blue s h.red.link h.red.to tags.Unordered tags.Below at_n on h.red_of h.red_leads known_as (low_is h.red.to low) (BlueUnorderedIn _ _)
@@ -288,7 +287,7 @@ module _ (g : Topology) (c : Certificate) (at : Attachment) (ground : IsGround g
   other_red s entry member not_low not_high known_as at_s is =
       let h = head_hops g c at ground s member in
       let at_n = member_at g c at ground s member in
-      let on = red_over s h.blue.link h.blue.to entry at_s (blue_link s entry.red h is) h.blue_leads in
+      let on = red_over s h.blue.link h.blue.to entry at_s (link_for Blue s entry.red h.blue h.blue_is is) h.blue_leads in
       elim h.blue_goes [
         | inl higher ↦ elim (place h.blue.to higher.0) [
           | IsLow low ↦ absurd (not_low (low_more g c at ground s h.blue.link h.blue.to member h.blue_of h.blue_leads higher.1 low))
@@ -304,11 +303,6 @@ module _ (g : Topology) (c : Certificate) (at : Attachment) (ground : IsGround g
             let there : t.hop.to ≡ s = cc in
             absurd (not_high (subst (IsIn g.links c at High) there t.high))
       ]
-
-  -- a node of the block or its head belongs to it
-  belongs : (s : ℕ) → N s → IsMember c at s ⊎ (s ≡ at.head)
-  belongs s (Inner within same) = inl (is_member g c at ground s within same)
-  belongs s (Top same) = inr (same ∙ sym (head_is g c at ground))
 
   -- the step of each color
   step : (color : Color) (s : ℕ) → N s → StepOf color s
@@ -326,7 +320,7 @@ module _ (g : Topology) (c : Certificate) (at : Attachment) (ground : IsGround g
       go Red places.OnLow entry low at_s known_as blue red = low_red s entry low at_s red
       go Red places.OnHigh entry high at_s known_as blue red = high_red s entry entry.red high at_s refl red
       go Red places.Other entry other at_s known_as blue red = other_red s entry other.0 other.1 other.2 known_as at_s red
-      go color places.Outside entry outside at_s known_as blue red = absurd (outside (belongs s at_n))
+      go color places.Outside entry outside at_s known_as blue red = absurd (not_at g c at ground s outside at_n)
 
   -- the node whose row is Top is the head; no row is Sole, and none is Carried
   tag_facts : (s : ℕ) → N s → (tag s ≢ tags.Sole) × (tag s ≢ tags.Carried) × (tag s ≡ tags.Top → s ≡ at.head)
@@ -337,7 +331,7 @@ module _ (g : Topology) (c : Certificate) (at : Attachment) (ground : IsGround g
       go places.OnLow low known_as = (λ x. cc, λ x. cc, λ x. absurd cc)
       go places.OnHigh high known_as = (λ x. cc, λ x. cc, λ x. absurd cc)
       go places.Other other known_as = (λ x. cc, λ x. cc, λ x. absurd cc)
-      go places.Outside outside known_as = absurd (outside (belongs s at_n))
+      go places.Outside outside known_as = absurd (not_at g c at ground s outside at_n)
 
   moving : Moving links next N tag w.order (λ _. roles.Plain) (new_node g)
   moving = record {

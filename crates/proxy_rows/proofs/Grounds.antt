@@ -25,15 +25,7 @@ use Rattle.proxy_rows.specs.declared.side.Side.{Side}
 use Rattle.proxy_rows.specs.declared.side.Side.TheVariants.{Low, High}
 use Rattle.proxy_rows.specs.Ground.{IsGround}
 use Rattle.proxy_rows.specs.Sides.{IsMember, IsOfBlock, goes_on, router_of}
-use Rattle.proxy_rows.proofs.Attaching.{blocks_of, words}
-
--- a node of which something is known is there
-pub node_there : (f : CertNode → ℕ) (c : Certificate) (a k : ℕ) → option_map f (slice_get c.nodes a) ≡ Some k → a < length c.nodes
-node_there f c a k is = go (slice_get c.nodes a) refl is
-  where
-    go : (o : Option CertNode) → slice_get c.nodes a ≡ o → option_map f o ≡ Some k → a < length c.nodes
-    go None found is = cc
-    go (Some node) found is = slice_get_within c.nodes a node found
+use Rattle.proxy_rows.proofs.Attaching.{blocks_of, node_there, words}
 
 -- what is known of a node that is there
 pub known : (f : CertNode → ℕ) (c : Certificate) (a : ℕ) → a < length c.nodes

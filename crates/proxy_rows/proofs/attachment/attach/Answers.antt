@@ -1,8 +1,7 @@
-use Rattle.std.proofs.Common.{◌≡◌, ◌<◌, ◌∙◌, List, false, slice_get, length, inl, inr, refl, sym, ap, subst, arith}
+use Rattle.std.proofs.Common.{◌≡◌, ◌∙◌, List, false, slice_get, length, inl, inr, refl, sym, ap, subst, arith}
 use Rattle.std.proofs.lemmas.Bool.{cases_lt, true≢false}
 use Rattle.mrt_graph.specs.declared.cert.CertNode.{CertNode}
 use Rattle.mrt_graph.specs.Related.{are_unrelated}
-use Rattle.proxy_rows.specs.declared.attachment.Attachment.{Attachment}
 use Rattle.proxy_rows.specs.Attachment.{IsAttachment}
 use Rattle.proxy_rows.proofs.Attaching.{attached, attached_turned, head_there, orders_differ, unrelated_in}
 use Rattle.proxy_rows.proofs.attachment.attach.Goals as goal
@@ -28,17 +27,7 @@ returns-clause-found c g cert same accepted =
 
 pub returns-clause-head : goal.returns-clause-head
 returns-clause-head c g cert same accepted =
-    let one = c.node_at-one.result in
-    let other = c.node_at-other.result in
-    let at_a = ap (λ (nodes : List CertNode). slice_get nodes c.args.a) same ∙ c.node_at-one.ensures in
-    let at_b = ap (λ (nodes : List CertNode). slice_get nodes c.args.b) same ∙ c.node_at-other.ensures in
-    let count : length cert.nodes ≡ length c.args.nodes.now = ap length same in
-    elim (cases_lt one.order other.order) [
-      | inl less ↦ subst (λ (at : Attachment). at.head < length c.args.nodes.now) (sym (c.in_order.ensures.ascending less))
-          (omega (arith, head_there g cert accepted c.args.b other at_b, count))
-      | inr above ↦ subst (λ (at : Attachment). at.head < length c.args.nodes.now) (sym (c.in_order.ensures.descending above))
-          (omega (arith, head_there g cert accepted c.args.a one at_a, count))
-    ]
+    omega (arith, head_there g cert accepted _ _ (returns-clause-found c g cert same accepted).headed, ap length same)
 
 pub returns-clause-none : goal.returns-clause-none
 returns-clause-none c cert same = (

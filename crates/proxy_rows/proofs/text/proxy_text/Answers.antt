@@ -1,7 +1,7 @@
 use Rattle.std.proofs.Common.{sym, subst, arith}
 use Rattle.mrt_graph.specs.Rules.{GraphRule}
 use Rattle.proxy_rows.specs.ProxyRows.{AreProxyRows}
-use Rattle.proxy_rows.proofs.Grounds.{node_there}
+use Rattle.proxy_rows.proofs.Attaching.{node_there}
 use Rattle.proxy_rows.proofs.text.proxy_text.Goals as goal
 
 pub proxy_text_of-requires : goal.proxy_text_of-requires
