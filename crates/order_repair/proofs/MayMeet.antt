@@ -15,8 +15,8 @@ use Rattle.mrt_rows.proofs.OrderedGraphs.{OrderedGraph, step_over}
 use Rattle.mrt_rows.proofs.Ways.{Inside, Ring, Way, not_head, put_after, top_down}
 use Rattle.mrt_rows.proofs.WaysBegun.{Sharing, peers}
 use Rattle.order_repair.proofs.Avoiding.{Goes, hop_is}
-use Rattle.order_repair.proofs.Moving.{aside_way, dir_of, head_way, out_way, over, past_way, peer_way, under, way_or_not}
-use Rattle.order_repair.proofs.RowWays.{RowWays, row_ways}
+use Rattle.order_repair.proofs.Moving.{Along, Aside, Past, aside_way, dir_of, head_way, out_way, over, past_way, peer_row, peer_way, under}
+use Rattle.order_repair.proofs.RowWays.{RowWays, row_ways, way_of}
 use Rattle.order_repair.proofs.Steps.{IsFrom, IsHome, IsInner, IsOut, IsOver, first_step, from_itself, from_on, one_step, out_step, peer_step, way_back, way_on}
 
 -- a link that is crossed in this direction: a plain one, or a closing one, where that may be
@@ -121,7 +121,7 @@ module _ (og : OrderedGraph) (m : ℕ) (ring : Ring og m) (rows : Rows) (t : ℕ
     pub goes_peer : (s u : ℕ) → MayPeer s u → u ≢ t → Goes next (MayPeer s) (Crossed ⊥ og m dir) t u
     goes_peer s u may other =
         let at = row_at u (beside u may.0 other) in
-        let way = peer_way og m ring t at.row u may.0 target color at.ways may.1 in
+        let way = peer_way og m ring t at.row u may.0 target color (peer_row og m ring t at.row u may.0 target color at.ways) may.1 in
         let step = peer_step og m ring dir u t (link_at u at) may.0 target way in
         goes (MayPeer s) (Crossed ⊥ og m dir) dir u way.end.to at step.inner.over
         (elim step.rest [ inl there ↦ inl there | inr rest ↦ inr (step.inner.inside, rest, from_on og dir s u way.end.to may.2 step.inner.beyond) ])
@@ -155,7 +155,7 @@ module _ (og : OrderedGraph) (m : ℕ) (ring : Ring og m) (rows : Rows) (t : ℕ
     goes_past s u may other = elim may [
       | inl back ↦
           let at = row_at u (beside u back.0 other) in
-          let way = past_way og m ring t at.row u back.0 target color at.ways back.1 in
+          let way = past_way og m ring t at.row u back.0 target color (peer_row og m ring t at.row u back.0 target color at.ways) back.1 in
           elim (first_step og m ring dir u h (link_at u at) back.0 way) [
             | inl inner ↦
                 goes (MayPast s) (Crossed ⊤ og m dir) dir u way.end.to at inner.over
@@ -174,8 +174,8 @@ module _ (og : OrderedGraph) (m : ℕ) (ring : Ring og m) (rows : Rows) (t : ℕ
     pub record IsAside (s u : ℕ) : Type 0 where
       pub inside : Inside og m u
       pub from : (u ≡ s) ⊎ Way og m (against dir) s u
-      pub none_up : Way og m Up u t → ⊥
-      pub none_down : Way og m Down u t → ⊥
+      pub none_on : Way og m dir u t → ⊥
+      pub none_back : Way og m (against dir) u t → ⊥
 
     abbrev pub MayAside : ℕ → ℕ → Type 0
     MayAside s u = IsAside s u ⊎ MayAfter (dir ≡ Up) u
@@ -185,37 +185,24 @@ module _ (og : OrderedGraph) (m : ℕ) (ring : Ring og m) (rows : Rows) (t : ℕ
       Back : IsAside s u → IsOver og m (against dir) e u y → og.w.role e ≡ Plain → CrossedAside s e u y
       On : MayAfter (dir ≡ Up) u → Crossed (dir ≡ Down) og m dir e u y → CrossedAside s e u y
 
-    none_in : (d : Dir) (s u : ℕ) → IsAside s u → Way og m d u t → ⊥
-    none_in Up s u aside = aside.none_up
-    none_in Down s u aside = aside.none_down
-
-    none_both : (d : Dir) (u : ℕ) → (Way og m d u t → ⊥) → (Way og m (against d) u t → ⊥)
-        → (Way og m Up u t → ⊥) × (Way og m Down u t → ⊥)
-    none_both Up u none back = (none, back)
-    none_both Down u none back = (back, none)
-
     -- to another node of the block
     aside_on : (s u y e : ℕ) → IsAside s u → IsInner og m (against dir) e u y → (y ≡ t) ⊎ MayAside s y
     aside_on s u y e aside inner =
-        let not_there : y ≢ t =
-        (λ there. none_in (against dir) s u aside (one_step og m ring (against dir) e u y t inner there)) in
-        let none_back : Way og m (against dir) y t → ⊥ =
-        (λ way. none_in (against dir) s u aside (way_on og m ring (against dir) e u y t inner way)) in
+        let none_back : Way og m (against dir) y t → ⊥ = (λ way. aside.none_back (way_on og m ring (against dir) e u y t inner way)) in
+        let not_there : y ≢ t = (λ there. aside.none_back (one_step og m ring (against dir) e u y t inner there)) in
         let at = row_at y (beside y inner.inside not_there) in
-        elim (way_or_not og m ring t at.row y inner.inside target dir at.ways) [
-          | inl way ↦ inr (inr (inr (inner.inside, way)))
-          | inr none ↦
-              let both = none_both dir y none none_back in
-              inr (inl (record {
-                inside = inner.inside;
-                from = inr (elim aside.from [
-                  | inl same ↦ one_step og m ring (against dir) e s y y
-                      (subst (λ (x : ℕ). IsInner og m (against dir) e x y) same inner) refl
-                  | inr way ↦ way_then og m ring (against dir) s u e y way aside.inside inner
-                ]);
-                none_up = both.0;
-                none_down = both.1;
-              }))
+        elim (peer_row og m ring t at.row y inner.inside target color at.ways) [
+          | Along over ↦ inr (inr (inr (inner.inside, way_of og m dir y t (link_at y at) over)))
+          | Past back home ↦ absurd (none_back back)
+          | Aside none_on also_back home ↦ inr (inl (record {
+            inside = inner.inside;
+            from = inr (elim aside.from [
+              | inl same ↦ one_step og m ring (against dir) e s y y (subst (λ (x : ℕ). IsInner og m (against dir) e x y) same inner) refl
+              | inr way ↦ way_then og m ring (against dir) s u e y way aside.inside inner
+            ]);
+            none_on = none_on;
+            none_back = none_back;
+          }))
         ]
 
     -- home to the head: only down
@@ -228,13 +215,13 @@ module _ (og : OrderedGraph) (m : ℕ) (ring : Ring og m) (rows : Rows) (t : ℕ
         go Up is last = (sym is, last.there, last.role)
         go Down is last =
             let down = top_down og m ring t target (λ at_top. other (last.role.1 ∙ sym at_top)) in
-            absurd (aside.none_down (subst (λ (x : ℕ). Way og m Down x t) (sym last.role.1) down))
+            absurd (aside.none_on (subst (λ (d : Dir). Way og m d u t) is (subst (λ (x : ℕ). Way og m Down x t) (sym last.role.1) down)))
 
     pub goes_aside : (s u : ℕ) → MayAside s u → u ≢ t → Goes next (MayAside s) (CrossedAside s) t u
     goes_aside s u may other = elim may [
       | inl aside ↦
           let at = row_at u (beside u aside.inside other) in
-          let way = aside_way og m ring t at.row u aside.inside target color at.ways aside.none_up aside.none_down in
+          let way = aside_way og m ring t at.row u aside.inside target color (peer_row og m ring t at.row u aside.inside target color at.ways) aside.none_on aside.none_back in
           elim (first_step og m ring (against dir) u h (link_at u at) aside.inside way) [
             | inl inner ↦
                 goes (MayAside s) (CrossedAside s) (against dir) u way.end.to at inner.over (aside_on s u way.end.to (link_at u at) aside inner)

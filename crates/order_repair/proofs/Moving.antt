@@ -1,5 +1,5 @@
 -- The way that a color's link begins at a node, by the ways that there are between the node and the destination.
-use Rattle.std.proofs.Common.{◌≡◌, ◌⊎◌, ◌∙◌, ◌<◌, ℕ, length, sym, subst, inl, inr}
+use Rattle.std.proofs.Common.{◌≡◌, ◌∙◌, ◌<◌, ℕ, length, sym, subst}
 use Rattle.mrt_graph.specs.declared.cert.Color.{Color}
 use Rattle.mrt_graph.specs.declared.cert.Color.TheVariants.{Blue, Red}
 use Rattle.mrt_graph.specs.declared.cert.Row.{Row}
@@ -61,55 +61,37 @@ module _ (og : OrderedGraph) (m : ℕ) (ring : Ring og m) (t : ℕ) where
     out_way color (AboveRow a b blue red) home target = absurd (not_head og m ring u a home)
     out_way color (UnorderedRow a b none_up none_down blue red) home target = absurd (not_head og m ring u a home)
 
+    -- to another node of the block: a way leads to it in the color's direction, or against it, or none does
+    pub data PeerRow (color : Color) : Type 0 where
+      Along : WayOver og m (dir_of color) u t (link_of_color color row) → PeerRow color
+      Past : Way og m (against (dir_of color)) u t → WayOver og m (dir_of color) u h (link_of_color color row) → PeerRow color
+      Aside : (Way og m (dir_of color) u t → ⊥) → (Way og m (against (dir_of color)) u t → ⊥)
+          → WayOver og m (against (dir_of color)) u h (link_of_color color row) → PeerRow color
+
     module _ (source : Inside og m u) (target : Inside og m t) where
-      -- where a way leads to t in the color's direction
-      pub peer_way : (color : Color) {tag : Tag} → RowWays og m u t row.blue row.red tag → Way og m (dir_of color) u t
-          → WayOver og m (dir_of color) u t (link_of_color color row)
-      peer_way color (HeadRow a b blue red) way = absurd (not_head og m ring t target b)
-      peer_way color (TopRow a b blue red) way = absurd (not_head og m ring u source a)
-      peer_way Blue (BelowRow a b blue red) way = blue
-      peer_way Blue (AboveRow a b blue red) way =
-          absurd (one_way og m ring Up u t source target way (way_of og m Down u t row.red red))
-      peer_way Blue (UnorderedRow a b none_up none_down blue red) way = absurd (none_up way)
-      peer_way Red (BelowRow a b blue red) way =
-          absurd (one_way og m ring Down u t source target way (way_of og m Up u t row.blue blue))
-      peer_way Red (AboveRow a b blue red) way = red
-      peer_way Red (UnorderedRow a b none_up none_down blue red) way = absurd (none_down way)
+      pub peer_row : (color : Color) {tag : Tag} → RowWays og m u t row.blue row.red tag → PeerRow color
+      peer_row color (HeadRow a b blue red) = absurd (not_head og m ring t target b)
+      peer_row color (TopRow a b blue red) = absurd (not_head og m ring u source a)
+      peer_row Blue (BelowRow a b blue red) = Along blue
+      peer_row Red (BelowRow a b blue red) = Past (way_of og m Up u t row.blue blue) red
+      peer_row Blue (AboveRow a b blue red) = Past (way_of og m Down u t row.red red) blue
+      peer_row Red (AboveRow a b blue red) = Along red
+      peer_row Blue (UnorderedRow a b none_up none_down blue red) = Aside none_up none_down blue
+      peer_row Red (UnorderedRow a b none_up none_down blue red) = Aside none_down none_up red
 
-      -- where a way leads to t against it
-      pub past_way : (color : Color) {tag : Tag} → RowWays og m u t row.blue row.red tag
-          → Way og m (against (dir_of color)) u t → WayOver og m (dir_of color) u h (link_of_color color row)
-      past_way color (HeadRow a b blue red) way = absurd (not_head og m ring t target b)
-      past_way color (TopRow a b blue red) way = absurd (not_head og m ring u source a)
-      past_way Blue (BelowRow a b blue red) way =
-          absurd (one_way og m ring Down u t source target way (way_of og m Up u t row.blue blue))
-      past_way Blue (AboveRow a b blue red) way = blue
-      past_way Blue (UnorderedRow a b none_up none_down blue red) way = absurd (none_down way)
-      past_way Red (BelowRow a b blue red) way = red
-      past_way Red (AboveRow a b blue red) way =
-          absurd (one_way og m ring Up u t source target way (way_of og m Down u t row.red red))
-      past_way Red (UnorderedRow a b none_up none_down blue red) way = absurd (none_up way)
+      pub peer_way : (color : Color) → PeerRow color → Way og m (dir_of color) u t → WayOver og m (dir_of color) u t (link_of_color color row)
+      peer_way color (Along over) way = over
+      peer_way color (Past back home) way = absurd (one_way og m ring (dir_of color) u t source target way back)
+      peer_way color (Aside none_on none_back home) way = absurd (none_on way)
 
-      -- where no way leads to t
-      pub aside_way : (color : Color) {tag : Tag} → RowWays og m u t row.blue row.red tag → (Way og m Up u t → ⊥)
-          → (Way og m Down u t → ⊥) → WayOver og m (against (dir_of color)) u h (link_of_color color row)
-      aside_way color (HeadRow a b blue red) no_up no_down = absurd (not_head og m ring t target b)
-      aside_way color (TopRow a b blue red) no_up no_down = absurd (not_head og m ring u source a)
-      aside_way color (BelowRow a b blue red) no_up no_down = absurd (no_up (way_of og m Up u t row.blue blue))
-      aside_way color (AboveRow a b blue red) no_up no_down = absurd (no_down (way_of og m Down u t row.red red))
-      aside_way Blue (UnorderedRow a b none_up none_down blue red) no_up no_down = blue
-      aside_way Red (UnorderedRow a b none_up none_down blue red) no_up no_down = red
+      pub past_way : (color : Color) → PeerRow color → Way og m (against (dir_of color)) u t → WayOver og m (dir_of color) u h (link_of_color color row)
+      past_way color (Along over) way =
+          absurd (one_way og m ring (dir_of color) u t source target (way_of og m (dir_of color) u t (link_of_color color row) over) way)
+      past_way color (Past back home) way = home
+      past_way color (Aside none_on none_back home) way = absurd (none_back way)
 
-      -- a way leads to t in a direction, or none does
-      pub way_or_not : (dir : Dir) {tag : Tag} → RowWays og m u t row.blue row.red tag
-          → Way og m dir u t ⊎ (Way og m dir u t → ⊥)
-      way_or_not dir (HeadRow a b blue red) = absurd (not_head og m ring t target b)
-      way_or_not dir (TopRow a b blue red) = absurd (not_head og m ring u source a)
-      way_or_not Up (BelowRow a b blue red) = inl (way_of og m Up u t row.blue blue)
-      way_or_not Down (BelowRow a b blue red) =
-          inr (λ way. one_way og m ring Down u t source target way (way_of og m Up u t row.blue blue))
-      way_or_not Up (AboveRow a b blue red) =
-          inr (λ way. one_way og m ring Up u t source target way (way_of og m Down u t row.red red))
-      way_or_not Down (AboveRow a b blue red) = inl (way_of og m Down u t row.red red)
-      way_or_not Up (UnorderedRow a b none_up none_down blue red) = inr none_up
-      way_or_not Down (UnorderedRow a b none_up none_down blue red) = inr none_down
+      pub aside_way : (color : Color) → PeerRow color → (Way og m (dir_of color) u t → ⊥) → (Way og m (against (dir_of color)) u t → ⊥)
+          → WayOver og m (against (dir_of color)) u h (link_of_color color row)
+      aside_way color (Along over) none_on none_back = absurd (none_on (way_of og m (dir_of color) u t (link_of_color color row) over))
+      aside_way color (Past back home) none_on none_back = absurd (none_back back)
+      aside_way color (Aside also_on also_back home) none_on none_back = home

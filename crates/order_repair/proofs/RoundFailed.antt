@@ -138,14 +138,11 @@ module _ (og : OrderedGraph) (m : ℕ) (ring : Ring og m) (rows : Rows) (s t : �
           ]) may.2)))
 
       module _ (none_up : Way og m Up s t → ⊥) (none_down : Way og m Down s t → ⊥) where
-        start : (color : Color) → MayAside og m ring rows t tabled color target s s
-        start color = inl (record { inside = source; from = inl refl; none_up = none_up; none_down = none_down })
-
         -- what it is to be passed by red, or by blue
         red_round : (IsAside og m ring rows t tabled Red target s a → ⊥)
             → (Inside og m v → Way og m Down v t → (a ≡ t) ⊎ MayAside og m ring rows t tabled Red target s a → ⊥) → Round Red
         red_round not_back not_on =
-            round_aside og m ring rows t tabled Red s x target (start Red)
+            round_aside og m ring rows t tabled Red s x target (inl (record { inside = source; from = inl refl; none_on = none_down; none_back = none_up }))
             (never_aside og m ring rows t tabled Red target s x a v lies not_back (λ after next. elim after [
               | inl top ↦ let never : Down ≡ Up = top.0 in absurd (cc)
               | inr on ↦ not_on on.0 on.1 next
@@ -154,7 +151,7 @@ module _ (og : OrderedGraph) (m : ℕ) (ring : Ring og m) (rows : Rows) (s t : �
         blue_round : (IsAside og m ring rows t tabled Blue target s v → ⊥)
             → (MayAfter og m ring rows t tabled Blue target (Up ≡ Up) a → ⊥) → Round Blue
         blue_round not_back not_on =
-            round_aside og m ring rows t tabled Blue s x target (start Blue)
+            round_aside og m ring rows t tabled Blue s x target (inl (record { inside = source; from = inl refl; none_on = none_up; none_back = none_down }))
             (never_aside og m ring rows t tabled Blue target s x a v lies not_back (λ after next. not_on after))
 
         -- red's nodes aside are s and nodes above it

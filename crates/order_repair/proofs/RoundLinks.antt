@@ -40,7 +40,7 @@ module _ (og : OrderedGraph) (m : ℕ) (ring : Ring og m) (rows : Rows) (s t : �
         (λ u y may other next crossed. closingly ⊥ og m Down e u y closing crossed)
     closing_round blue red (UnorderedRow a b none_up none_down down up) =
         round_aside og m ring rows t tabled Blue s (elements.Link e) b
-        (inl (record { inside = a; from = inl refl; none_up = none_up; none_down = none_down }))
+        (inl (record { inside = a; from = inl refl; none_on = none_up; none_back = none_down }))
         (λ u y may other next crossed. go u y crossed)
       where
         go : (u y : ℕ) → CrossedAside og m ring rows t tabled Blue b s e u y → ⊥
