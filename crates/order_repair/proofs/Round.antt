@@ -1,5 +1,4 @@
 -- What a walk on a color goes round: what it may neither meet nor cross.
-use Rattle.std.specs.Prelude.{⊤}
 use Rattle.std.specs.Prelude.{if◌then◌else◌}
 use Rattle.std.proofs.Common.{◌≡◌, ◌≢◌, ◌⊎◌, ◌∙◌, ◌<◌, ◌≤◌, ◌&&◌, ℕ, [], ◌∷◌, List, Option, Some, None, leb, length, refl, sym, ap, subst, inl, inr, arith}
 use Rattle.std.proofs.lemmas.Bool.{and_from, and_parts, both_ways, cond_both, le-leb, leb-false, leb-true}
@@ -28,8 +27,8 @@ use Rattle.mrt_rows.proofs.OrderedGraphs.{OrderedGraph}
 use Rattle.mrt_rows.proofs.Ways.{Inside, Ring, Way, head_lower, not_head, put_before}
 use Rattle.mrt_rows.proofs.WaysBegun.{no_way, peers, share, way_over}
 use Rattle.order_repair.specs.OrderChoice.{LeadsTo}
-use Rattle.order_repair.proofs.Avoiding.{Never, not_used}
-use Rattle.order_repair.proofs.MayMeet.{Back, Closingly, Crossed, CrossedAside, IsAside, MayAfter, MayAside, MayHead, MayPast, MayPeer, On, Plainly, goes_after, goes_aside, goes_head, goes_past, goes_peer}
+use Rattle.order_repair.proofs.Avoiding.{Goes, Never, not_used}
+use Rattle.order_repair.proofs.MayMeet.{Back, Closingly, Crossed, CrossedAside, IsAside, MayAfter, MayAside, On, Plainly}
 use Rattle.order_repair.proofs.Moving.{dir_of}
 use Rattle.order_repair.proofs.RowWays.{way_of}
 use Rattle.order_repair.proofs.Steps.{IsOver, beyond_on}
@@ -37,6 +36,12 @@ use Rattle.order_repair.proofs.Steps.{IsOver, beyond_on}
 -- the walk on a color does not use x
 abbrev pub IsRound : OrderedGraph → Rows → ℕ → ℕ → Element → Color → Type 0
 IsRound og rows s t x color = UsesOn og.g.links (length og.g.ids) rows s t x color → ⊥
+
+-- so it is where none of the nodes that it may meet and of the links that it may cross is x
+pub walks_round : (og : OrderedGraph) (rows : Rows) (s t : ℕ) (x : Element) (color : Color) (May : ℕ → Type 0) (Crosses : ℕ → ℕ → ℕ → Type 0)
+    → ((u : ℕ) → May u → u ≢ t → Goes (color_hop og.g.links rows color t) May Crosses t u) → May s → Never May Crosses t x → IsRound og rows s t x color
+walks_round og rows s t x color May Crosses goes may never uses =
+    not_used og.g.links (color_hop og.g.links rows color t) (color_leads og.g.links rows color t) May Crosses t goes x never (length og.g.ids) s may uses
 
 -- by a test of two numbers, and by one of two such tests
 pub by_most : (og : OrderedGraph) (rows : Rows) (s t : ℕ) (x : Element) (i j : ℕ) (this that : Color) → (i ≤ j → IsRound og rows s t x this)
@@ -107,56 +112,6 @@ module _ (og : OrderedGraph) (m : ℕ) (ring : Ring og m) (rows : Rows) (t : ℕ
     (tabled : (u : ℕ) → u < length og.g.ids → u ≢ t → HasRow og.g og.root og.w u (rows u) t) where
   abbrev h : ℕ
   h = og.w.head m
-
-  module _ (color : Color) (s : ℕ) (x : Element) where
-    abbrev dir : Dir
-    dir = dir_of color
-
-    abbrev next : ℕ → Option Hop
-    next = color_hop og.g.links rows color t
-
-    pub round_head : (home : t ≡ h) → MayHead og m ring rows t tabled color s s
-        → Never (MayHead og m ring rows t tabled color s)
-        (Crossed (dir ≡ Up) og m dir) t x
-        → IsRound og rows s t x color
-    round_head home may never uses =
-        not_used og.g.links next (color_leads og.g.links rows color t) (MayHead og m ring rows t tabled color s)
-        (Crossed (dir ≡ Up) og m dir) t (goes_head og m ring rows t tabled color home s) x never (length og.g.ids) s may uses
-
-    module _ (target : Inside og m t) where
-      pub round_peer : MayPeer og m ring rows t tabled color target s s
-          → Never (MayPeer og m ring rows t tabled color target s)
-          (Crossed ⊥ og m dir) t x
-          → IsRound og rows s t x color
-      round_peer may never uses =
-          not_used og.g.links next (color_leads og.g.links rows color t) (MayPeer og m ring rows t tabled color target s)
-          (Crossed ⊥ og m dir) t (goes_peer og m ring rows t tabled color target s) x never (length og.g.ids) s may uses
-
-      pub round_after : MayAfter og m ring rows t tabled color target ⊤ s
-          → Never (MayAfter og m ring rows t tabled color target ⊤)
-          (Crossed (dir ≡ Down) og m dir) t x
-          → IsRound og rows s t x color
-      round_after may never uses =
-          not_used og.g.links next (color_leads og.g.links rows color t) (MayAfter og m ring rows t tabled color target ⊤)
-          (Crossed (dir ≡ Down) og m dir) t (goes_after og m ring rows t tabled color target ⊤) x never (length og.g.ids) s
-          may uses
-
-      pub round_past : MayPast og m ring rows t tabled color target s s
-          → Never (MayPast og m ring rows t tabled color target s)
-          (Crossed ⊤ og m dir) t x
-          → IsRound og rows s t x color
-      round_past may never uses =
-          not_used og.g.links next (color_leads og.g.links rows color t) (MayPast og m ring rows t tabled color target s)
-          (Crossed ⊤ og m dir) t (goes_past og m ring rows t tabled color target s) x never (length og.g.ids) s may uses
-
-      pub round_aside : MayAside og m ring rows t tabled color target s s
-          → Never (MayAside og m ring rows t tabled color target s)
-          (CrossedAside og m ring rows t tabled color target s) t x
-          → IsRound og rows s t x color
-      round_aside may never uses =
-          not_used og.g.links next (color_leads og.g.links rows color t) (MayAside og m ring rows t tabled color target s)
-          (CrossedAside og m ring rows t tabled color target s) t (goes_aside og m ring rows t tabled color target s) x never
-          (length og.g.ids) s may uses
 
   -- with the steps against the color's direction
   pub never_aside : (color : Color) (target : Inside og m t) (s : ℕ) (x : Element) (a v : ℕ) → Lies og t x a v

@@ -16,8 +16,8 @@ use Rattle.mrt_rows.proofs.Ways.{Inside, Ring, Way, head_lower, not_head}
 use Rattle.order_repair.specs.declared.order_tests.OrderTests.{OrderTests}
 use Rattle.order_repair.specs.ColorTable.{plain_color}
 use Rattle.order_repair.specs.OrderChoice.{AreTests}
-use Rattle.order_repair.proofs.MayMeet.{IsAside, MayAfter, MayAside, MayHead, MayPast, MayPeer}
-use Rattle.order_repair.proofs.Round.{IsRound, Lies, after_high, after_low, by_both, by_most, join, never_aside, never_passed, round_after, round_aside, round_head, round_past, round_peer}
+use Rattle.order_repair.proofs.MayMeet.{IsAside, MayAfter, MayAside, MayHead, MayPast, MayPeer, goes_after, goes_aside, goes_head, goes_past, goes_peer}
+use Rattle.order_repair.proofs.Round.{IsRound, Lies, after_high, after_low, by_both, by_most, join, never_aside, never_passed, walks_round}
 use Rattle.order_repair.proofs.RowWays.{AboveRow, BelowRow, HeadRow, RowWays, TopRow, UnorderedRow, way_of}
 use Rattle.order_repair.proofs.Steps.{beyond_on, from_itself}
 
@@ -73,9 +73,9 @@ module _ (og : OrderedGraph) (m : ℕ) (ring : Ring og m) (rows : Rows) (s t : �
   to_head : Inside og m s → t ≡ h → Round (if leb (o s) (o a) then Red else Blue)
   to_head source home =
       by_most og rows s t x (o s) (o a) Red Blue
-      (λ from. round_head og m ring rows t tabled Red s x home (source, from_itself og Down s)
+      (λ from. walks_round og rows s t x Red _ _ (goes_head og m ring rows t tabled Red home s) (source, from_itself og Down s)
       (never_passed og m (Down ≡ Up) (MayHead og m ring rows t tabled Red s) Down t x a v lies (λ may next. apart from may.1)))
-      (λ before. round_head og m ring rows t tabled Blue s x home (source, from_itself og Up s)
+      (λ before. walks_round og rows s t x Blue _ _ (goes_head og m ring rows t tabled Blue home s) (source, from_itself og Up s)
       (never_passed og m (Up ≡ Up) (MayHead og m ring rows t tabled Blue s) Up t x a v lies (λ may next. omega (arith, before, may.1))))
 
   module _ (target : Inside og m t) where
@@ -92,14 +92,14 @@ module _ (og : OrderedGraph) (m : ℕ) (ring : Ring og m) (rows : Rows) (s t : �
     from_head : s ≡ h → Round (if leb (o v) (o t) then Red else Blue)
     from_head home =
         by_most og rows s t x (o v) (o t) Red Blue
-        (λ low. round_after og m ring rows t tabled Red s x target (inl (tt, home))
+        (λ low. walks_round og rows s t x Red _ _ (goes_after og m ring rows t tabled Red target ⊤) (inl (tt, home))
         (never_passed og m (Down ≡ Down) (MayAfter og m ring rows t tabled Red target ⊤) Down t x a v lies (λ may next.
         elim (after_high og m ring rows t tabled target ⊤ v may) [
           | inl top ↦
               apart (omega (arith, not_out a next, ap og.w.order home)) (omega (arith, ap og.w.order home, ap og.w.order top.1))
           | inr high ↦ omega (arith, low, high)
         ])))
-        (λ not_low. round_after og m ring rows t tabled Blue s x target (inl (tt, home))
+        (λ not_low. walks_round og rows s t x Blue _ _ (goes_after og m ring rows t tabled Blue target ⊤) (inl (tt, home))
         (never_passed og m (Up ≡ Down) (MayAfter og m ring rows t tabled Blue target ⊤) Up t x a v lies (λ may next. elim next [
           | inl there ↦ omega (arith, not_low, ap og.w.order there)
           | inr on ↦ omega (arith, not_low, after_low og m ring rows t tabled target ⊤ v on)
@@ -109,7 +109,7 @@ module _ (og : OrderedGraph) (m : ℕ) (ring : Ring og m) (rows : Rows) (s t : �
       below : Way og m Up s t → Round (if leb (o s) (o a) && leb (o v) (o t) then Red else Blue)
       below up =
           by_both og rows s t x (o s) (o a) (o v) (o t) Red Blue
-          (λ from low. round_past og m ring rows t tabled Red s x target (inl (source, up, from_itself og Down s))
+          (λ from low. walks_round og rows s t x Red _ _ (goes_past og m ring rows t tabled Red target s) (inl (source, up, from_itself og Down s))
           (never_passed og m ⊤ (MayPast og m ring rows t tabled Red target s) Down t x a v lies (λ may next. elim may [
             | inl back ↦ apart from back.2
             | inr after ↦ elim (after_high og m ring rows t tabled target ⊤ v after) [
@@ -117,7 +117,7 @@ module _ (og : OrderedGraph) (m : ℕ) (ring : Ring og m) (rows : Rows) (s t : �
               | inr high ↦ omega (arith, low, high)
             ]
           ])))
-          (λ outside. round_peer og m ring rows t tabled Blue s x target (source, up, from_itself og Up s)
+          (λ outside. walks_round og rows s t x Blue _ _ (goes_peer og m ring rows t tabled Blue target s) (source, up, from_itself og Up s)
           (never_passed og m ⊥ (MayPeer og m ring rows t tabled Blue target s) Up t x a v lies (λ may next. outside may.2 (elim next [
             | inl there ↦ omega (arith, ap og.w.order there)
             | inr on ↦ omega (arith, beyond_on og m ring Up v t on.0 target on.1)
@@ -126,12 +126,12 @@ module _ (og : OrderedGraph) (m : ℕ) (ring : Ring og m) (rows : Rows) (s t : �
       above : Way og m Down s t → Round (if leb (o t) (o a) && leb (o v) (o s) then Blue else Red)
       above down =
           by_both og rows s t x (o t) (o a) (o v) (o s) Blue Red
-          (λ later low. round_past og m ring rows t tabled Blue s x target (inl (source, down, from_itself og Up s))
+          (λ later low. walks_round og rows s t x Blue _ _ (goes_past og m ring rows t tabled Blue target s) (inl (source, down, from_itself og Up s))
           (never_passed og m ⊤ (MayPast og m ring rows t tabled Blue target s) Up t x a v lies (λ may next. elim may [
             | inl back ↦ apart back.2 low
             | inr after ↦ omega (arith, later, after_low og m ring rows t tabled target ⊤ a after)
           ])))
-          (λ outside. round_peer og m ring rows t tabled Red s x target (source, down, from_itself og Down s)
+          (λ outside. walks_round og rows s t x Red _ _ (goes_peer og m ring rows t tabled Red target s) (source, down, from_itself og Down s)
           (never_passed og m ⊥ (MayPeer og m ring rows t tabled Red target s) Down t x a v lies (λ may next. outside (elim next [
             | inl there ↦ omega (arith, ap og.w.order there)
             | inr on ↦ omega (arith, beyond_on og m ring Down a t on.0 target on.1)
@@ -142,7 +142,7 @@ module _ (og : OrderedGraph) (m : ℕ) (ring : Ring og m) (rows : Rows) (s t : �
         red_round : (IsAside og m ring rows t tabled Red target s a → ⊥)
             → (Inside og m v → Way og m Down v t → (a ≡ t) ⊎ MayAside og m ring rows t tabled Red target s a → ⊥) → Round Red
         red_round not_back not_on =
-            round_aside og m ring rows t tabled Red s x target (inl (record { inside = source; from = inl refl; none_on = none_down; none_back = none_up }))
+            walks_round og rows s t x Red _ _ (goes_aside og m ring rows t tabled Red target s) (inl (record { inside = source; from = inl refl; none_on = none_down; none_back = none_up }))
             (never_aside og m ring rows t tabled Red target s x a v lies not_back (λ after next. elim after [
               | inl top ↦ let never : Down ≡ Up = top.0 in absurd (cc)
               | inr on ↦ not_on on.0 on.1 next
@@ -151,7 +151,7 @@ module _ (og : OrderedGraph) (m : ℕ) (ring : Ring og m) (rows : Rows) (s t : �
         blue_round : (IsAside og m ring rows t tabled Blue target s v → ⊥)
             → (MayAfter og m ring rows t tabled Blue target (Up ≡ Up) a → ⊥) → Round Blue
         blue_round not_back not_on =
-            round_aside og m ring rows t tabled Blue s x target (inl (record { inside = source; from = inl refl; none_on = none_up; none_back = none_down }))
+            walks_round og rows s t x Blue _ _ (goes_aside og m ring rows t tabled Blue target s) (inl (record { inside = source; from = inl refl; none_on = none_up; none_back = none_down }))
             (never_aside og m ring rows t tabled Blue target s x a v lies not_back (λ after next. not_on after))
 
         -- red's nodes aside are s and nodes above it

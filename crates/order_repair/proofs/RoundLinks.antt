@@ -1,4 +1,5 @@
 -- A failed link that the color of the table goes round.
+use Rattle.std.specs.Prelude.{⊤}
 use Rattle.std.proofs.Common.{◌≡◌, ◌≢◌, ◌∙◌, ◌<◌, ℕ, Some, length, refl, sym, ap, subst, inl, inr, arith}
 use Rattle.std.proofs.lemmas.Bool.{iff_false}
 use Rattle.mrt_graph.specs.declared.cert.Color.{Color}
@@ -15,8 +16,8 @@ use Rattle.mrt_rows.proofs.Ways.{Directs, Home, Inner, Inside, Out, Ring, direct
 use Rattle.order_repair.specs.declared.order_tests.OrderTests.{OrderTests}
 use Rattle.order_repair.specs.ColorTable.{closing_color, plain_color}
 use Rattle.order_repair.specs.OrderChoice.{AreLinkTests, IsClosing, IsPlain, LinkLine}
-use Rattle.order_repair.proofs.MayMeet.{Back, CrossedAside, On}
-use Rattle.order_repair.proofs.Round.{AsLink, IsRound, closingly, leads_to, round_after, round_aside, round_head, round_peer, way_to}
+use Rattle.order_repair.proofs.MayMeet.{Back, CrossedAside, On, goes_after, goes_aside, goes_head, goes_peer}
+use Rattle.order_repair.proofs.Round.{AsLink, IsRound, closingly, leads_to, walks_round, way_to}
 use Rattle.order_repair.proofs.RoundFailed.{Tell, round, told}
 use Rattle.order_repair.proofs.RowWays.{AboveRow, BelowRow, HeadRow, RowWays, TopRow, UnorderedRow, way_of}
 use Rattle.order_repair.proofs.Steps.{beyond_on, from_itself}
@@ -27,19 +28,19 @@ module _ (og : OrderedGraph) (m : ℕ) (ring : Ring og m) (rows : Rows) (s t : �
   module _ (closing : og.w.role e ≡ Closing) where
     closing_round : (blue red : ℕ) {tag : Tag} → RowWays og m s t blue red tag → IsRound og rows s t (elements.Link e) (closing_color tag)
     closing_round blue red (HeadRow a b up down) =
-        round_head og m ring rows t tabled Red s (elements.Link e) b (a, from_itself og Down s)
+        walks_round og rows s t (elements.Link e) Red _ _ (goes_head og m ring rows t tabled Red b s) (a, from_itself og Down s)
         (λ u y may other next crossed. let never = closingly (Down ≡ Up) og m Down e u y closing crossed in cc)
     closing_round blue red (TopRow a b up down) =
-        round_after og m ring rows t tabled Blue s (elements.Link e) b (inl (tt, a))
+        walks_round og rows s t (elements.Link e) Blue _ _ (goes_after og m ring rows t tabled Blue b ⊤) (inl (tt, a))
         (λ u y may other next crossed. let never = closingly (Up ≡ Down) og m Up e u y closing crossed in cc)
     closing_round blue red (BelowRow a b up down) =
-        round_peer og m ring rows t tabled Blue s (elements.Link e) b (a, way_of og m Up s t blue up, from_itself og Up s)
+        walks_round og rows s t (elements.Link e) Blue _ _ (goes_peer og m ring rows t tabled Blue b s) (a, way_of og m Up s t blue up, from_itself og Up s)
         (λ u y may other next crossed. closingly ⊥ og m Up e u y closing crossed)
     closing_round blue red (AboveRow a b up down) =
-        round_peer og m ring rows t tabled Red s (elements.Link e) b (a, way_of og m Down s t red down, from_itself og Down s)
+        walks_round og rows s t (elements.Link e) Red _ _ (goes_peer og m ring rows t tabled Red b s) (a, way_of og m Down s t red down, from_itself og Down s)
         (λ u y may other next crossed. closingly ⊥ og m Down e u y closing crossed)
     closing_round blue red (UnorderedRow a b none_up none_down down up) =
-        round_aside og m ring rows t tabled Blue s (elements.Link e) b
+        walks_round og rows s t (elements.Link e) Blue _ _ (goes_aside og m ring rows t tabled Blue b s)
         (inl (record { inside = a; from = inl refl; none_on = none_up; none_back = none_down }))
         (λ u y may other next crossed. go u y crossed)
       where
