@@ -70,19 +70,15 @@ module _ (og : OrderedGraph) (m : ℕ) (ring : Ring og m) (rows : Rows) (t : ℕ
       let it = tabled u sharing.source sharing.two in
       record { row = it.row; is = it.is; ways = row_ways og m ring u t sharing it.row.tag (rows u) it.row it.line }
 
-  -- over the link of the color, in the one or the other direction
+  -- the link of the color
   abbrev link_at : (u : ℕ) → RowAt u → ℕ
   link_at u at = link_of_color color at.row
-
-  takes : (d : Dir) (u y : ℕ) (at : RowAt u) → IsOver og m d (link_at u at) u y
-      → next u ≡ Some (record { link = link_at u at; to = y })
-  takes d u y at over = hop_is og.g.links rows color t u at.row y at.is over.onward
 
   -- the hop of a row, and what keeps more where less is kept
   goes : (May : ℕ → Type 0) (Crosses : ℕ → ℕ → ℕ → Type 0) (d : Dir) (u y : ℕ) (at : RowAt u) → IsOver og m d (link_at u at) u y → (y ≡ t) ⊎ May y
       → Crosses (link_at u at) u y → Goes next May Crosses t u
   goes May Crosses d u y at over keeps crosses =
-      record { hop = record { link = link_at u at; to = y }; takes = takes d u y at over; keeps = keeps; crosses = crosses }
+      record { hop = record { link = link_at u at; to = y }; takes = hop_is og.g.links rows color t u at.row y at.is over.onward; keeps = keeps; crosses = crosses }
 
   onward : (May Too : ℕ → Type 0) (Crosses Also : ℕ → ℕ → ℕ → Type 0) (u : ℕ) → ((y : ℕ) → May y → Too y)
       → ((e y : ℕ) → Crosses e u y → Also e u y) → Goes next May Crosses t u → Goes next Too Also t u

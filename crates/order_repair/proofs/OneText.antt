@@ -1,6 +1,8 @@
 -- There is exactly one text on the repairs by order of a router.
-use Rattle.std.proofs.Common.{◌≡◌, ◌⊎◌, ◌∙◌, ◌++◌, ◌<◌, ℕ, List, [], Option, Some, None, codes, length, refl, sym, ap, inl, inr}
-use Rattle.std.proofs.lemmas.Bool.{cases_eq}
+use Rattle.std.specs.Bool.{Decides}
+use Rattle.std.proofs.Common.{◌≡◌, ◌⊎◌, ◌∙◌, ◌++◌, ◌<◌, ℕ, Bool, List, [], Option, Some, None, codes, length, refl, sym, ap, inl, inr}
+use Rattle.std.proofs.lemmas.Bool.{cases_Bool, cases_eq}
+use Rattle.std.proofs.lemmas.Bool.Decides.{Decides-and, Decides-eqb, Decides-like, Decides-not, Decides-or, not_from_Decides}
 use Rattle.std.proofs.lemmas.Option.{slice_get_within}
 use Rattle.mrt_graph.specs.declared.cert.Color.{Color}
 use Rattle.mrt_graph.specs.declared.cert.Tag.{Tag}
@@ -21,6 +23,10 @@ use Rattle.order_repair.specs.Tagging.{IsTagFor, tag_by}
 use Rattle.order_repair.proofs.OneChoice.{choice_for, one_choice}
 use Rattle.order_repair.proofs.TagFound.{found}
 use Rattle.link_direction.proofs.TwoNodes.{of_two}
+
+-- what a test tells holds, or it does not
+told : {P : Type 0} (test : Bool) → Decides test P → P ⊎ (P → ⊥)
+told test is = elim (cases_Bool test) [ inl holds ↦ inl (is.0 holds) | inr fails ↦ inr (not_from_Decides test is fails) ]
 
 module _ (og : OrderedGraph) (s : ℕ) (s_within : s < length og.g.ids) where
   abbrev n : ℕ
@@ -57,27 +63,14 @@ module _ (og : OrderedGraph) (s : ℕ) (s_within : s < length og.g.ids) where
 
     -- it is of the block, or it is not; and so for the two
     lies_or_not : (x : Element) → IsWithin og.g x → LiesIn og.g og.w k h x ⊎ (LiesIn og.g og.w k h x → ⊥)
-    lies_or_not (elements.Link e) e_within = elim (cases_eq (og.w.lies_in e) k) [
-      | inl block ↦ inl (record { within = e_within; in_block = block })
-      | inr other ↦ inr (λ lies. other lies.in_block)
-    ]
-    lies_or_not (elements.Node f) f_within = elim (cases_eq (og.w.block f) k) [
-      | inl block ↦ inl (record { within = f_within; in_block = inl block })
-      | inr other ↦ elim (cases_eq f h) [
-        | inl home ↦ inl (record { within = f_within; in_block = inr home })
-        | inr not_home ↦ inr (λ lies. elim lies.in_block [ inl block ↦ other block | inr home ↦ not_home home ])
-      ]
-    ]
+    lies_or_not (elements.Link e) within =
+        told _ (Decides-like _ (λ is. record { within = within; in_block = is }) (λ lies. lies.in_block) (Decides-eqb (og.w.lies_in e) k))
+    lies_or_not (elements.Node f) within =
+        told _ (Decides-like _ (λ is. record { within = within; in_block = is }) (λ lies. lies.in_block) (Decides-or _ _ (Decides-eqb (og.w.block f) k) (Decides-eqb f h)))
 
     neither_or_not : (x : Element) → IsNeitherEnd x s t ⊎ (IsNeitherEnd x s t → ⊥)
     neither_or_not (elements.Link e) = inl tt
-    neither_or_not (elements.Node f) = elim (cases_eq f s) [
-      | inl same ↦ inr (λ neither. neither.0 same)
-      | inr not_s ↦ elim (cases_eq f t) [
-        | inl same ↦ inr (λ neither. neither.1 same)
-        | inr not_t ↦ inl (not_s, not_t)
-      ]
-    ]
+    neither_or_not (elements.Node f) = told _ (Decides-and _ _ (Decides-not _ (Decides-eqb f s)) (Decides-not _ (Decides-eqb f t)))
 
     some_letter : (x : Element) → IsWithin og.g x → (text : List ℕ) × IsLetter og.g og.root og.w s t k h x text
     some_letter x within = elim (lies_or_not x within) [
