@@ -1,28 +1,15 @@
 -- Numbers of one name, each before those after it.
-use Rattle.std.proofs.Common.{◌≡◌, ◌≢◌, ◌<◌, ◌+◌, ◌∙◌, ℕ, zero, suc, List, Some, length, set, slice_get, replicate, inl, inr, sym, ap, subst, arith}
+use Rattle.std.proofs.Common.{◌≡◌, ◌≢◌, ◌<◌, ◌≤◌, ◌+◌, ◌∙◌, ℕ, zero, suc, List, Some, length, set, slice_get, replicate, inl, inr, sym, ap, subst, arith}
 use Rattle.std.proofs.lemmas.Bool.{cases_eq}
 use Rattle.std.proofs.lemmas.List.{length-replicate, length-set}
 use Rattle.std.proofs.lemmas.Option.{same_Some, slice_get_within}
 use Rattle.mrt_graph.proofs.ListPlaces.{set_elsewhere, set_there}
 use Rattle.order_repair.specs.Chains.{AreChains, IsNext}
 
--- a number of a name is the next one from itself on
-here : (names : List ℕ) (name at : ℕ) → slice_get names at ≡ Some name → IsNext names name at at
-here names name at is = record {
-  onward = omega arith;
-  within = omega (arith, slice_get_within names at name is);
-  named = λ low. is;
-  none_before = λ k low high. absurd (omega (arith, low, high));
-}
-
--- where there is none, the count is
-none_more : (names : List ℕ) (name : ℕ) → IsNext names name (length names) (length names)
-none_more names name = record {
-  onward = omega arith;
-  within = omega arith;
-  named = λ low. absurd (omega (arith, low));
-  none_before = λ k low high. absurd (omega (arith, low, high));
-}
+-- a number of the name is the next one from itself on, and so is the count
+at_once : (names : List ℕ) (name at : ℕ) → at ≤ length names → (at < length names → slice_get names at ≡ Some name) → IsNext names name at at
+at_once names name at within named =
+    record { onward = omega arith; within = within; named = named; none_before = λ k low high. absurd (omega (arith, low, high)) }
 
 -- a number of another name is passed over
 passed : (names : List ℕ) (name at own next : ℕ) → slice_get names at ≡ Some own → name ≢ own → IsNext names name (at + 1) next → IsNext names name at next
@@ -34,15 +21,6 @@ passed names name at own next is other later = record {
     | inl same ↦ other (same_Some name own (sym named ∙ ap (λ (i : ℕ). slice_get names i) same ∙ is))
     | inr apart ↦ later.none_before k (omega (arith, low, apart)) high named
   ];
-}
-
--- from a next one on it is the next one
-pub from_itself : (names : List ℕ) (name from next : ℕ) → IsNext names name from next → IsNext names name next next
-from_itself names name from next is = record {
-  onward = omega arith;
-  within = is.within;
-  named = is.named;
-  none_before = λ k low high. absurd (omega (arith, low, high));
 }
 
 -- the next one after a next one
@@ -59,7 +37,7 @@ replicated (suc n) x y (suc k) is = replicated n x y k is
 pub no_chain : (names : List ℕ) (count : ℕ) → AreChains names (length names) (replicate count (length names)) (replicate (length names) (length names))
 no_chain names count = record {
   one_next_each = length-replicate (length names) (length names);
-  firsts_are = λ name first read. subst (λ (n : ℕ). IsNext names name (length names) n) (replicated count (length names) first name read) (none_more names name);
+  firsts_are = λ name first read. subst (λ (n : ℕ). IsNext names name (length names) n) (replicated count (length names) first name read) (at_once names name (length names) (omega arith) (λ low. absurd (omega (arith, low))));
   nexts_are = λ k name next low named read. absurd (omega (arith, low, slice_get_within names k name named));
 }
 
@@ -72,7 +50,7 @@ chained_more names firsts nexts at own next is before are = record {
     | inl same ↦
         let there : slice_get (set firsts own at) own ≡ Some at = set_there firsts own at (slice_get_within firsts own next before) in
         let first_is : at ≡ first = same_Some at first (sym there ∙ subst (λ (n : ℕ). slice_get (set firsts own at) n ≡ Some first) same read) in
-        subst (λ (n : ℕ). IsNext names name at n) first_is (subst (λ (n : ℕ). IsNext names n at at) (sym same) (here names own at is))
+        subst (λ (n : ℕ). IsNext names name at n) first_is (subst (λ (n : ℕ). IsNext names n at at) (sym same) (at_once names own at (omega (arith, slice_get_within names at own is)) (λ low. is)))
     | inr other ↦ passed names name at own first is other (are.firsts_are name first (sym (set_elsewhere firsts own name at other) ∙ read))
   ];
   nexts_are = λ k name after low named read. elim (cases_eq k at) [
