@@ -10,7 +10,7 @@ use Rattle.mrt_graph.specs.declared.link.Element.{Element}
 use Rattle.mrt_graph.specs.declared.link.Element.TheVariants as elements
 use Rattle.mrt_graph.specs.declared.link.End.{End}
 use Rattle.mrt_graph.specs.Alternate.{UsesOn}
-use Rattle.mrt_graph.specs.Hop.{Hop, color_hop}
+use Rattle.mrt_graph.specs.Hop.{color_hop}
 use Rattle.mrt_graph.specs.Leads.{leads}
 use Rattle.mrt_graph.specs.Rows.{Rows}
 use Rattle.mrt_graph.proofs.Bridge.{color_leads}
