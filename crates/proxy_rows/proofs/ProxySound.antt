@@ -145,26 +145,18 @@ module _ (g : Topology) (c : Certificate) (at : Attachment) (ground : IsGround g
     red = λ t s. if t == new_node g then next Red s else w.red t s;
   }
 
-  blue_new : (x : ℕ) → next Blue x ≡ with.blue (new_node g) x
-  blue_new x = rw (eq-eqb (new_node g) (new_node g) refl) refl
+  new_is : (color : Color) (x : ℕ) → next color x ≡ next_of with color (new_node g) x
+  new_is Blue x = rw (eq-eqb (new_node g) (new_node g) refl) refl
+  new_is Red x = rw (eq-eqb (new_node g) (new_node g) refl) refl
 
-  red_new : (x : ℕ) → next Red x ≡ with.red (new_node g) x
-  red_new x = rw (eq-eqb (new_node g) (new_node g) refl) refl
-
-  blue_old : (t : ℕ) → t ≢ new_node g → (x : ℕ) → w.blue t x ≡ with.blue t x
-  blue_old t other x = rw (ne_eqb t (new_node g) other) refl
-
-  red_old : (t : ℕ) → t ≢ new_node g → (x : ℕ) → w.red t x ≡ with.red t x
-  red_old t other x = rw (ne_eqb t (new_node g) other) refl
+  old_is : (color : Color) (t : ℕ) → t ≢ new_node g → (x : ℕ) → next_of w color t x ≡ next_of with color t x
+  old_is Blue t other x = rw (ne_eqb t (new_node g) other) refl
+  old_is Red t other x = rw (ne_eqb t (new_node g) other) refl
 
   on_links : (color : Color) (t : ℕ) → IsOnLinks links (next_of with color t)
-  on_links Blue t s hop is = elim (cases_eq t (new_node g)) [
-    | inl new ↦ color_leads links all Blue (new_node g) s hop (blue_new s ∙ subst (λ (v : ℕ). with.blue v s ≡ Some hop) new is)
-    | inr old ↦ old_leads g at hop.link s hop.to ((rows g c at ground).blue_leads t s hop (blue_old t old s ∙ is))
-  ]
-  on_links Red t s hop is = elim (cases_eq t (new_node g)) [
-    | inl new ↦ color_leads links all Red (new_node g) s hop (red_new s ∙ subst (λ (v : ℕ). with.red v s ≡ Some hop) new is)
-    | inr old ↦ old_leads g at hop.link s hop.to ((rows g c at ground).red_leads t s hop (red_old t old s ∙ is))
+  on_links color t s hop is = elim (cases_eq t (new_node g)) [
+    | inl new ↦ color_leads links all color (new_node g) s hop (new_is color s ∙ subst (λ (v : ℕ). next_of with color v s ≡ Some hop) new is)
+    | inr old ↦ old_leads g at hop.link s hop.to (hop_leads g c at ground color t s hop (old_is color t old s ∙ is))
   ]
 
   rows_with : facts.Rows with
@@ -193,32 +185,37 @@ module _ (g : Topology) (c : Certificate) (at : Attachment) (ground : IsGround g
     | inr front ↦ on_front_too g at x s hops (record { lower = parts_on g x s e at.lower both.lower parts; upper = parts_on g x s e at.upper both.upper parts }) front
   ]
 
+  -- a node of the block
+  inside : (s : ℕ) → At w at.upper s → Good with s (new_node g)
+  inside s at_s =
+      let p = from_block g c at ground entries one_each each all are s at_s in
+      record {
+        blue = way_alike (next Blue) (with.blue (new_node g)) (new_node g) s (new_is Blue) p.blue;
+        red = way_alike (next Red) (with.red (new_node g)) (new_node g) s (new_is Red) p.red;
+        apart = λ x between on_blue on_red. absurd (p.apart x between on_blue on_red);
+      }
+
   -- from a node outside, by its way into the block
   by_entry : (s e : ℕ) → s < w.count → e < w.count → s ≢ e → At w at.upper e → PartsBoth g at (elements.Node e) s
       → ((color : Color) (x : ℕ) (hops : List Hop) → Follows (next_of w color e) e s hops → Has (nodes_on s hops) x → x ≢ e
       → (x < w.count) × (next color x ≡ next_of w color e x)) → Good with s (new_node g)
   by_entry s e s_within e_within differ e_at both alike =
       let first = good g c at ground s e s_within e_within differ in
-      let second = from_block g c at ground entries one_each each all are e e_at in
       let old : e ≢ new_node g = λ same. omega (arith, e_within, count_is, same) in
       composed with rows_with s e (new_node g) (record {
         parts = parts_new (elements.Node e) s s_within both;
         first = record {
-          blue = way_alike (w.blue e) (with.blue e) e s (blue_old e old) first.blue;
-          red = way_alike (w.red e) (with.red e) e s (red_old e old) first.red;
+          blue = way_alike (w.blue e) (with.blue e) e s (old_is Blue e old) first.blue;
+          red = way_alike (w.red e) (with.red e) e s (old_is Red e old) first.red;
           apart = λ x between on_blue on_red. parts_kept x s e s_within both (first.apart x between on_blue on_red);
         };
-        second = record {
-          blue = way_alike (next Blue) (with.blue (new_node g)) (new_node g) e blue_new second.blue;
-          red = way_alike (next Red) (with.red (new_node g)) (new_node g) e red_new second.red;
-          apart = λ x between on_blue on_red. absurd (second.apart x between on_blue on_red);
-        };
+        second = inside e e_at;
         blue_same = λ x has other.
             let a = alike Blue x first.blue.hops first.blue.follows has other in
-            (λ same. omega (arith, a.0, count_is, same), sym (blue_new x) ∙ a.1 ∙ blue_old e old x);
+            (λ same. omega (arith, a.0, count_is, same), sym (new_is Blue x) ∙ a.1 ∙ old_is Blue e old x);
         red_same = λ x has other.
             let a = alike Red x first.red.hops first.red.follows has other in
-            (λ same. omega (arith, a.0, count_is, same), sym (red_new x) ∙ a.1 ∙ red_old e old x);
+            (λ same. omega (arith, a.0, count_is, same), sym (new_is Red x) ∙ a.1 ∙ old_is Red e old x);
       })
 
   -- each node on the way to the member where a node's way enters goes for the new node where it goes for that member
@@ -260,16 +257,6 @@ module _ (g : Topology) (c : Certificate) (at : Attachment) (ground : IsGround g
             (before_head w blocks at.upper m_member (next_of w color h) (hop_leads g c at ground color h) s x hops none follows has other),
       ))
 
-  -- a node of the block
-  inside : (s : ℕ) → At w at.upper s → Good with s (new_node g)
-  inside s at_s =
-      let p = from_block g c at ground entries one_each each all are s at_s in
-      record {
-        blue = way_alike (next Blue) (with.blue (new_node g)) (new_node g) s blue_new p.blue;
-        red = way_alike (next Red) (with.red (new_node g)) (new_node g) s red_new p.red;
-        apart = λ x between on_blue on_red. absurd (p.apart x between on_blue on_red);
-      }
-
   not_at : (s : ℕ) → ((w.block s ≢ w.block at.upper) × (s ≢ w.head at.upper)) → At w at.upper s → ⊥
   not_at s out (Inner _ same) = out.0 same
   not_at s out (Top same) = out.1 same
@@ -294,6 +281,6 @@ module _ (g : Topology) (c : Certificate) (at : Attachment) (ground : IsGround g
       sound_for links (length g.ids + 1) all
       (leads_within g at ends (below at.lower (lower_within g c at ground)) (below at.upper (upper_within g c at ground)))
       s (new_node g) (omega (arith, within))
-      (way_alike (with.blue (new_node g)) (next Blue) (new_node g) s (λ x. sym (blue_new x)) all_good.blue)
-      (way_alike (with.red (new_node g)) (next Red) (new_node g) s (λ x. sym (red_new x)) all_good.red)
+      (way_alike (with.blue (new_node g)) (next Blue) (new_node g) s (λ x. sym (new_is Blue x)) all_good.blue)
+      (way_alike (with.red (new_node g)) (next Red) (new_node g) s (λ x. sym (new_is Red x)) all_good.red)
       (λ x between on_blue on_red. all_good.apart x between on_blue on_red)
