@@ -23,7 +23,6 @@ use mrt_words::{FilesRead, RouterTask, Task, Work};
 use std::alloc::Global;
 
 /// The text of what is to be done with the files that were read.
-#[tactic(auto, using(crate::proofs::TextSteps::ends_first, crate::proofs::TextSteps::ends_second))]
 pub fn answer_of_files(alloc: Global, files: FilesRead) -> Result<Text, Exit>
     requires database { vec_len files.database ≤ database_limit }
     requires profile { vec_len files.profile ≤ profile_limit }

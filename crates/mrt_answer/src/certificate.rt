@@ -14,7 +14,7 @@ use mrt_rows::certificates_are_accepted;
 use std::alloc::Global;
 
 /// The certificate that is computed for the island of a router, the rows of which are found as they are written.
-#[tactic(auto, using(crate::proofs::TextSteps::ends_first, crate::proofs::TextSteps::ends_second))]
+#[tactic(auto, using(crate::proofs::TextSteps::ends_first))]
 pub(crate) fn certificate(alloc: Global, given: &Given, router: u32) -> Result<Text, Exit>
     ensures { IsTextAnswer (certified given.now router) result }
 {

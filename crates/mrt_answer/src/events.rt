@@ -27,7 +27,7 @@ pub(crate) fn run_of_bytes(alloc: Global, given: &Given, bytes: &[u8]) -> Result
 }
 
 /// The answers to the events of a script.
-#[tactic(auto, using(crate::proofs::TextSteps::ends_first, crate::proofs::TextSteps::ends_second, crate::proofs::TextSteps::of_bytes))]
+#[tactic(auto, using(crate::proofs::TextSteps::ends_first))]
 fn run_of(alloc: Global, given: &Given, script: &Script) -> Result<Text, Exit>
     requires room { 1 ≤ script.now.room }
     ensures { IsTextAnswer (scripted given.now script.now) result }

@@ -20,7 +20,6 @@ use mrt_words::FloodRead;
 use std::alloc::Global;
 
 /// The answers to the lines of a script over packets and under a profile, each with its bytes.
-#[tactic(auto, using(crate::proofs::TextSteps::ends_first, crate::proofs::TextSteps::ends_second, crate::proofs::TextSteps::of_bytes))]
 pub fn answer_of_flood(alloc: Global, files: &FloodRead) -> Result<Text, Exit>
     requires updates { vec_len files.now.updates ≤ updates_limit }
     requires profile { vec_len files.now.profile ≤ profile_limit }

@@ -12,7 +12,6 @@ use mrt_exit::Exit;
 use std::alloc::Global;
 
 /// The text on the loop-free alternates of a router of the area, whatever the profile says.
-#[tactic(auto, using(crate::proofs::TextSteps::ends_first, crate::proofs::TextSteps::ends_second))]
 pub(crate) fn loop_free(alloc: Global, given: &Given, router: u32) -> Result<Text, Exit>
     ensures { IsTextAnswer (loop_free_step given.now router) result }
 {
@@ -21,7 +20,6 @@ pub(crate) fn loop_free(alloc: Global, given: &Given, router: u32) -> Result<Tex
 }
 
 /// The same, in an area.
-#[tactic(auto, using(crate::proofs::TextSteps::ends_first, crate::proofs::TextSteps::ends_second, crate::proofs::TextSteps::of_bytes))]
 fn loop_free_in(alloc: Global, area: &Area, router: u32) -> Result<Text, Exit>
     ensures { IsTextAnswer (in_area area.now router) result }
 {

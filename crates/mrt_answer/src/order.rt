@@ -15,7 +15,6 @@ use order_repair::order_text;
 use std::alloc::Global;
 
 /// The text on the repairs by order of a router in its island.
-#[tactic(auto, using(crate::proofs::TextSteps::ends_first, crate::proofs::TextSteps::ends_second))]
 pub(crate) fn order(alloc: Global, given: &Given, router: u32) -> Result<Text, Exit>
     ensures { IsTextAnswer (ordered given.now router) result }
 {
@@ -24,7 +23,6 @@ pub(crate) fn order(alloc: Global, given: &Given, router: u32) -> Result<Text, E
 }
 
 /// The same, in an island that the router is in.
-#[tactic(auto, using(crate::proofs::TextSteps::ends_first, crate::proofs::TextSteps::ends_second, crate::proofs::TextSteps::of_bytes))]
 fn order_in(alloc: Global, graph: &Graph, root: NodeNo, router: u32) -> Result<Text, Exit>
     requires root { root < length graph.now.ids }
     requires inside { Contains graph.now.ids (router_node router) }

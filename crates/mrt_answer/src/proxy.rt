@@ -17,7 +17,6 @@ use proxy_rows::{Attachment, ProxyRow, attach, proxy_rows_at, proxy_text_of};
 use std::alloc::Global;
 
 /// The rows of all nodes of a router's island for a prefix that is attached to two routers of it.
-#[tactic(auto, using(crate::proofs::TextSteps::ends_first, crate::proofs::TextSteps::ends_second))]
 pub(crate) fn proxy(
     alloc: Global,
     given: &Given,

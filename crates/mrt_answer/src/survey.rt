@@ -33,7 +33,7 @@ pub fn answer_of_survey(alloc: Global, number: u32, nodes: u16) -> Result<Text, 
 }
 
 /// The survey of the island of router 1.
-#[tactic(auto, using(crate::proofs::TextSteps::ends_first, crate::proofs::TextSteps::ends_second, crate::proofs::TextSteps::of_bytes))]
+#[tactic(auto, using(crate::proofs::TextSteps::ends_first))]
 fn survey_of(alloc: Global, number: u32, given: &Given) -> Result<Text, Exit>
     ensures { IsTextAnswer (summed_up_in number given.now) result }
 {

@@ -34,7 +34,7 @@ struct Parts<'a> {
 
 /// The table of a router: of each other node of its island the two colors' next hops, the primary, and which color
 /// repairs it.
-#[tactic(auto, using(crate::proofs::TextSteps::ends_first, crate::proofs::TextSteps::ends_second))]
+#[tactic(auto, using(crate::proofs::TextSteps::ends_first))]
 pub(crate) fn table(alloc: Global, given: &Given, router: u32) -> Result<Text, Exit>
     ensures { IsTextAnswer (tabled given.now router) result }
 {
@@ -43,7 +43,7 @@ pub(crate) fn table(alloc: Global, given: &Given, router: u32) -> Result<Text, E
 }
 
 /// The same, in an area and the router's island in it.
-#[tactic(auto, using(crate::proofs::TextSteps::ends_first, crate::proofs::TextSteps::ends_second, crate::proofs::TextSteps::of_bytes))]
+#[tactic(auto, using(crate::proofs::TextSteps::ends_first, crate::proofs::TextSteps::ends_second))]
 fn table_in(alloc: Global, net: &AreaAndIsland, router: u32) -> Result<Text, Exit>
     requires fits { Fits net.now.area net.now.island.graph net.now.island.link_of }
     requires root { net.now.island.root < length net.now.island.graph.ids }

@@ -29,7 +29,7 @@ fn destination_of(alloc: Global, area: &Area, trace: &Trace) -> Result<Vec<Spot>
 }
 
 /// The answers to a failure, if one is asked for, to a packet that enters, and to its steps until it ends.
-#[tactic(auto, using(crate::proofs::TextSteps::ends_first, crate::proofs::TextSteps::ends_second, crate::proofs::TextSteps::of_bytes))]
+#[tactic(auto, using(crate::proofs::TextSteps::ends_first))]
 pub(crate) fn trace(alloc: Global, given: &Given, trace: &Trace) -> Result<Text, Exit>
     ensures { IsTextAnswer (traced given.now trace.now) result }
 {

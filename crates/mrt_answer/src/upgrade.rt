@@ -19,7 +19,6 @@ use std::alloc::Global;
 const WRITTEN: u16 = 2;
 
 /// The certificate in version 2, where there is one and it is accepted for the island of its root.
-#[tactic(auto, using(crate::proofs::TextSteps::ends_first, crate::proofs::TextSteps::ends_second))]
 pub(crate) fn upgraded(
     alloc: Global,
     given: &Given,
@@ -33,7 +32,6 @@ pub(crate) fn upgraded(
 }
 
 /// The certificate in version 2, where it is accepted for the island of its root.
-#[tactic(auto, using(crate::proofs::TextSteps::ends_first, crate::proofs::TextSteps::ends_second))]
 fn upgrade(alloc: Global, given: &Given, file: CertFile) -> Result<Text, Exit>
     ensures { IsTextAnswer (upgraded_to given.now file) result }
 {
@@ -42,7 +40,7 @@ fn upgrade(alloc: Global, given: &Given, file: CertFile) -> Result<Text, Exit>
 }
 
 /// The certificate in version 2, where it is accepted for an island and its root.
-#[tactic(auto, using(crate::proofs::TextSteps::ends_first, crate::proofs::TextSteps::ends_second))]
+#[tactic(auto, using(crate::proofs::TextSteps::ends_first))]
 fn upgrade_in(alloc: Global, island: &Island, file: CertFile) -> Result<Text, Exit>
     requires { island.now.root < length island.now.graph.ids }
     ensures { IsTextAnswer (upgraded_in island.now.graph island.now.root file) result }

@@ -30,7 +30,6 @@ pub(crate) fn checked(
 }
 
 /// The accepted line, where the certificate is accepted for the island of its root.
-#[tactic(auto, using(crate::proofs::TextSteps::ends_first, crate::proofs::TextSteps::ends_second))]
 fn verdict(alloc: Global, given: &Given, file: &CertFile) -> Result<Text, Exit>
     ensures { IsTextAnswer (checked_step given.now file.now) result }
 {

@@ -1,13 +1,25 @@
 -- Steps one after another.
 use Rattle.std.proofs.Common.{◌≡◌, ◌⊎◌, ◌∙◌, Result, Ok, Err, refl, sym, ap, subst, inl, inr}
+use Rattle.std.specs.Result.{IsErrAnd}
 use Rattle.mrt_exit.specs.Steps.{IsAnswer, IsOne, Step, such, ◌▸◌}
 use Rattle.mrt_exit.specs.declared.exit.Exit.{Exit}
+
+-- a call that hands on an exit answers as the exit says
+pub told_on : {A : Type 0} (step : Step A) (answer : Result A Exit) (exit : Exit) → IsErrAnd answer (λ told. told ≡ exit)
+    → IsAnswer step (Err exit) → IsAnswer step answer
+told_on step (Ok x) exit is said = absurd is
+told_on step (Err told) exit is said = subst (λ (e : Exit). IsAnswer step (Err e)) (sym is) said
 
 module _ {A B : Type 0} (first : Step A) (next : A → Step B) where
   -- a call that ends at the first step has answered both
   pub early : (exit : Exit) → IsAnswer first (Err exit) → IsAnswer (first ▸ next) (Err exit)
   early exit (inl said) = inl (inl said)
   early exit (inr memory) = inr memory
+
+  -- so does one that hands on its exit
+  pub handed_on : (answer : Result B Exit) (exit : Exit) → IsErrAnd answer (λ told. told ≡ exit) → IsAnswer first (Err exit)
+      → IsAnswer (first ▸ next) answer
+  handed_on answer exit is said = told_on (first ▸ next) answer exit is (early exit said)
 
   -- and where a value came of it, the answer to the second step is that to both
   pub late : (x : A) → first (Ok x) → (answer : Result B Exit) → IsAnswer (next x) answer → IsAnswer (first ▸ next) answer

@@ -1,0 +1,14 @@
+use Rattle.mrt_answer.specs.Forms.{upgraded_in}
+use Rattle.mrt_answer.specs.Islands.{island_in}
+use Rattle.mrt_answer.proofs.TextSteps.{ends_second, handed_on}
+use Rattle.mrt_answer.proofs.upgrade.upgrade.Goals as goal
+
+pub returns-in_err-island : goal.returns-in_err-island
+returns-in_err-island c =
+    handed_on (island_in c.args.given.now c.args.file.root) (λ island. upgraded_in island.graph island.root c.args.file) c.from_residual.result c.in_err-island.field-0.0 c.from_residual.ensures.1
+    c.in_err-island.ensures.island
+
+pub returns : goal.returns
+returns c =
+    ends_second (island_in c.args.given.now c.args.file.root) (λ island. upgraded_in island.graph island.root c.args.file) c.in_ok-island.island c.in_ok-island.ensures.island
+    c.upgrade_in.result c.upgrade_in.ensures
