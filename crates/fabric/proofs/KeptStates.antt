@@ -7,7 +7,7 @@ use Rattle.std.proofs.lemmas.Option.{slice_get_within}
 use Rattle.fabric.specs.Answers.{MayEnter}
 use Rattle.fabric.specs.FabricParts.{ArePartsKept, AreRowsFor, FabricParts}
 use Rattle.fabric.specs.FabricState.{entering, packet_after, state_of}
-use Rattle.fabric.specs.FabricStep.{FabricStep}
+use Rattle.fabric.specs.Runs.{FabricStep}
 use Rattle.fabric.specs.Handling.{IsHandled}
 use Rattle.fabric.specs.KeptState.{IsKeptPacket, IsKeptState}
 use Rattle.fabric.specs.declared.event.Event.TheVariants.{Inject}

@@ -7,9 +7,8 @@ use Rattle.fabric.specs.Answers.{Answered, HasEnded as EndedBefore, IsStepAnswer
 use Rattle.fabric.specs.Causes.{Cause, IsCut, IsCutOff, IsOnWalk, IsSeparated, LossCauses}
 use Rattle.fabric.specs.FabricParts.{ArePartsKept, AreRowsFor, FabricParts, element_of, link_at, node_at}
 use Rattle.fabric.specs.FabricState.{Answer, FabricState, start}
-use Rattle.fabric.specs.FabricStep.{FabricStep}
+use Rattle.fabric.specs.Runs.{FabricStep, IsRun}
 use Rattle.fabric.specs.Handling.{IsHandled, IsInside, IsOutside, IsRepair, has_failed, repaired, sent}
-use Rattle.fabric.specs.Runs.{IsRun}
 use Rattle.fabric.specs.Served.{AreRowsOn}
 use Rattle.fabric.specs.Course.{steps_of}
 use Rattle.fabric.specs.declared.event.Event.{Event}

@@ -5,8 +5,7 @@ use Rattle.std.proofs.lemmas.Option.{same_Some}
 use Rattle.fabric.specs.Course.{handles, steps_of}
 use Rattle.fabric.specs.FabricParts.{ArePartsKept, AreRowsFor, FabricParts}
 use Rattle.fabric.specs.FabricState.{Answer, FabricState, entering, packet_after, start, state_after}
-use Rattle.fabric.specs.FabricStep.{FabricStep}
-use Rattle.fabric.specs.Runs.{IsRun}
+use Rattle.fabric.specs.Runs.{FabricStep, IsRun}
 use Rattle.fabric.specs.Served.{AreRowsOn}
 use Rattle.fabric.specs.declared.event.Event.{Event}
 use Rattle.fabric.specs.declared.event.Event.TheVariants.{Inject}

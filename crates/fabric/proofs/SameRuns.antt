@@ -8,7 +8,7 @@ use Rattle.fabric.specs.FabricState.{Answer, FabricState, start}
 use Rattle.fabric.specs.Handling.{IsHandled, IsHopOrNone, IsInside, IsOutside, IsRepair}
 use Rattle.fabric.specs.PacketHop.{IsColorHop, IsOver, OverNetwork, Straight}
 use Rattle.fabric.specs.Runs.{IsRun}
-use Rattle.fabric.specs.SameRows.{AgreeFor, AgreeOn, with_rows}
+use Rattle.fabric.specs.Served.{AgreeFor, AgreeOn, with_rows}
 use Rattle.fabric.specs.declared.event.Event.{Event}
 use Rattle.fabric.specs.declared.event.Event.TheVariants.{Fail, Inject, Step}
 use Rattle.fabric.specs.declared.event.Failure.{Failure}

@@ -3,13 +3,11 @@ pub mod Causes
 pub mod Course
 pub mod FabricParts
 pub mod FabricState
-pub mod FabricStep
 pub mod Handling
 pub mod KeptState
 pub mod OutcomeText
 pub mod OwnEvents
 pub mod PacketHop
 pub mod Runs
-pub mod SameRows
 pub mod Served
 pub mod Viewed

@@ -1,11 +1,12 @@
--- The destinations for which a fabric has what it reads.
+-- The destinations for which a fabric has what it reads, and those for which other rows agree.
 use Rattle.std.specs.Prelude.{◌≡◌, ◌<◌, ⊤, ℕ, Contains, List, Some, length, slice_get}
-use Rattle.fabric.specs.FabricParts.{AreRowsFor, FabricParts}
+use Rattle.fabric_script.specs.declared.entry.Entry.{Entry}
+use Rattle.primary_alt.specs.RouteLists.{HasColumn, RouteLists}
+use Rattle.mrt_graph.specs.Rows.{AreSameFor, Rows}
+use Rattle.fabric.specs.FabricParts.{AreRowsFor, FabricParts, node_at}
 use Rattle.fabric.specs.declared.event.Event.{Event}
 use Rattle.fabric.specs.declared.event.Event.TheVariants.{Fail, Inject, Step}
-use Rattle.fabric_script.specs.declared.entry.Entry.{Entry}
 use Rattle.fabric.specs.declared.packet.Packet.{Packet}
-use Rattle.primary_alt.specs.RouteLists.{HasColumn, RouteLists}
 
 -- destination t is served: there are rows for it, if it is a node of the island, and primaries, if it is a node of the
 -- area
@@ -27,3 +28,16 @@ IsEventServed parts routes (Fail failed) = ⊤
 abbrev pub ArePacketsServed : FabricParts → RouteLists → List Packet → Type 0
 ArePacketsServed parts routes packets =
     (p : ℕ) (packet : Packet) → slice_get packets p ≡ Some packet → IsServedBy parts routes packet.to
+
+-- the parts with these rows in place of their own
+abbrev pub with_rows : FabricParts → Rows → FabricParts
+with_rows parts rows = record { area = parts.area; island = parts.island; rows = rows; link_of = parts.link_of }
+
+-- the rows agree with those of the parts for node t of the area: if it is a node of the island, they are the same for this
+-- one
+abbrev pub AgreeFor : FabricParts → Rows → ℕ → Type 0
+AgreeFor parts rows t = (d : ℕ) → node_at parts t ≡ Some d → AreSameFor d parts.rows rows
+
+-- they do for the destination of each packet that enters by one of the events
+abbrev pub AgreeOn : FabricParts → Rows → List Event → Type 0
+AgreeOn parts rows events = (at to : ℕ) (entry : Entry) → Contains events (Inject at to entry) → AgreeFor parts rows to

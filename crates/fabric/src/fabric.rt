@@ -57,7 +57,7 @@ impl<'a, R: RowsOf> Model for Fabric<'a, R> {
 
 impl<'a, R: RowsOf> Fabric<'a, R> {
     ghost use Rattle.std.specs.Prelude.{◌≡◌, ◌≤◌, IfOk, slice_get};
-    ghost use Rattle.fabric.specs.{FabricState.start, FabricStep.FabricStep, OutcomeText.IsTellable, Served.IsEventServed, Served.IsServedBy};
+    ghost use Rattle.fabric.specs.{FabricState.start, Runs.FabricStep, OutcomeText.IsTellable, Served.IsEventServed, Served.IsServedBy};
     ghost use Rattle.fabric.specs.Viewed.{parts_of};
     ghost use Rattle.fabric.specs.declared.event.Event.TheVariants as events;
     ghost use Rattle.primary_alt.specs.RoutesMade.{AreMade};

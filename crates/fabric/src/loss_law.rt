@@ -1,7 +1,7 @@
 //! Why packets are lost. The law holds of the definitions alone; the function does nothing.
 
 ghost use Rattle.std.specs.Prelude.{◌≡◌, ℕ, List, Ok, Some, slice_get};
-ghost use Rattle.fabric.specs.{Causes.LossCauses, FabricParts.ArePartsKept, FabricParts.FabricParts, FabricStep.FabricStep, Runs.IsRun};
+ghost use Rattle.fabric.specs.{Causes.LossCauses, FabricParts.ArePartsKept, FabricParts.FabricParts, Runs.FabricStep, Runs.IsRun};
 ghost use Rattle.fabric.specs.{Served.AreRowsOn, declared.event.Event.Event, declared.event.Event.TheVariants.Step, declared.event.Outcome.Outcome};
 ghost use Rattle.fabric.specs.declared.packet.Packet.{Packet};
 ghost use Rattle.fabric.specs.FabricState.{Answer, FabricState, start};

@@ -1,7 +1,7 @@
 //! Which rows decide what happens to packets. The law holds of the definitions alone; the function does nothing.
 
 ghost use Rattle.std.specs.Prelude.{ℕ, List};
-ghost use Rattle.fabric.specs.{FabricParts.FabricParts, Runs.IsRun, SameRows.AgreeOn, SameRows.with_rows, declared.event.Event.Event};
+ghost use Rattle.fabric.specs.{FabricParts.FabricParts, Runs.IsRun, Served.AgreeOn, Served.with_rows, declared.event.Event.Event};
 ghost use Rattle.fabric.specs.FabricState.{Answer, FabricState, start};
 ghost use Rattle.mrt_graph.specs.Rows.{Rows};
 

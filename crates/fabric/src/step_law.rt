@@ -1,7 +1,7 @@
 //! What holds of each step. The laws hold of the definitions alone; the functions do nothing.
 
 ghost use Rattle.std.specs.Prelude.{◌≡◌, ◌≢◌, ℕ, Err, List, Some, slice_get};
-ghost use Rattle.fabric.specs.{Answers.IsAnswer, FabricParts.ArePartsKept, FabricParts.FabricParts, FabricStep.FabricStep, Runs.IsRun};
+ghost use Rattle.fabric.specs.{Answers.IsAnswer, FabricParts.ArePartsKept, FabricParts.FabricParts, Runs.FabricStep, Runs.IsRun};
 ghost use Rattle.fabric.specs.{Served.AreRowsOn, declared.event.Event.Event, declared.event.Failure.Failure, declared.event.Refused.Refused};
 ghost use Rattle.fabric.specs.declared.packet.Packet.{Packet};
 ghost use Rattle.fabric_script.specs.declared.entry.Entry.{Entry};

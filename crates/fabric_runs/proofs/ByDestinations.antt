@@ -4,7 +4,7 @@ use Rattle.std.specs.Prelude.{Contains}
 use Rattle.fabric.specs.FabricParts.{FabricParts}
 use Rattle.fabric.specs.FabricState.{Answer, FabricState, start}
 use Rattle.fabric.specs.Runs.{IsRun}
-use Rattle.fabric.specs.SameRows.{AgreeFor, AgreeOn, with_rows}
+use Rattle.fabric.specs.Served.{AgreeFor, AgreeOn, with_rows}
 use Rattle.fabric.specs.declared.event.Event.{Event}
 use Rattle.fabric.specs.declared.event.Event.TheVariants as happenings
 use Rattle.fabric_script.specs.declared.entry.Entry.{Entry}

@@ -14,7 +14,7 @@ use Rattle.fabric.specs.declared.event.Refused.TheVariants.{NoSuchPlace}
 use Rattle.fabric_script.specs.declared.entry.Entry.{Entry}
 use Rattle.fabric.specs.FabricParts.{FabricParts}
 use Rattle.fabric.specs.FabricState.{Answer, FabricState, state_after}
-use Rattle.fabric.specs.FabricStep.{FabricStep}
+use Rattle.fabric.specs.Runs.{FabricStep}
 use Rattle.fabric_script.specs.declared.event.FailureName.{FailureName}
 use Rattle.fabric_script.specs.declared.event.FailureName.TheVariants.{Link, Node}
 use Rattle.fabric_script.specs.declared.event.ScriptEvent.{ScriptEvent}

@@ -11,9 +11,8 @@ use Rattle.fabric.specs.declared.event.Outcome.{Outcome}
 use Rattle.fabric.specs.Course.{handles, steps_of}
 use Rattle.fabric.specs.FabricParts.{FabricParts}
 use Rattle.fabric.specs.FabricState.{Answer, FabricState}
-use Rattle.fabric.specs.FabricStep.{FabricStep}
+use Rattle.fabric.specs.Runs.{FabricStep, IsRun}
 use Rattle.fabric.specs.OutcomeText.{answer_line, run_text}
-use Rattle.fabric.specs.Runs.{IsRun}
 use Rattle.fabric_runs.specs.Told.{HasLines, IsTold}
 
 -- one run after another

@@ -7,8 +7,7 @@ use Rattle.mrt_graph.proofs.IdPlaces.{number_found}
 use Rattle.mrt_graph.specs.NodeIds.{number_of}
 use Rattle.area_graph.specs.Parts.{AreaParts}
 use Rattle.fabric.specs.FabricParts.{FabricParts, node_at}
-use Rattle.fabric.specs.SameRows.{AgreeFor}
-use Rattle.fabric.specs.Served.{IsEventServed, IsServedBy}
+use Rattle.fabric.specs.Served.{AgreeFor, IsEventServed, IsServedBy}
 use Rattle.fabric_script.specs.declared.entry.Entry.{Entry}
 use Rattle.fabric_runs.specs.Destinations.{AgreeForEvent, AreDestinations, AreServed}
 use Rattle.fabric_runs.specs.NamedEvents.{event_of, spot_of}

@@ -2,8 +2,7 @@
 use Rattle.std.specs.Prelude.{◌≡◌, ◌↔◌, ⊤, ℕ, Contains, List, Some, slice_get}
 use Rattle.area_graph.specs.Parts.{AreaParts}
 use Rattle.fabric.specs.FabricParts.{FabricParts}
-use Rattle.fabric.specs.SameRows.{AgreeFor}
-use Rattle.fabric.specs.Served.{IsEventServed}
+use Rattle.fabric.specs.Served.{AgreeFor, IsEventServed}
 use Rattle.fabric_runs.specs.NamedEvents.{event_of, spot_of}
 use Rattle.fabric_script.specs.declared.event.ScriptEvent.{ScriptEvent}
 use Rattle.fabric_script.specs.declared.event.ScriptEvent.TheVariants.{Fail, Inject, Step}

@@ -3,7 +3,7 @@
 
 ghost use Rattle.std.specs.Prelude.{◌≡◌, ◌↔◌, Err};
 ghost use Rattle.fabric.specs.declared.event.Refused.TheVariants as refusals;
-ghost use Rattle.fabric.specs.{FabricParts.FabricParts, FabricState.Answer, FabricState.FabricState, FabricStep.FabricStep};
+ghost use Rattle.fabric.specs.{FabricParts.FabricParts, FabricState.Answer, FabricState.FabricState, Runs.FabricStep};
 ghost use Rattle.fabric_script.specs.declared.event.ScriptEvent.{ScriptEvent};
 ghost use Rattle.fabric_runs.specs.NamedEvents.{AreThere, event_of};
 

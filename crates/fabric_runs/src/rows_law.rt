@@ -1,7 +1,7 @@
 //! Which rows decide the texts of runs. The laws hold of the definitions alone; the function does nothing.
 
 ghost use Rattle.std.specs.Prelude.{ℕ, Contains, List};
-ghost use Rattle.fabric.specs.{FabricParts.FabricParts, SameRows.AgreeFor, SameRows.with_rows};
+ghost use Rattle.fabric.specs.{FabricParts.FabricParts, Served.AgreeFor, Served.with_rows};
 ghost use Rattle.fabric_runs.specs.{Destinations.AgreeForEvent, NamedEvents.spot_of, RunTexts.IsScriptText, RunTexts.IsTraceText};
 ghost use Rattle.fabric_script.specs.{declared.event.ScriptEvent.ScriptEvent, declared.script.Script.Script, declared.trace.Trace.Trace};
 ghost use Rattle.mrt_graph.specs.Rows.{Rows};

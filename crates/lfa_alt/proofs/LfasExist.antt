@@ -24,11 +24,9 @@ use Rattle.lfa_alt.specs.declared.alternate.FreeCandidate.{FreeCandidate}
 use Rattle.lfa_alt.specs.declared.alternate.Lfa.{Lfa}
 use Rattle.lfa_alt.specs.declared.destination.Destination.{Destination}
 use Rattle.lfa_alt.specs.declared.way.Way.{Way}
-use Rattle.lfa_alt.specs.Best.{IsOfferedBy, better}
+use Rattle.lfa_alt.specs.Choosing.{IsDestination, IsOfferedBy, Offers, better, offer}
 use Rattle.lfa_alt.specs.Candidates.{Leaves}
 use Rattle.lfa_alt.specs.LoopFree.{ByPrimary, IsBest, IsLfa, NoPrimary, alternate_of}
-use Rattle.lfa_alt.specs.Destinations.{IsDestination, Offers}
-use Rattle.lfa_alt.specs.Offer.{offer}
 use Rattle.lfa_alt.specs.Ways.{AddsAcross, AddsOver, AreWays, way_across, way_over}
 use Rattle.lfa_alt.proofs.Bettering.{none_yet, one_more}
 use Rattle.lfa_alt.proofs.Beyond.{part_of}

@@ -10,8 +10,7 @@ use Rattle.text_parts.proofs.Adding.{one_headed_text, one_id}
 use Rattle.primary_alt.specs.declared.shortest.Primary.{Primary}
 use Rattle.primary_alt.proofs.PrimariesLead.{one_entry}
 use Rattle.lfa_alt.specs.declared.alternate.Lfa.{Lfa}
-use Rattle.lfa_alt.specs.LfaText.{AreLfaWords, IsArcHop, IsHead, IsLfaHop, IsLfaText, IsLine, IsPartOn, Line, NoLine}
-use Rattle.lfa_alt.specs.LfaWords.{kind_text}
+use Rattle.lfa_alt.specs.LfaText.{AreLfaWords, IsArcHop, IsHead, IsLfaHop, IsLfaText, IsLine, IsPartOn, Line, NoLine, kind_text}
 use Rattle.lfa_alt.proofs.Chosen.{its_primary}
 use Rattle.lfa_alt.proofs.OneLfa.{one_answer}
 

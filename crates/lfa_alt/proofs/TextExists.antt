@@ -14,8 +14,7 @@ use Rattle.primary_alt.proofs.AreaArcs.{arcs_between}
 use Rattle.primary_alt.proofs.PrimariesExist.{primaries_exist}
 use Rattle.primary_alt.proofs.RouterFacts.{router_within}
 use Rattle.lfa_alt.specs.declared.alternate.Lfa.{Lfa}
-use Rattle.lfa_alt.specs.LfaText.{AreLfaWords, IsArcHop, IsHead, IsLfaText, IsPartOn, Line, NoLine}
-use Rattle.lfa_alt.specs.LfaWords.{kind_text}
+use Rattle.lfa_alt.specs.LfaText.{AreLfaWords, IsArcHop, IsHead, IsLfaText, IsPartOn, Line, NoLine, kind_text}
 use Rattle.lfa_alt.specs.LoopFree.{IsLfa}
 use Rattle.lfa_alt.proofs.Beyond.{part_of}
 use Rattle.lfa_alt.proofs.Chosen.{arc_there, next_there}

@@ -1,5 +1,5 @@
 -- The text on a router's loop-free alternates.
-use Rattle.std.specs.Prelude.{◌≡◌, ◌++◌, ℕ, List, [], Option, Some, None, codes, decimal, length, slice_get}
+use Rattle.std.specs.Prelude.{ℕ, Bool, true, false, List, codes, ◌≡◌, ◌++◌, [], Option, Some, None, decimal, length, slice_get}
 use Rattle.area_graph.specs.declared.area_types.Arc.{Arc}
 use Rattle.area_graph.specs.Parts.{AreaParts}
 use Rattle.mrt_graph.specs.declared.node_id.NodeId.{NodeId}
@@ -9,8 +9,12 @@ use Rattle.text_parts.specs.Parts.{IsHeaded}
 use Rattle.primary_alt.specs.declared.shortest.Primary.{Primary}
 use Rattle.primary_alt.specs.Primaries.{IsPrimary}
 use Rattle.lfa_alt.specs.declared.alternate.Lfa.{Lfa}
-use Rattle.lfa_alt.specs.LfaWords.{kind_text}
 use Rattle.lfa_alt.specs.LoopFree.{IsLfa}
+
+-- whether an alternate protects the primary's next: it does; or that is not promised
+abbrev pub kind_text : Bool → List ℕ
+kind_text true = codes "node"
+kind_text false = codes "link"
 
 -- the first line: the router, and how many nodes the area has
 pub record IsHead (area : AreaParts) (s : ℕ) (text : List ℕ) : Type 0 where

@@ -1,9 +1,6 @@
-pub mod Best
 pub mod Candidates
+pub mod Choosing
 pub mod HopWalks
 pub mod LfaText
-pub mod LfaWords
 pub mod LoopFree
-pub mod Offer
-pub mod Destinations
 pub mod Ways

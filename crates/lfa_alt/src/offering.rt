@@ -4,7 +4,7 @@ ghost use Rattle.std.specs.Prelude.{◌≡◌, ◌<◌, ℕ, IfOk, OnOk, Option,
 ghost use Rattle.area_graph.specs.{AreaInvariant.IsArea, Parts.AreaParts};
 ghost use Rattle.primary_alt.specs.DistancesFrom.{AreDistancesFrom};
 ghost use Rattle.lfa_alt.specs.{declared.alternate.FreeCandidate.FreeCandidate, declared.destination.Destination.Destination, declared.way.Way.Way};
-ghost use Rattle.lfa_alt.specs.{Best.AreBest, Best.IsBetterBy, Destinations.AreDestinations, Destinations.Offers};
+ghost use Rattle.lfa_alt.specs.{Choosing.AreBest, Choosing.IsBetterBy, Choosing.AreDestinations, Choosing.Offers};
 ghost use Rattle.lfa_alt.specs.Ways.{AreWays, IsWayToNetwork};
 
 use crate::alternate::FreeCandidate;

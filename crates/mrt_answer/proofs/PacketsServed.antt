@@ -7,8 +7,7 @@ use Rattle.mrt_graph.proofs.IdPlaces.{number_found}
 use Rattle.mrt_graph.specs.NodeIds.{number_of}
 use Rattle.area_graph.specs.Parts.{AreaParts}
 use Rattle.fabric.specs.FabricParts.{ArePartsKept, FabricParts, node_at}
-use Rattle.fabric.specs.SameRows.{AgreeFor}
-use Rattle.fabric.specs.Served.{IsServedBy}
+use Rattle.fabric.specs.Served.{AgreeFor, IsServedBy}
 use Rattle.fabric.specs.Viewed.{parts_with}
 use Rattle.fabric.proofs.Islands.{is_one}
 use Rattle.fabric.proofs.Routed.{routed_node}

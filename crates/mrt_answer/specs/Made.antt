@@ -4,7 +4,7 @@ use Rattle.area_graph.specs.Fits.{Fits}
 use Rattle.mrt_graph.specs.Certificate.{Certificate, row_of}
 use Rattle.mrt_graph.specs.GraphInvariant.{IsNetwork}
 use Rattle.mrt_report.specs.TableParts.{TableParts, AreItsPrimaries, table_parts}
-use Rattle.fabric.specs.SameRows.{AgreeFor}
+use Rattle.fabric.specs.Served.{AgreeFor}
 use Rattle.fabric.specs.Viewed.{parts_with}
 use Rattle.mrt_graph.specs.declared.cert.CertFile.{CertFile}
 use Rattle.mrt_rows.specs.RowsTo.{rows_in}

@@ -11,9 +11,7 @@ use Rattle.order_repair.specs.declared.kind.Kind.{Kind}
 use Rattle.order_repair.specs.declared.kind.Kind.TheVariants.{Links, Nodes}
 use Rattle.order_repair.specs.declared.kind.Members.{Members}
 use Rattle.order_repair.specs.declared.pair.Pair.{Pair}
-use Rattle.order_repair.specs.Blocks.{Letter, Letters}
-use Rattle.order_repair.specs.Chains.{IsNext}
-use Rattle.order_repair.specs.Kinds.{IsHeadWithin, blocks_of}
+use Rattle.order_repair.specs.Blocks.{IsHeadWithin, IsNext, Letter, Letters, blocks_of}
 use Rattle.order_repair.specs.OrderText.{IsLetter, NotOfIt}
 use Rattle.order_repair.proofs.Listed.{none_lies}
 use Rattle.order_repair.proofs.PartsPassed.{passed}

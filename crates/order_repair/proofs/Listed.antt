@@ -12,9 +12,8 @@ use Rattle.link_direction.specs.OrderedGadag.{IsOrderedGadag}
 use Rattle.link_direction.proofs.ClosedBlocks.{inside_of_link}
 use Rattle.order_repair.specs.declared.kind.Kind.{Kind}
 use Rattle.order_repair.specs.declared.kind.Kind.TheVariants.{Links, Nodes}
-use Rattle.order_repair.specs.Chains.{IsNext}
+use Rattle.order_repair.specs.Blocks.{IsHeadWithin, IsNext, blocks_of, count_of, element_of}
 use Rattle.order_repair.specs.Failed.{IsWithin, LiesIn}
-use Rattle.order_repair.specs.Kinds.{IsHeadWithin, blocks_of, count_of, element_of}
 
 abbrev block_in : Kind → Directions → ℕ → ℕ
 block_in Nodes w n = w.block n

@@ -7,7 +7,7 @@ use Rattle.mrt_graph.specs.declared.cert.Tag.{Tag}
 use Rattle.mrt_graph.specs.declared.cert.Tag.TheVariants.{Above, Below, Carried, Head, Sole, Top, Unordered}
 use Rattle.order_repair.specs.declared.order_tests.OrderTests.{OrderTests}
 
--- red where this holds, else blue; and the other way round
+-- red where this holds, else blue; and blue where it holds, else red
 abbrev pub red_where : Bool → Color
 red_where holds = if holds then Red else Blue
 
@@ -26,8 +26,7 @@ node_color Top x = red_where (nat_lt x.from x.to)
 node_color Below x = red_where (nat_lt x.source x.from && nat_lt x.from x.to)
 node_color Above x = blue_where (nat_lt x.to x.from && nat_lt x.from x.source)
 node_color Unordered x = beside_color x (nat_lt x.to x.from)
-node_color Sole x = Blue
-node_color Carried x = Blue
+node_color tag x = Blue
 
 -- where a plain link of their block has failed
 abbrev pub plain_color : Tag → OrderTests → Color
@@ -36,18 +35,13 @@ plain_color Top x = red_where (nat_le x.onto x.to)
 plain_color Below x = red_where (nat_le x.source x.from && nat_le x.onto x.to)
 plain_color Above x = blue_where (nat_le x.to x.from && nat_le x.onto x.source)
 plain_color Unordered x = beside_color x (nat_le x.to x.from)
-plain_color Sole x = Blue
-plain_color Carried x = Blue
+plain_color tag x = Blue
 
 -- where their block's closing link has failed
 abbrev pub closing_color : Tag → Color
 closing_color Head = Red
-closing_color Top = Blue
-closing_color Below = Blue
 closing_color Above = Red
-closing_color Unordered = Blue
-closing_color Sole = Blue
-closing_color Carried = Blue
+closing_color tag = Blue
 
 -- the tags of which the table speaks: with the others s and t have no block of more than one link in common
 abbrev pub IsOfTable : Tag → Type 0

@@ -1,12 +1,8 @@
 pub mod Arrow
-pub mod BlockLists
 pub mod Blocks
-pub mod Chains
 pub mod ColorTable
 pub mod Failed
-pub mod Kinds
 pub mod OrderChoice
 pub mod OrderText
 pub mod Source
-pub mod SourceView
 pub mod Tagging

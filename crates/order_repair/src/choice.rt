@@ -5,7 +5,7 @@ ghost use Rattle.mrt_graph.specs.{declared.cert.CertFile.CertFile, declared.cert
 ghost use Rattle.link_direction.specs.Directions.{Directions};
 ghost use Rattle.inc_dec_spf.specs.HasDirections.{HasDirections};
 ghost use Rattle.mrt_rows.specs.{CertOf.IsCertOf, DirectedFrom.IsDirectedFrom};
-ghost use Rattle.order_repair.specs.{Source.AreHops, SourceView.AreHopsIn, SourceView.IsSourceIn, OrderChoice.IsOrderChoice, OrderChoice.LinkLine};
+ghost use Rattle.order_repair.specs.{Source.AreHops, Source.AreHopsIn, Source.IsSourceIn, OrderChoice.IsOrderChoice, OrderChoice.LinkLine};
 ghost use Rattle.order_repair.specs.{Failed.IsBetween, Failed.IsWithin, Tagging.IsPair};
 
 use crate::arrow::arrow_of;

@@ -5,9 +5,9 @@ ghost use Rattle.mrt_graph.specs.{declared.gadag.Place.Place, Separates.IsNeithe
 ghost use Rattle.link_direction.specs.Directions.{Directions};
 ghost use Rattle.inc_dec_spf.specs.{HasDirections.AreDirections, HasDirections.HasDirections, LeastPath.HaveCommonBlockOfMoreLinks};
 ghost use Rattle.text_parts.specs.Adds.{Adds};
-ghost use Rattle.order_repair.specs.{BlockLists.AreBlockLists, BlockLists.AreChainsOf, Chains.IsNext, Failed.IsWithin, Failed.LiesIn};
-ghost use Rattle.order_repair.specs.{OrderText.IsLetter, OrderText.IsLine, OrderText.letter_of, SourceView.AreHopsIn, SourceView.IsSourceIn};
-ghost use Rattle.order_repair.specs.{Tagging.IsPair, Blocks.Letters, Kinds.blocks_of, Kinds.count_of, Kinds.IsHeadWithin};
+ghost use Rattle.order_repair.specs.{Blocks.AreBlockLists, Blocks.AreChainsOf, Blocks.IsNext, Failed.IsWithin, Failed.LiesIn};
+ghost use Rattle.order_repair.specs.{OrderText.IsLetter, OrderText.IsLine, OrderText.letter_of, Source.AreHopsIn, Source.IsSourceIn};
+ghost use Rattle.order_repair.specs.{Tagging.IsPair, Blocks.Letters, Blocks.blocks_of, Blocks.count_of, Blocks.IsHeadWithin};
 
 use crate::block_lists::BlockLists;
 use crate::chains::Chains;

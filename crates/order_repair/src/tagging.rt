@@ -2,7 +2,7 @@
 
 ghost use Rattle.std.specs.Prelude.{◌≡◌, ◌<◌, ℕ, length};
 ghost use Rattle.link_direction.specs.Directions.{Directions};
-ghost use Rattle.order_repair.specs.SourceView.{AreHopsIn, IsSourceIn};
+ghost use Rattle.order_repair.specs.Source.{AreHopsIn, IsSourceIn};
 ghost use Rattle.order_repair.specs.Tagging.{IsTagFor, tag_by};
 
 use crate::source_view::SourceView;

@@ -4,7 +4,7 @@ ghost use Rattle.std.specs.Prelude.{◌≡◌, ◌<◌, ℕ, IfOk, length};
 ghost use Rattle.mrt_graph.specs.GraphInvariant.{IsTopology};
 ghost use Rattle.link_direction.specs.{Directions.Directions, Directions.Says, OrderedGadag.SaysOrdered};
 ghost use Rattle.mrt_rows.specs.DirectedFrom.{IsDirectedFrom};
-ghost use Rattle.order_repair.specs.{BlockLists.AreBlockLists, SourceView.AreHopsIn, SourceView.IsSourceIn};
+ghost use Rattle.order_repair.specs.{Blocks.AreBlockLists, Source.AreHopsIn, Source.IsSourceIn};
 ghost use Rattle.text_parts.specs.{Adds.Adds, Parts.AreParts};
 ghost use Rattle.order_repair.specs.OrderText.{IsHead, IsOrderText, IsPartOn, IsTextFrom};
 

@@ -1,10 +1,7 @@
 pub mod Attachment
-pub mod Ends
 pub mod GraphWith
-pub mod Ground
 pub mod ProxyRows
 pub mod ProxyText
-pub mod ReadFrom
 pub mod Sides
 pub mod Standing
 pub mod Steps

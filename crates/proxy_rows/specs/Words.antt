@@ -1,14 +1,27 @@
--- Certificates of some words on nodes and links.
-use Rattle.std.specs.Prelude.{◌↔◌, ℕ, Bool, List, []}
-use Rattle.mrt_graph.specs.declared.cert.Row.{Row}
+-- What proxy rows are made from: words and rows of a certificate, wherever they stand.
+use Rattle.std.specs.Prelude.{ℕ, ◌↔◌, Bool, List, [], ◌≡◌}
 use Rattle.mrt_graph.specs.Certificate.{Certificate, certificate_of, row_of}
+use Rattle.mrt_graph.specs.GraphInvariant.{IsTopology}
+use Rattle.mrt_graph.specs.Topology.{Topology}
+use Rattle.mrt_graph.specs.AcceptedFor.{IsAcceptedFor}
+use Rattle.mrt_graph.specs.declared.cert.Row.{Row}
 use Rattle.mrt_graph.specs.Rows.{AreSameFor, Rows}
 use Rattle.mrt_graph.specs.Search.{IsMarked}
+use Rattle.mrt_graph.specs.declared.cert.CertLink.{CertLink}
+use Rattle.mrt_graph.specs.declared.cert.CertNode.{CertNode}
 use Rattle.proxy_rows.specs.declared.attachment.Attachment.{Attachment}
+use Rattle.proxy_rows.specs.Attachment.{IsAttachment}
 use Rattle.proxy_rows.specs.declared.side.Side.{Side}
 use Rattle.proxy_rows.specs.declared.words.Words.{Words}
-use Rattle.proxy_rows.specs.Ground.{IsGround}
 use Rattle.proxy_rows.specs.Sides.{IsIn}
+
+-- a graph, a certificate that is accepted for it, and the attachment of two of its routers
+pub record IsGround (g : Topology) (c : Certificate) (at : Attachment) : Type 0 where
+  pub kept : IsTopology g
+  pub accepted : IsAcceptedFor g c
+  pub a : ℕ
+  pub b : ℕ
+  pub attached : IsAttachment c a b at
 
 -- a certificate of these words and some rows
 abbrev pub with_rows : Words → List Row → Certificate
@@ -35,3 +48,15 @@ pub record AreAccepted (words : Words) (at : Attachment) : Type 0 where
 pub record AreReadWith (words : Words) (at : Attachment) (rows : Rows) (rest : List Row) : Type 0 where
   pub stands : IsGround words.graph.now (with_rows words rest) at
   pub rows_are : AreSameFor at.head (row_of (with_rows words rest)) rows
+
+-- a certificate that is accepted for the graph, with an attachment of two routers: it has these words on nodes and links,
+-- and its rows for the head of the attachment are the same as these
+pub record ReadFrom (g : Topology) (nodes : List CertNode) (links : List CertLink) (at : Attachment) (rows : Rows) : Type 0 where
+  pub cert : Certificate
+  pub a : ℕ
+  pub b : ℕ
+  pub accepted : IsAcceptedFor g cert
+  pub attached : IsAttachment cert a b at
+  pub nodes_are : cert.nodes ≡ nodes
+  pub links_are : cert.links ≡ links
+  pub rows_are : AreSameFor at.head (row_of cert) rows

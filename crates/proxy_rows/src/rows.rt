@@ -2,7 +2,7 @@
 
 ghost use Rattle.std.specs.Prelude.{◌≡◌, ◌≢◌, ◌<◌, ◌+◌, ◌↔◌, ℕ, true, Err, IfOk, List, length};
 ghost use Rattle.mrt_graph.specs.{declared.cert.Row.Row, AcceptedFor.IsAcceptedFor, GraphInvariant.IsTopology, Related.are_unrelated, Rows.Rows, Search.IsMarked, Sound.SoundFor};
-ghost use Rattle.proxy_rows.specs.{declared.attachment.Attachment.Attachment, declared.side.Side.TheVariants.Low, declared.side.Side.TheVariants.High, Attachment.IsAttachment, ReadFrom.ReadFrom};
+ghost use Rattle.proxy_rows.specs.{declared.attachment.Attachment.Attachment, declared.side.Side.TheVariants.Low, declared.side.Side.TheVariants.High, Attachment.IsAttachment, Words.ReadFrom};
 ghost use Rattle.proxy_rows.specs.GraphWith.{AreRowsWith, links_with, new_node};
 ghost use Rattle.proxy_rows.specs.ProxyRows.{AreProxyRows, AreRowsOf, IsHeadBlue, IsHeadRed, IsProxyRow, IsSideOut};
 ghost use Rattle.proxy_rows.specs.Words.{AreAccepted, AreMarks, AreReadWith, IsOn, with_rows};

@@ -3,9 +3,8 @@ use Rattle.std.specs.Prelude.{IfOk}
 use Rattle.mrt_graph.specs.declared.link.Element.{Element}
 use Rattle.text_parts.specs.Adds.{Adds}
 use Rattle.text_parts.proofs.Adding.{nothing, one_part_more}
-use Rattle.order_repair.specs.Blocks.{Letter, Letters}
+use Rattle.order_repair.specs.Blocks.{Letter, Letters, blocks_of, count_of}
 use Rattle.order_repair.specs.Failed.{IsWithin, LiesIn}
-use Rattle.order_repair.specs.Kinds.{blocks_of, count_of}
 use Rattle.order_repair.specs.OrderText.{IsLetter}
 use Rattle.order_repair.proofs.Chained.{after}
 use Rattle.order_repair.proofs.Listed.{element_within, many, next_lies}

@@ -1,10 +1,8 @@
 use Rattle.std.proofs.Common.{◌≡◌, ◌-◌, ℕ}
 use Rattle.link_direction.specs.Directions.{Directions}
 use Rattle.text_parts.specs.Adds.{Adds}
-use Rattle.order_repair.specs.Blocks.{Letters}
-use Rattle.order_repair.specs.Chains.{IsNext}
-use Rattle.order_repair.specs.Kinds.{blocks_of, count_of}
-use Rattle.order_repair.specs.SourceView.{AreHopsIn}
+use Rattle.order_repair.specs.Blocks.{IsNext, Letters, blocks_of, count_of}
+use Rattle.order_repair.specs.Source.{AreHopsIn}
 use Rattle.order_repair.specs.Tagging.{IsPair}
 use Rattle.order_repair.proofs.line.push_letters.Given as goal
 

@@ -1,6 +1,6 @@
 use Rattle.std.proofs.Common.{◌≡◌, ℕ, length}
 use Rattle.link_direction.specs.Directions.{Directions}
-use Rattle.order_repair.specs.SourceView.{AreHopsIn}
+use Rattle.order_repair.specs.Source.{AreHopsIn}
 use Rattle.text_parts.specs.Adds.{Adds}
 use Rattle.text_parts.specs.Parts.{AreParts}
 use Rattle.order_repair.specs.OrderText.{IsPartOn}

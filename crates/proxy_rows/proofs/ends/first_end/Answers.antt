@@ -1,7 +1,7 @@
 use Rattle.std.proofs.Common.{◌∙◌, length, refl, sym, arith}
 use Rattle.std.proofs.lemmas.Bool.{both_ways}
 use Rattle.std.proofs.lemmas.Option.{slice_get_read}
-use Rattle.proxy_rows.specs.Ends.{IsWanted}
+use Rattle.proxy_rows.specs.Steps.{IsWanted}
 use Rattle.proxy_rows.specs.Words.{with_rows}
 use Rattle.proxy_rows.proofs.FirstEnds.{end_within, none_at_all, none_more}
 use Rattle.proxy_rows.proofs.Grounds.{counts}
