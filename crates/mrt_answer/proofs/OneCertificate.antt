@@ -24,8 +24,7 @@ same_file islands each certificates input kept router other one two (of, of_is, 
     let again = each (policy input) of router other one.graph one.root one.link_of (kept of of_is) is inside in
     let both : island_of (policy input) of other (Ok two) =
     subst (λ (a : AreaParts). island_of (policy input) a other (Ok two)) (of_is'.0 ∙ sym of_is.0) is' in
-    let same = islands (policy input) of other one.graph two.graph one.root two.root one.link_of two.link_of (kept of of_is) again both in
-    (
+    let same = islands (policy input) of other one.graph two.graph one.root two.root one.link_of two.link_of (kept of of_is) again both in (
       same.0,
       same.1,
       certificates two.graph two.root file second computed'.kept
