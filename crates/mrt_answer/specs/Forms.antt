@@ -106,8 +106,8 @@ of_task (OfRouter asked) input last = of_router asked input
 abbrev pub over : Task → FileBytes → Step (List ℕ)
 over task bytes = input_of bytes.first bytes.profile ▸ λ input. of_task task input bytes.last
 
--- the answers to the lines of a script of deliveries, one after another: the deliveries begin with these packets and with empty
--- databases, and databases are compared under the profile
+-- the answers to the lines of a script of deliveries, one after another: the deliveries begin with these packets, whose LSAs may be
+-- flooded, and with empty databases, and databases are compared under the profile
 abbrev pub delivered : List Update → List Setting → FloodScript → Step (List ℕ)
 delivered updates settings script =
     such (λ text. AllByRecursion MayFlood updates × IsFloodText (Says settings) (started updates script.routers) script.lines text)

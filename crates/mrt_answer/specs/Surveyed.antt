@@ -25,7 +25,7 @@ pub record IsSummedUp (number : ℕ) (graph : Topology) (root : ℕ) (text : Lis
 abbrev pub summed_up_in : ℕ → Input → Step (List ℕ)
 summed_up_in number input = island_in input 1 ▸ λ island. such (IsSummedUp number island.graph island.root)
 
--- the text is that for the network of so many routers
+-- the text is the survey of the network of so many routers that is made from a number
 pub record IsSurveyed (number nodes : ℕ) (text : List ℕ) : Type 0 where
   pub size : IsNetworkSize nodes
   pub island : Island

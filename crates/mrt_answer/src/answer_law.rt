@@ -91,8 +91,8 @@ pub fn what_is_certified_passes()
     one_spelling();
 }
 
-/// A law: routers of one island have one graph, one root and one certificate that is computed for these: it is the one that `certify`
-/// gives for each of them, and that the table of each is of.
+/// A law: for the routers of one island one graph, one root and one certificate are computed. It is the one that `certify` gives for
+/// each of them, and each one's table has its rows of it.
 pub fn an_island_has_one_certificate()
     ensures { (database profile : List ℕ) (input : Input) → input_of database profile (Ok input)
         → (router other : ℕ) (one two : Island) → island_in input router (Ok one) → island_in input other (Ok two)

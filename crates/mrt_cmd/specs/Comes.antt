@@ -38,11 +38,11 @@ of_words held words = read_as_form words ▸ of_form held
 abbrev pub GivesText : Option Files → List (List ℕ) → List ℕ → Type 0
 GivesText held words text = of_words held words (Ok text)
 
--- the words are refused with this exit
+-- the words are refused with this exit: with the usage where they are no form
 abbrev pub IsRefused : Option Files → List (List ℕ) → Exit → Type 0
 IsRefused held words exit = of_words held words (Err exit)
 
--- the exit that tells what came: done, where it is a text
+-- the exit that tells what came: done where it is a text, else the exit itself
 abbrev pub exit_of : Result (List ℕ) Exit → Exit
 exit_of (Ok text) = Done
 exit_of (Err exit) = exit

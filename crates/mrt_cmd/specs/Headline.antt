@@ -5,8 +5,7 @@ use Rattle.mrt_io.specs.Holding.{Files}
 use Rattle.mrt_exit.specs.declared.exit.Exit.{Exit}
 use Rattle.mrt_exit.specs.declared.exit.Exit.TheVariants.{Done, NoMemory, ReadFault, WriteFault}
 use Rattle.flood_verdict.specs.Alike.{ComparesAlike}
-use Rattle.mrt_words.specs.FileBytes.{FileBytes}
-use Rattle.mrt_words.specs.FileBytes.{AreRead}
+use Rattle.mrt_words.specs.FileBytes.{AreRead, FileBytes}
 use Rattle.mrt_cmd.specs.Comes.{GivesText}
 use Rattle.mrt_words.specs.Files.{flood_names}
 use Rattle.mrt_answer.specs.Reading.{HoldsFlood}

@@ -27,6 +27,6 @@ IsAnswer step (Err exit) = IsDue (λ due. step (Err due)) exit
 abbrev pub IsOne : {A : Type 0} → Step A → Type 0
 IsOne step = (answer other : _) → step answer → step other → answer ≡ other
 
--- no other exits come of a step than such
+-- each exit that comes of a step is such a one
 abbrev pub EndsAs : {A : Type 0} → (Exit → Type 0) → Step A → Type 0
 EndsAs Is step = (exit : Exit) → step (Err exit) → Is exit
