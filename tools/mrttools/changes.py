@@ -3,14 +3,15 @@ from __future__ import annotations
 
 from typing import Iterable, Iterator, NamedTuple
 
-from . import asking, cuts, facts, islands, lsas, names
+from . import agreeing, asking, cuts, facts, islands, lsas, names
 from .area import Area, Bond, Node
 from .certificate import COLORS
 from .cuts import Cut
-from .facts import Facts
+from .facts import Facts, Ground
 from .islands import Islands
 from .paths import Graph
 from .program import Program
+from .target import END
 
 SHOWN = 20
 Pair = tuple[Node, Node]
@@ -31,11 +32,11 @@ def side_of(mrt: Program, tell: facts.Tell) -> Side:
     whole = asking.area_of(mrt)
     tell("certificate", 0, 1)
     parts = islands.islands(mrt, whole)
-    found = Facts(Graph(whole), parts.shared)
+    points = cuts.single_points(whole.nodes, whole.bonds)
+    found = Facts(Ground(Graph(whole), parts, points))
     found.read_targets(tell)
-    tell("questions to mrt", 0, 1)
-    facts.agree(mrt, found, islands.some_member(parts, whole))
-    return Side(whole, parts, cuts.single_points(whole.nodes, whole.bonds), found)
+    agreeing.agree(mrt, found, tell)
+    return Side(whole, parts, points, found)
 
 
 # lists
@@ -133,16 +134,14 @@ def hops_of(side: Side, source: Node) -> Iterator[tuple[Node, list[Way | None]]]
     """For each other node of its island where a router sends on blue, on red and by its primary. A network has no
     primary here."""
     found, graph = side.facts, side.facts.graph
-    island = found.island_of.get(source)
-    if island is None:
-        return
-    cert, own = island.certificate, island.certificate.nodes.index(source)
-    for number, node in enumerate(cert.nodes):
-        if node != source:
-            bonds: list[Bond | None] = [island.bonds[cert.link(color, own, number)] for color in range(len(COLORS))]
-            hop = found.hops[graph.number[source]][graph.number[node]]
+    colors, own = found.colors.get(source), graph.number[source]
+    for target in colors.numbers if colors else []:
+        if target != own:
+            bonds: list[Bond | None] = [graph.bonds[colors.link(color, own, target)] for color in range(len(COLORS))]
+            hop, _ = found.rows[own].get(target, (None, ()))
             bonds.append(graph.bonds[hop.bonds[0]] if hop else None)
-            yield node, [(bond.far(source), bond.data_of(source) or 0) if bond else None for bond in bonds]
+            ways = [(bond.far(source), bond.data_of(source) or 0) if bond else None for bond in bonds]
+            yield graph.nodes[target], ways
 
 
 def row_lines(old: Side, new: Side, shown: int | None) -> list[str]:
@@ -170,12 +169,12 @@ def row_lines(old: Side, new: Side, shown: int | None) -> list[str]:
 def repairs(side: Side, which: int) -> dict[Pair, bool]:
     """Whether a color repairs the failure of the first link, or of the next node, of each pair with a primary. Pairs of
     which the next node is the destination have no answer for the node."""
-    found, graph = side.facts, side.facts.graph
+    nodes = side.facts.graph.nodes
     return {
-        (graph.nodes[router], graph.nodes[target]): found.costs[router][which][target] != facts.NONE
-        for router in graph.routers
-        for target, hop in found.hops_of(router)
-        if which == 0 or hop.following != target
+        (nodes[router], nodes[target]): repairs[-which] >= 0
+        for router, rows in side.facts.rows.items()
+        for target, (_, repairs) in rows.items()
+        if repairs[-which] != END
     }
 
 

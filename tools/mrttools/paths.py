@@ -2,7 +2,7 @@
 from __future__ import annotations
 
 from heapq import heapify, heappop, heappush
-from typing import Iterator, NamedTuple
+from typing import Iterable, Iterator, NamedTuple
 
 from .area import Area, Bond, Node, links_at
 from .lsas import NETWORK, ROUTER
@@ -14,11 +14,14 @@ FAR = 1 << 62
 
 
 class Hop:
-    """A primary of a router to its next one: the elements that it meets in their order, and its links among them."""
+    """A primary of a router to its next one: the elements that it meets in their order, also as bits, and its links among
+    them."""
 
     def __init__(self, bonds: list[int], nodes: list[int], links: int) -> None:
         self.bonds, self.following = bonds, nodes[-1]
         self.elements = [element for bond, node in zip(bonds, nodes) for element in (bond, links + node)]
+        self.bits = [1 << element for element in self.elements]
+        self.all = sum(self.bits)
 
 
 class Tree(NamedTuple):
@@ -45,7 +48,14 @@ class Graph:
         for node, arcs in enumerate(self.near):
             for cost, far, bond in arcs:
                 self.into[far].append((cost, node, bond))
-        self.hops: dict[tuple[int, ...], Hop] = {}
+        self.bits = [1 << element for element in range(len(whole.bonds) + len(whole.nodes))]
+        self.networks = [place for place, node in enumerate(whole.nodes) if node.kind == NETWORK]
+        self.hops: dict[tuple[int, int, int], Hop] = {}
+        # What a node sends over by metrics: metric, far node, link, and the primary where that is a router.
+        self.ways = [[self.way(*arc) for arc in arcs] for arcs in self.near]
+
+    def way(self, cost: int, far: int, bond: int) -> tuple[int, int, int, Hop | None]:
+        return cost // METRIC, far, bond, self.hop(far, bond) if self.nodes[far].kind == ROUTER else None
 
     def arcs(self, node: Node) -> Iterator[tuple[int, int, int]]:
         """What a node sends over: cost, far node, link."""
@@ -133,33 +143,42 @@ class Graph:
                     costs[far] = reached
                     heappush(waiting, reached * count + far)
 
-    def primaries(self, target: int, least: dict[int, list[int]]) -> dict[int, Hop]:
-        """The primary of each router to a destination, from the least costs of all routers: the first link in order that
-        begins a shortest way and, over a network, the first one there."""
+    def far_from(self, metrics: Iterable[int]) -> list[int]:
+        """How far each node is from a router by metrics, by how far the routers are; FAR where no way leads."""
         far = [FAR] * len(self.nodes)
-        for router, costs in least.items():
-            if costs[target] != FAR:
-                far[router] = costs[target] // METRIC
-        for node, arcs in enumerate(self.near):
-            if self.nodes[node].kind == NETWORK:
-                far[node] = min((far[other] for _, other, _ in arcs), default=FAR)
-        return {router: self.primary(router, far) for router in least if router != target and far[router] != FAR}
+        for router, metric in zip(self.routers, metrics):
+            far[router] = metric
+        for node in self.networks:
+            far[node] = min((far[other] for _, other, _ in self.near[node]), default=FAR)
+        return far
 
-    def primary(self, router: int, far: list[int]) -> Hop:
-        """The primary of a router by how far each node is from the destination."""
-        after, bond = self.first(router, far)
-        way, nodes = [bond], [after]
-        if self.nodes[after].kind == NETWORK:
-            after, bond = self.first(after, far)
-            way, nodes = [*way, bond], [*nodes, after]
-        key = tuple(way)
-        if key not in self.hops or self.hops[key].following != after:
+    def primaries(self, target: int, far: list[int]) -> dict[int, Hop]:
+        """The primary of each router to a destination by how far all nodes are from it: the first link in order that
+        begins a shortest way and, over a network, the first one there. The nearest routers come first."""
+        second = {node: self.first(node, far) for node in self.networks if far[node] < FAR}
+        routers = [router for router in self.routers if far[router] < FAR and router != target]
+        routers.sort(key=far.__getitem__)
+        found, ways = {}, self.ways
+        for router in routers:
+            own = far[router]
+            for metric, to, bond, hop in ways[router]:
+                if metric + far[to] == own:
+                    found[router] = hop or self.hop(to, bond, second[to])
+                    break
+        return found
+
+    def hop(self, to: int, bond: int, second: tuple[int, int] | None = None) -> Hop:
+        """A primary over a link and, after a network, over a second one."""
+        after, last = second or (to, bond)
+        key = (to, bond, last)
+        if key not in self.hops:
+            way, nodes = ([bond, last], [to, after]) if second else ([bond], [to])
             self.hops[key] = Hop(way, nodes, len(self.bonds))
         return self.hops[key]
 
     def first(self, node: int, far: list[int]) -> tuple[int, int]:
         """The first arc of a node in order that begins a shortest way: its far node and link."""
-        return next((to, bond) for cost, to, bond in self.near[node] if cost // METRIC + far[to] == far[node])
+        return next((to, bond) for metric, to, bond, _ in self.ways[node] if metric + far[to] == far[node])
 
     def neighbours(self, router: int) -> list[tuple[int, int]]:
         """The routers that a router can send to in one hop, each with the first link to it."""

@@ -1,19 +1,25 @@
 """The facts of an area as plain values, for the page and for programs. `docs/report.schema.json` says what they are."""
 from __future__ import annotations
 
-from typing import Any, NamedTuple, Sequence
+from typing import Any, NamedTuple
 
-from . import asking, cuts, facts, islands, lsas
+from . import agreeing, asking, cuts, facts, islands, lsas, origin, stretches
+from .agreeing import Asked
 from .area import Area, Bond, Node
+from .causes import Cause, Causes
 from .certificate import COLORS
 from .cuts import Cut
-from .facts import Facts, Stretched
+from .demand import EVEN, Demand
+from .facts import Facts, Ground
 from .islands import Islands
+from .losses import Tally
 from .lsas import ROUTER
 from .paths import METRIC, Graph
 from .program import Program
+from .stretches import Stretched
+from .target import routers_of, size_of
 
-VERSION = 1
+VERSION = 2
 Values = dict[str, Any]
 
 
@@ -24,7 +30,8 @@ class Found(NamedTuple):
     islands: Islands
     cuts: list[Cut]
     facts: Facts
-    asked: int
+    tallies: dict[Causes, Tally]
+    asked: Asked
 
 
 def element_values(element: Node | Bond) -> Values:
@@ -32,14 +39,6 @@ def element_values(element: Node | Bond) -> Values:
     if isinstance(element, Bond):
         return {"element": element.text, "kind": "link", "ends": [element.a.text, element.b.text]}
     return {"element": element.text, "kind": "router" if element.kind == ROUTER else "network"}
-
-
-def link_text(bond: Bond) -> str:
-    return f"{bond.a.text} \u2013 {bond.b.text}"
-
-
-def by_names(links: Sequence[cuts.Link]) -> list[list[str]]:
-    return [[a.text, b.text] for a, b in links]
 
 
 # the area
@@ -81,36 +80,59 @@ def area_values(found: Found) -> Values:
     }
 
 
-def cut_values(cut: Cut, also: int) -> Values:
+def cut_values(cut: Cut) -> Values:
     return element_values(cut.element) | {
         "pairs": cut.pairs,
         "sides": [[node.text for node in side] for side in cut.sides],
-        "mend": by_names(cut.mends),
-        "also_mends": also,
     }
 
 
-def not_repaired(found: Found) -> list[Values]:
-    """The failures after which colors lose more pairs than the failure parts, the most such pairs first."""
-    graph, lost = found.facts.graph, found.facts.lost
-    parted = {graph.element(cut.element): cut.pairs for cut in found.cuts}
-    more = [(parted.get(element, 0) - count, element) for element, count in lost.items()]
-    return [
-        element_values(graph.of_element(element)) | {"pairs": lost[element], "parted": parted.get(element, 0)}
-        for fewer, element in sorted(more)
-        if fewer < 0
-    ]
-
-
 # pairs
+
+
+def pair_values(found: Facts) -> Values:
+    """How many pairs are in each class, by number and by what they send."""
+    graph, demand = found.graph, found.ground.demand
+    counts, sent = [0, 0, 0], [0.0, 0.0, 0.0]
+    for target, *classes in found.losses.classes():
+        for place, bits in enumerate(classes):
+            counts[place] += size_of(bits)
+            if demand.told:
+                sent[place] += sum(demand.of(graph.nodes[each], graph.nodes[target]) for each in routers_of(bits))
+    names = "repaired", "parted", "gaps"
+    return {
+        "all": sum(counts),
+        **dict(zip(names, counts)),
+        "demand": dict(zip(names, sent)) if demand.told else None,
+    }
+
+
+def cause_values(cause: Cause) -> Values:
+    return element_values(cause.element) | {"cause": cause.kind, "by_choice": cause.by_choice}
+
+
+def gap_values(found: Found) -> list[Values]:
+    """Why pairs are not repaired that could be, the most such pairs first."""
+    nodes = found.facts.graph.nodes
+    tallies = sorted(found.tallies.items(), key=lambda each: (-each[1].pairs, each[0]))
+    return [
+        {
+            "causes": list(map(cause_values, causes)),
+            "by_choice": bool(causes) and all(cause.by_choice for cause in causes),
+            "pairs": tally.pairs,
+            "alone": tally.alone,
+            "shown": [[nodes[one].text, nodes[other].text] for one, other in tally.shown],
+        }
+        for causes, tally in tallies
+    ]
 
 
 def coverage_values(coverage: facts.Coverage) -> Values:
     return {
         "pairs": coverage.pairs,
         "pairs_past_next_node": coverage.node_pairs,
-        "first_link": {"lfa": coverage.lfa_link, "colors": coverage.colors_link},
-        "next_node": {"lfa": coverage.lfa_node, "colors": coverage.colors_node},
+        "first_link": {"open": coverage.open_link, "lfa": coverage.lfa_link, "colors": coverage.colors_link},
+        "next_node": {"open": coverage.open_node, "lfa": coverage.lfa_node, "colors": coverage.colors_node},
     }
 
 
@@ -119,6 +141,9 @@ def all_coverage(found: Facts) -> Values:
     for coverage in found.coverage.values():
         total.add(coverage)
     return coverage_values(total)
+
+
+# stretch and load
 
 
 def stretched_values(found: Facts, each: Stretched) -> Values:
@@ -133,33 +158,35 @@ def stretched_values(found: Facts, each: Stretched) -> Values:
         "ratio": round(each.ratio, 3),
         "hops": each.cost % METRIC,
         "least_hops": each.least % METRIC,
-        "trace": ["failed", "entered 0", *facts.trace(found, each.router, each.target, each.failed)],
+        "trace": ["failed", "entered 0", *agreeing.trace(found, each.router, each.target, each.failed)],
     }
 
 
 def stretch_values(found: Facts) -> Values:
-    ratios = facts.quartiles(found.ratios)
+    own = found.stretches
+    weights = own.weights if found.ground.demand.told else None
+    ratios, hops = stretches.Spread(own.ratios, weights), stretches.Spread(own.more_hops, weights)
+    quartiles = ratios.quartiles()
     return {
-        "repairs": len(found.ratios),
-        "metric": ratios and [round(ratio, 3) for ratio in ratios],
-        "more_hops": facts.quartiles(found.more_hops),
-        "worst": [stretched_values(found, each) for each in found.worst],
+        "repairs": len(own.ratios),
+        "metric": quartiles and [round(ratio, 3) for ratio in quartiles],
+        "more_hops": hops.quartiles(),
+        "metric_bars": bars(ratios, stretches.RATIOS),
+        "hops_bars": bars(hops, stretches.HOPS),
+        "worst": [stretched_values(found, each) for each in own.worst],
     }
+
+
+def bars(spread: stretches.Spread, ends: tuple[float, ...]) -> list[Values]:
+    return [{"up_to": end, "repairs": count} for end, count in zip([*ends, None], spread.bars(ends))]
 
 
 def load_values(found: Facts) -> list[Values]:
     """The load of each link, and the failure after which it is most."""
     graph, values = found.graph, []
-    most = [(facts.NONE, facts.NONE)] * len(graph.bonds)
-    for failed, change in sorted(found.changes.items()):
-        for bond, more in enumerate(change):
-            if bond != failed and (most[bond][1] == facts.NONE or more > most[bond][0]):
-                most[bond] = more, failed
-    for bond, (more, failed) in enumerate(most):
-        own = {"primaries": found.load[bond], "most": found.load[bond], "failed": None}
-        if failed != facts.NONE:
-            own |= {"most": found.load[bond] + more, "failed": facts.name_of(graph, failed)}
-        values.append(element_values(graph.bonds[bond]) | own)
+    for bond, load, most in zip(graph.bonds, found.loads.load, found.loads.most()):
+        failed = None if most.failed is None else facts.name_of(graph, most.failed)
+        values.append(element_values(bond) | {"primaries": load, "most": most.load, "failed": failed})
     return values
 
 
@@ -170,43 +197,90 @@ def part_of(node: Node, found: Found) -> str:
     """Which part a router takes."""
     if node in found.islands.unsupported:
         return "no-mrt"
-    if node in found.islands.alone:
-        return "alone"
-    island = found.facts.island_of[node]
-    return "root" if node == island.certificate.root else "member"
+    return "alone" if node in found.islands.alone else "member"
 
 
 def router_values(found: Found) -> list[Values]:
     graph, values = found.facts.graph, []
     cut = {each.element for each in found.cuts}
+    roots = {node: island.certificate.root for island in found.islands.shared for node in island.certificate.nodes}
+    counts = {router: [0, 0, 0] for router in graph.routers}
+    for _, *classes in found.facts.losses.classes():
+        for place, bits in enumerate(classes):
+            for router in routers_of(bits):
+                counts[router][place] += 1
     for router in graph.routers:
         node = graph.nodes[router]
-        island = found.facts.island_of.get(node)
-        values.append(
-            {
-                "router": node.text,
-                "part": part_of(node, found),
-                "root": island.certificate.root.text if island else None,
-                "links": len(graph.links[node]),
-                "single_point": node in cut,
-                "pairs_lost": found.facts.lost.get(graph.element(node), 0),
-            }
-            | coverage_values(found.facts.coverage[router])
-        )
+        own = {
+            "router": node.text,
+            "part": "root" if roots.get(node) == node else part_of(node, found),
+            "root": roots[node].text if node in roots else None,
+            "links": len(graph.links[node]),
+            "single_point": node in cut,
+            "classes": dict(zip(("repaired", "parted", "gaps"), counts[router])),
+        }
+        values.append(own | coverage_values(found.facts.coverage[router]))
     return values
 
 
-def report_values(found: Found) -> Values:
+# failures
+
+
+def failure_values(found: Facts, element: int) -> Values:
+    """What a failure costs."""
+    graph, toll = found.graph, found.losses.tolls[element]
+    nodes, longest = graph.nodes, found.stretches.longest.get(element)
+    state = "gap" if toll.gaps else "parts" if toll.parted else "repaired" if toll.met else "unused"
+    return element_values(graph.of_element(element)) | {
+        "state": state,
+        "pairs": toll.met,
+        "repaired": toll.met - toll.parted - toll.gaps,
+        "parted": toll.parted,
+        "gaps": toll.gaps,
+        "from": size_of(toll.met_from),
+        "to": size_of(toll.met_to),
+        "switch": [
+            {"router": nodes[router].text, "blue": blue, "red": red, "gaps": gaps, "parted": parted}
+            for router, (blue, red, gaps, parted) in sorted(toll.rows.items())
+        ],
+        "longest": longest
+        and {
+            "ratio": round(longest.ratio, 3),
+            "mean": round(longest.total / longest.count, 3),
+            "from": nodes[longest.router].text,
+            "to": nodes[longest.target].text,
+        },
+        "fullest": [
+            {"link": facts.name_of(graph, bond), "before": found.loads.load[bond], "more": more}
+            for bond, more in found.loads.fullest(element)
+        ],
+        "shown": [[nodes[one].text, nodes[other].text] for one, other in toll.shown],
+    }
+
+
+STATES = "gap", "parts", "repaired", "unused"
+
+
+def all_failures(found: Facts) -> list[Values]:
+    """All failures, first those that are not repaired though there is a way, then those that part pairs; the most such
+    pairs first."""
+    values = [failure_values(found, element) for element in range(len(found.losses.tolls))]
+    return sorted(values, key=lambda each: (STATES.index(each["state"]), -each["gaps"], -each["parted"], -each["pairs"]))
+
+
+def report_values(found: Found, made: Values) -> Values:
     """The whole report."""
     loads = load_values(found.facts)
     growing = sorted(loads, key=lambda link: (link["primaries"] - link["most"], link["element"]))
     return {
         "format": "semborui-report",
         "version": VERSION,
+        "made": made,
+        "pairs": pair_values(found.facts),
+        "gaps": gap_values(found),
         "area": area_values(found),
-        "single_points": [cut_values(*each) for each in zip(found.cuts, cuts.also_mended(found.cuts))],
-        "mend_all": by_names(cuts.mending_all(found.area.nodes, found.area.bonds)),
-        "not_repaired": not_repaired(found),
+        "single_points": list(map(cut_values, found.cuts)),
+        "failures": all_failures(found.facts),
         "coverage": all_coverage(found.facts),
         "stretch": stretch_values(found.facts),
         "load": {
@@ -214,22 +288,16 @@ def report_values(found: Found) -> Values:
             "growing": [link["element"] for link in growing[:10] if link["most"] > link["primaries"]],
         },
         "routers": router_values(found),
-        "asked_of_mrt": found.asked,
+        "asked_of_mrt": found.asked._asdict(),
     }
 
 
-def find(mrt: Program, tell: facts.Tell) -> Found:
+def find(mrt: Program, tell: facts.Tell, demand: Demand = EVEN) -> Found:
     """All that a report stands on."""
     whole = asking.area_of(mrt)
     tell("certificate", 0, 1)
     parts = islands.islands(mrt, whole)
-    graph = Graph(whole)
-    found_facts = facts.facts_of(graph, [*parts.shared], tell)
-    tell("questions to mrt", 0, 1)
-    return Found(
-        whole,
-        parts,
-        cuts.single_points(whole.nodes, whole.bonds),
-        found_facts,
-        facts.agree(mrt, found_facts, islands.some_member(parts, whole)),
-    )
+    points = cuts.single_points(whole.nodes, whole.bonds)
+    own = facts.facts_of(Ground(Graph(whole), parts, points, demand), tell)
+    asked = agreeing.agree(mrt, own, tell)
+    return Found(whole, parts, points, own, own.losses.tallies(), asked)

@@ -51,18 +51,15 @@ class ByHand(unittest.TestCase):
         found = points(area_of([(1, 2), (2, 3)]))
         self.assertEqual([cut.pairs for cut in found], [4, 4, 2])
         self.assertEqual([isinstance(cut.element, Bond) for cut in found], [True, True, False])
-        self.assertEqual((found[2].element, found[2].mends), (node(2), [(node(1), node(3))]))
+        self.assertEqual(found[2].element, node(2))
         self.assertEqual(found[0].sides, [[node(2), node(3)], [node(1)]])
-        # The farthest routers, so that one link mends all three.
-        self.assertTrue(all(cut.is_mended_by([(node(1), node(3))]) for cut in found))
 
-    def test_a_star_needs_as_many_links_as_sides_but_one(self) -> None:
+    def test_a_star_has_a_side_for_each_leaf(self) -> None:
         hub = points(area_of([(1, 2), (1, 3), (1, 4)]))[0]
-        self.assertEqual((hub.element, hub.pairs, len(hub.mends)), (node(1), 6, 2))
+        self.assertEqual((hub.element, hub.pairs, len(hub.sides)), (node(1), 6, 3))
 
     def test_a_ring_has_none(self) -> None:
-        ring = area_of([(1, 2), (2, 3), (1, 3)])
-        self.assertEqual((points(ring), cuts.mending_all(ring.nodes, ring.bonds)), ([], []))
+        self.assertEqual(points(area_of([(1, 2), (2, 3), (1, 3)])), [])
 
     def test_parallel_links_part_nothing(self) -> None:
         self.assertEqual(points(area_of([(1, 2), (1, 2)])), [])
@@ -70,7 +67,7 @@ class ByHand(unittest.TestCase):
     def test_a_lan_is_a_single_point(self) -> None:
         whole = area_of([], [[1, 2, 3]])
         lan = points(whole)[0]
-        self.assertEqual((lan.element, lan.pairs, len(lan.mends)), (lan_of(0), 6, 2))
+        self.assertEqual((lan.element, lan.pairs, len(lan.sides)), (lan_of(0), 6, 3))
         self.assertEqual(len(points(whole)), 4)
 
     def test_a_lan_with_one_router_parts_no_routers(self) -> None:
@@ -82,22 +79,15 @@ class ByHand(unittest.TestCase):
         whole = area.area_of(map(lsas.lsa_of, [one, other]))
         self.assertEqual([cut.pairs for cut in points(whole)], [1])
 
-    def test_two_leaves_are_mended_by_the_link_between_them(self) -> None:
-        whole = area_of([(1, 2), (2, 3), (1, 3), (1, 4), (2, 5)])
-        self.assertEqual(cuts.mending_all(whole.nodes, whole.bonds), [(node(4), node(5))])
 
-
-def connected(whole: Area, gone: Node | Bond | None, links: list[cuts.Link] = []) -> set[tuple[Node, Node]]:
-    """The pairs of routers that a walk joins without what is gone, with new links, by a plain search."""
+def connected(whole: Area, gone: Node | Bond | None) -> set[tuple[Node, Node]]:
+    """The pairs of routers that a walk joins without what is gone, by a plain search."""
     near: dict[Node, set[Node]] = {each: set() for each in whole.nodes}
     for bond in whole.bonds:
         if bond != gone:
             near[bond.a].add(bond.b)
             if bond.two_way:
                 near[bond.b].add(bond.a)
-    for a, b in links:
-        near[a].add(b)
-        near[b].add(a)
     routers = [each for each in whole.nodes if each.kind == lsas.ROUTER and each != gone]
     pairs = set()
     for start in routers:
@@ -127,35 +117,18 @@ class BesideAPlainSearch(unittest.TestCase):
             for element in [*whole.nodes, *whole.bonds]:
                 parted = {pair for pair in before - connected(whole, element) if element not in pair}
                 self.assertEqual(found[element].pairs if element in found else 0, len(parted))
-                if element in found:
-                    self.check_mends(whole, found[element], parted)
-                    seen += 1
+                seen += element in found
         self.assertGreater(seen, 300)
 
-    def check_mends(self, whole: Area, cut: Cut, parted: set[tuple[Node, Node]]) -> None:
-        """The links join all, and they are one fewer than the sides, without which a side would be left."""
-        self.assertLessEqual(parted, connected(whole, cut.element, cut.mends))
-        self.assertEqual(len(cut.mends), len(cut.sides) - 1)
-        self.assertEqual(cut.pairs, len(parted))
-
-    def test_what_mends_all(self) -> None:
+    def test_sides(self) -> None:
+        """Routers of one side are joined without what has failed, and those of two are not."""
         random = Random(56)
         for _ in range(60):
             whole = random_area(random)
-            links = cuts.mending_all(whole.nodes, whole.bonds)
-            more = [Bond(min(link), max(link), 0, 0, 1, 1) for link in links]
-            mended = Area(whole.nodes, [*whole.bonds, *more])
-            self.assertEqual(points(mended), [])
-            self.assertEqual(connected(mended, None), connected(whole, None))
-
-    def test_also_mended(self) -> None:
-        random = Random(57)
-        for _ in range(60):
-            whole = random_area(random)
-            found = points(whole)
-            for cut, also in list(zip(found, cuts.also_mended(found)))[:3]:
-                self.assertEqual(also, sum(other.is_mended_by(cut.mends) for other in found) - 1)
-                for other in found:
-                    parted = {pair for pair in connected(whole, None) if other.element not in pair}
-                    mended = parted <= connected(whole, other.element, cut.mends)
-                    self.assertEqual(other.is_mended_by(cut.mends), mended)
+            if any(not bond.two_way for bond in whole.bonds):
+                continue
+            for cut in points(whole):
+                joined = connected(whole, cut.element)
+                for one, side in cut.side_of().items():
+                    for other, its in cut.side_of().items():
+                        self.assertEqual((one, other) in joined, side == its and one != other)

@@ -10,35 +10,16 @@ from io import StringIO
 from random import Random
 from typing import Any
 
-from mrttools import area, facts, islands, lsas, markup, reporting
+from mrttools import agreeing, area, facts, islands, lsas, reporting
 from mrttools.area import Bond, Node
 from mrttools.paths import FAR, METRIC, Graph
 from mrttools.progress import Progress
 from mrttools.program import Program
+from mrttools.stretches import Spread
 from tests.making import DATA, MRT, TOOLS, router_lsa
-from tests.test_cuts import name, records_of
+from tests.test_cuts import connected, name, records_of
 
 SCHEMA = os.path.join(os.path.dirname(TOOLS), "docs", "report.schema.json")
-
-
-def faults(value: Any, schema: Any, at: str = "") -> list[str]:
-    """Where a value is not as a schema says; of schemas what ours use."""
-    if "anyOf" in schema:
-        return min((faults(value, one, at) for one in schema["anyOf"]), key=len)
-    if "enum" in schema:
-        return [] if value in schema["enum"] else [f"{at}: {value}"]
-    kinds = {"object": dict, "array": list, "string": str, "integer": int, "number": (int, float), "boolean": bool}
-    kind = schema["type"]
-    if kind == "null" or not isinstance(value, kinds.get(kind, object)) or (kind == "integer" and value is True):
-        return [] if kind == "null" and value is None else [f"{at}: no {kind}"]
-    if kind == "array":
-        return [fault for each in value for fault in faults(each, schema["items"], f"{at}[]")]
-    if kind != "object":
-        return []
-    known = schema["properties"]
-    found = [f"{at}.{key}: missing" for key in schema["required"] if key not in value]
-    found += [f"{at}.{key}: not known" for key in value if key not in known]
-    return found + [fault for key in value if key in known for fault in faults(value[key], known[key], f"{at}.{key}")]
 
 
 def run_report(*words: str) -> subprocess.CompletedProcess[str]:
@@ -59,12 +40,17 @@ class Sample(unittest.TestCase):
         self.assertEqual((self.done.returncode, self.done.stderr), (0, ""))
 
     def test_the_schema(self) -> None:
+        try:
+            import jsonschema
+        except ImportError:
+            self.skipTest("python3-jsonschema is not installed")
         with open(SCHEMA, encoding="utf-8") as file:
             schema = json.load(file)
-        self.assertEqual(faults(self.values, schema), [])
-        del self.values["area"]["islands"][0]["root"]
-        self.assertEqual(faults(self.values, schema), [".area.islands[].root: missing"])
-        self.setUpClass()
+        jsonschema.Draft202012Validator.check_schema(schema)
+        checked = jsonschema.Draft202012Validator(schema)
+        self.assertEqual([fault.message for fault in checked.iter_errors(self.values)], [])
+        for wrong in ({"verdict": "well"}, {"more": 1}, {"pairs": {}}):
+            self.assertFalse(checked.is_valid(self.values | wrong))
 
     def test_the_area(self) -> None:
         found = self.values["area"]
@@ -88,12 +74,20 @@ class Sample(unittest.TestCase):
                 ("10.255.1.3", 8),
             ],
         )
-        self.assertEqual(self.values["mend_all"], [["10.255.1.1", "10.255.1.6"]])
 
     def test_not_repaired_though_there_is_a_way(self) -> None:
         """10.255.1.4 has a second link, which the profile keeps out."""
-        found = {each["element"]: (each["pairs"], each["parted"]) for each in self.values["not_repaired"]}
-        self.assertEqual(found, {"link:10.255.1.4/198.51.100.4": (12, 0), "net:198.51.100.4": (22, 16)})
+        found = {each["element"]: (each["gaps"], each["parted"]) for each in self.values["failures"] if each["gaps"]}
+        self.assertEqual(found, {"link:10.255.1.4/198.51.100.4": (12, 0), "net:198.51.100.4": (6, 16)})
+        (gap,) = self.values["gaps"]
+        self.assertEqual([(cause["cause"], cause["element"]) for cause in gap["causes"]], [("ineligible", "link:10.255.1.4/192.0.2.13")])
+
+    def test_pairs_are_counted_once(self) -> None:
+        """Those of 10.255.1.4 but with 10.255.1.3 and 10.255.1.6 on one side of the LAN could be repaired; those of the
+        other four with these two, and of these two with each other, cannot be."""
+        pairs = self.values["pairs"]
+        self.assertEqual((pairs["all"], pairs["repaired"] + pairs["parted"] + pairs["gaps"]), (30, 30))
+        self.assertEqual(self.values["verdict"], "protected")
 
     def test_routers(self) -> None:
         found = {router["router"]: router for router in self.values["routers"]}
@@ -101,19 +95,6 @@ class Sample(unittest.TestCase):
         # All of its packets go over its one link, which nothing replaces.
         self.assertEqual((found["10.255.1.6"]["pairs"], found["10.255.1.6"]["first_link"]["colors"]), (5, 0))
         self.assertEqual([name for name, router in found.items() if router["single_point"]], ["10.255.1.3"])
-
-    @unittest.skipUnless(shutil.which("dot"), "graphviz is not installed")
-    def test_the_page(self) -> None:
-        with tempfile.NamedTemporaryFile("w", suffix=".names") as file:
-            file.write("10.255.1.3 <script>alert(1)</script>\n")
-            file.flush()
-            done = run_report("--names", file.name, "--title", "a & b", f"{DATA}/lan.lsas", f"{DATA}/lan.profile")
-        self.assertEqual((done.returncode, done.stderr), (0, ""))
-        self.assertNotIn("<script", done.stdout)
-        self.assertIn("&lt;script&gt;alert(1)&lt;/script&gt; (10.255.1.3)", done.stdout)
-        self.assertIn("<title>a &amp; b</title>", done.stdout)
-        for word in ("src=", "http://", "https://", "@import"):
-            self.assertNotIn(word, done.stdout.replace('xmlns="http://www.w3.org/2000/svg"', ""))
 
 
 @unittest.skipUnless(os.access(MRT, os.X_OK), "the program is not built")
@@ -137,7 +118,7 @@ class SmallAreas(unittest.TestCase):
         values = self.values_of(records_of([(1, 2), (3, 4)], [], [10]))
         self.assertEqual([island["root"] for island in values["area"]["islands"]], [name(2), name(4)])
         self.assertEqual((values["area"]["pairs"], values["area"]["pairs_without_way"]), (4, 8))
-        self.assertEqual(values["mend_all"], [[name(1), name(2)], [name(3), name(4)]])
+        self.assertEqual(values["pairs"], {"all": 4, "repaired": 0, "parted": 4, "gaps": 0, "demand": None})
 
 
 class Written:
@@ -196,7 +177,7 @@ class BesideTheProgram(unittest.TestCase):
             self.assertEqual(own.colors_link, sum(line[-1][0] != "-" for line in table))
             self.assertEqual(own.colors_node, sum(line[-1][-1] != "-" for line in table))
             for line in table:
-                hop = one.facts.hops[router][one.graph.number[area.node_of(line[0])]]
+                hop, _ = one.facts.rows[router][one.graph.number[area.node_of(line[0])]]
                 bond = one.graph.bonds[hop.bonds[0]]
                 wanted = (
                     f"{bond.far(one.graph.nodes[router]).text}/{lsas.spelled(bond.data_of(one.graph.nodes[router]))}"
@@ -209,11 +190,11 @@ class BesideTheProgram(unittest.TestCase):
         def check(one: Written) -> None:
             pairs = [(router, target) for router in one.graph.routers for target, _ in one.facts.hops_of(router)]
             for router, target in random.sample(pairs, min(4, len(pairs))):
-                failed = random.choice(one.facts.hops[router][target].elements)
+                failed = random.choice(one.facts.rows[router][target][0].elements)
                 texts = [one.graph.nodes[each].text for each in (router, target)]
                 words = [*texts, "repair", facts.name_of(one.graph, failed)]
                 told = one.lines("trace", one.database, one.mrt.profile, *words)[1:]
-                own = facts.trace(one.facts, router, target, failed)
+                own = agreeing.trace(one.facts, router, target, failed)
                 self.assertEqual([" ".join(line) for line in told], own)
 
         written(3, check, 6)
@@ -234,7 +215,12 @@ class BesideAPlainSearch(unittest.TestCase):
             others = [load[place] for failed, (load, _) in loads.items() if failed not in (None, place)]
             self.assertEqual(own["most"], max(others))
         for failed in elements[1:]:
-            self.assertEqual(one.facts.lost.get(failed, 0), loads[failed][1])
+            toll = one.facts.losses.tolls[failed]
+            self.assertEqual(toll.parted + toll.gaps, loads[failed][1])
+            change = one.facts.loads.changes.get(failed, [0] * len(one.graph.bonds))
+            after = [before + more for before, more in zip(one.facts.loads.load, change)]
+            if failed >= len(one.graph.bonds):
+                self.assertEqual(after, loads[failed][0])
 
     def loads_after(self, one: Written, failed: int | None) -> tuple[list[int], int]:
         """The load of each link after a failure, and how many pairs lose packets but for those whose end has failed."""
@@ -254,7 +240,7 @@ class BesideAPlainSearch(unittest.TestCase):
         """The links that a packet goes over, and whether it arrives."""
         nodes, bonds, at = one.graph.nodes, [], router
         while at != target:
-            hop = one.facts.hops[at][target]
+            hop, _ = one.facts.rows[at][target]
             if gone is not None and one.graph.element(gone) in hop.elements:
                 for color in (0, 1):
                     way = self.color_way(one, nodes[at], nodes[target], color, gone)
@@ -277,6 +263,54 @@ class BesideAPlainSearch(unittest.TestCase):
                 return None
             way.append(bond)
         return way
+
+    def test_classes_of_pairs(self) -> None:
+        self.gaps = 0
+        written(6, self.check_classes, 40)
+        self.assertGreater(self.gaps, 100)
+
+    def check_classes(self, one: Written) -> None:
+        """Each pair after each failure: whether its packet arrives, and whether there is a way in the area."""
+        classes: dict[tuple[int, int], str] = {}
+        nodes = one.graph.nodes
+        for failed in range(len(one.graph.bonds) + len(nodes)):
+            gone, toll = one.graph.of_element(failed), one.facts.losses.tolls[failed]
+            joined, counts = connected(one.found.area, gone), [0, 0]
+            for router in one.graph.routers:
+                for target, _ in one.facts.hops_of(router):
+                    pair = router, target
+                    classes.setdefault(pair, "repaired")
+                    if gone in (nodes[router], nodes[target]) or self.follow(one, router, target, gone)[1]:
+                        continue
+                    way = (nodes[router], nodes[target]) in joined
+                    counts[way] += 1
+                    classes[pair] = "gaps" if way or classes[pair] == "gaps" else "parted"
+            self.assertEqual((toll.parted, toll.gaps), tuple(counts))
+        told = reporting.pair_values(one.facts)
+        for word in ("repaired", "parted", "gaps"):
+            self.assertEqual(told[word], list(classes.values()).count(word))
+        self.assertEqual(sum(tally.pairs for tally in one.found.tallies.values()), told["gaps"])
+        self.assertNotIn((), one.found.tallies)
+        self.gaps += told["gaps"]
+
+    def test_without_a_cause_more_pairs_are_repaired(self) -> None:
+        """Where a cause alone holds pairs, the area without it has as many more at least that are repaired."""
+        self.tried = 0
+        written(7, self.check_alone, 40)
+        self.assertGreater(self.tried, 5)
+
+    def check_alone(self, one: Written) -> None:
+        with open(one.mrt.profile, encoding="ascii") as file:
+            lines = file.read()
+        for causes, tally in one.found.tallies.items():
+            if lines and all(cause.by_choice for cause in causes):
+                found = reporting.find(Program(MRT, one.database, "-"), lambda *_: None)
+                more = reporting.pair_values(found.facts)["repaired"] - reporting.pair_values(one.facts)["repaired"]
+                self.assertGreaterEqual(more, tally.alone)
+                if all(bond.transit for bond in one.graph.bonds):
+                    # Nothing else could be the cause.
+                    self.assertEqual(more, tally.alone)
+                    self.tried += 1
 
     def test_the_least_ways(self) -> None:
         written(5, self.check_least, 8)
@@ -307,15 +341,14 @@ def plain_costs(graph: Graph, router: int, gone: Node | Bond | None) -> list[int
 
 class Parts(unittest.TestCase):
     def test_quartiles(self) -> None:
-        self.assertEqual(facts.quartiles([]), None)
-        self.assertEqual(facts.quartiles([5, 1, 4, 2, 3]), [1, 2, 3, 4, 5])
-        self.assertEqual(facts.quartiles([7]), [7] * 5)
+        self.assertEqual(Spread([]).quartiles(), None)
+        self.assertEqual(Spread([5, 1, 4, 2, 3]).quartiles(), [1, 2, 3, 4, 5])
+        self.assertEqual(Spread([7]).quartiles(), [7] * 5)
+        self.assertEqual(Spread([1, 2, 9], [0, 3, 1]).quartiles(), [2, 2, 2, 2, 9])
 
-    def test_a_share_that_is_not_all_is_not_told_as_all(self) -> None:
-        self.assertEqual(
-            [markup.percent(*each) for each in ((9999, 10000), (1, 10000), (3, 3), (0, 3), (0, 0))],
-            ["99.9 %", "0.1 %", "100 %", "0 %", "\u2013"],
-        )
+    def test_bars(self) -> None:
+        self.assertEqual(Spread([1, 1, 2, 3, 9]).bars((1, 2, 5)), [2, 1, 1, 1])
+        self.assertEqual(Spread([1, 2, 9], [0.5, 2, 4]).bars((1, 5)), [0.5, 2, 4])
 
     def test_a_link_of_the_greatest_metric_is_in_no_island(self) -> None:
         records = records_of([(1, 2), (1, 2)], [], [area.MAINTENANCE, 10, 10, 10])
@@ -365,13 +398,11 @@ class TheTool(unittest.TestCase):
         self.assertEqual(done.returncode, 3)
 
     def test_a_program_that_says_otherwise(self) -> None:
-        script = f"case $1 in certify) cat {DATA}/lan.cert ;; *) sed -n 's/^step.*/lost inside/p; s/^inject.*/entered/p; s/^fail.*/failed/p' $4;; esac\n"
+        script = f"case $1 in certify) cat {DATA}/lan.cert ;; *) echo router; echo 10.255.1.2 head blue ;; esac\n"
         done = self.run_with(script, "--json")
         output, told = done.communicate()
         self.assertEqual((done.returncode, output), (1, ""))
-        self.assertTrue(
-            told.startswith("report: mrt sends from 10.255.1.1 to 10.255.1.2 another way: lost inside"), told
-        )
+        self.assertTrue(told.startswith("report: mrt says otherwise of 10.255.1.1: 10.255.1.2 blue, and not"), told)
 
     def test_it_can_be_interrupted(self) -> None:
         done = self.run_with("touch $(dirname $0)/started; exec sleep 20\n")

@@ -1,0 +1,202 @@
+"""The report's page: what its first line says, names as hostile input, links, tables, and what it says without a library."""
+import json
+import os
+import re
+import shutil
+import subprocess
+import tempfile
+import unittest
+from html.parser import HTMLParser
+from typing import Any
+
+from mrttools import page, verdict
+from tests.making import DATA, MRT, TOOLS, router_lsa
+from tests.test_cuts import name, records_of
+from tests.test_report import run_report
+
+try:
+    import jinja2
+except ImportError:
+    jinja2 = None
+
+# A ring of three, and a fourth router on two of them.
+FOUR = [(1, 2), (2, 3), (1, 3), (3, 4), (1, 4)]
+
+
+class Page(HTMLParser):
+    """A page as its elements: what is open where, texts, links and places."""
+
+    def __init__(self, text: str) -> None:
+        super().__init__()
+        self.open: list[str] = []
+        self.found: list[tuple[str, dict[str, Any]]] = []
+        self.text: dict[str, str] = {}
+        self.inside: str | None = None
+        self.feed(text)
+
+    def handle_starttag(self, tag: str, attrs: Any) -> None:
+        self.found.append((tag, dict(attrs)))
+        if dict(attrs).get("id"):
+            self.inside = dict(attrs)["id"]
+
+    def handle_data(self, data: str) -> None:
+        self.text[self.inside] = self.text.get(self.inside, "") + data
+
+    def all(self, tag: str) -> list[dict[str, Any]]:
+        return [attrs for found, attrs in self.found if found == tag]
+
+    def of(self, place: str) -> str:
+        return " ".join(self.text[place].split())
+
+
+def database(folder: str, records: list[bytes], kind: str = "lsas") -> str:
+    path = os.path.join(folder, f"area.{kind}")
+    with open(path, "wb") as file:
+        file.write(b"".join(records))
+    return path
+
+
+@unittest.skipUnless(jinja2 and shutil.which("dot") and os.access(MRT, os.X_OK), "the program or a library is missing")
+class Pages(unittest.TestCase):
+    def setUp(self) -> None:
+        folder = tempfile.TemporaryDirectory()
+        self.addCleanup(folder.cleanup)
+        self.folder = folder.name
+
+    def page(self, *words: str) -> Page:
+        done = run_report(*words)
+        self.assertEqual((done.returncode, done.stderr), (0, ""))
+        self.source = done.stdout
+        return Page(done.stdout)
+
+    def of(self, records: list[bytes], profile: str = "", *words: str) -> Page:
+        return self.page(database(self.folder, records), database(self.folder, [profile.encode()], "profile"), *words)
+
+    # the first line
+
+    def test_a_ring_is_protected(self) -> None:
+        found = self.of(records_of([(1, 2), (2, 3), (1, 3)], [], [10]))
+        self.assertTrue(found.of("verdict").startswith("\u2714 Protected: all 6 pairs of routers that can be repaired are"))
+
+    def test_what_is_kept_out_is_told_as_a_choice(self) -> None:
+        found = self.of(records_of(FOUR, [], [10]), f"no-mrt {name(4)}\n")
+        self.assertIn(f"6 could be and are not, by choice: {name(4)} is kept out by the profile (6)", found.of("verdict"))
+        self.assertTrue(found.of("verdict").startswith("\u2714 Protected: all 6 pairs"), found.of("verdict"))
+
+    def test_a_link_of_the_greatest_metric_is_no_choice(self) -> None:
+        found = self.of(records_of([(1, 2), (2, 3), (1, 3)], [], [10, 10, 10, 10, 65535, 10]))
+        self.assertTrue(found.of("verdict").startswith("\u25b2 Protected in part: "), found.of("verdict"))
+        self.assertIn("has the metric 65,535", found.of("verdict"))
+
+    def test_a_router_in_maintenance(self) -> None:
+        found = self.of(records_of(FOUR, [], [10, 10, 10, 10, 10, 10, 10, 65535, 10, 65535]))
+        self.assertIn(f"{name(4)} is in maintenance (metric 65,535) (6)", found.of("verdict"))
+
+    def test_single_points(self) -> None:
+        found = self.of(records_of([(1, 2), (2, 3), (1, 3), (3, 4)], [], [10]))
+        self.assertIn("6 cannot be: 2 single points of failure.", found.of("verdict"))
+
+    def test_each_number_is_a_link_to_its_list(self) -> None:
+        found = self.page(f"{DATA}/lan.lsas", f"{DATA}/lan.profile")
+        places = {attrs["id"] for _, attrs in found.found if attrs.get("id")}
+        links = {attrs["href"] for attrs in found.all("a")}
+        self.assertLessEqual({link[1:] for link in links}, places)
+        self.assertLessEqual({"#repaired", "#points", "#gaps"}, links)
+
+    def test_no_router_at_all(self) -> None:
+        found = self.of([router_lsa(name(1), [])])
+        self.assertIn("There is no pair of routers.", found.of("verdict"))
+
+    # what it is made of
+
+    def test_names_are_no_markup(self) -> None:
+        path = os.path.join(self.folder, "names")
+        with open(path, "w", encoding="utf-8") as file:
+            file.write("10.255.1.3 <script>alert(1)</script>\n10.255.1.4 {{ 7 * 7 }}\"'><b>\n")
+        found = self.page("--names", path, "--title", "a & <b>", f"{DATA}/lan.lsas", f"{DATA}/lan.profile")
+        self.assertNotIn("<script>alert", self.source)
+        self.assertNotIn("49", found.of("verdict"))
+        self.assertEqual(len(found.all("script")), 1)
+        self.assertEqual(found.all("b"), [each for each in found.all("b") if set(each) <= {"class"}])
+        self.assertIn("<h1>a &amp; &lt;b&gt;</h1>", self.source)
+        # Everywhere, also in traces.
+        traces = self.source[self.source.index("The ten longest repairs") :]
+        self.assertIn("&lt;script&gt;alert(1)&lt;/script&gt;</span>", traces[: traces.index("</table>")])
+
+    def test_it_fetches_nothing_and_runs_its_own_script_alone(self) -> None:
+        found = self.page(f"{DATA}/lan.lsas", f"{DATA}/lan.profile")
+        for word in ("src=", "http://", "https://", "@import", "url("):
+            self.assertNotIn(word, self.source.replace('xmlns="http://www.w3.org/2000/svg"', "").replace('"url(#', ""))
+        (policy,) = [each["content"] for each in found.all("meta") if "http-equiv" in each]
+        self.assertRegex(policy, r"default-src 'none'; style-src 'unsafe-inline'; script-src 'sha256-[\w+/]+='$")
+        self.assertEqual([key for _, attrs in found.found for key in attrs if key.startswith("on")], [])
+
+    def test_tables_have_captions_and_scopes(self) -> None:
+        found = self.page(f"{DATA}/lan.lsas", f"{DATA}/lan.profile")
+        self.assertEqual(len(found.all("table")), len(found.all("caption")))
+        self.assertEqual({each.get("scope") for each in found.all("th")}, {"col", "row"})
+        self.assertTrue(all(each.get("data-h") or each.get("class") for each in found.all("td")))
+
+    def test_each_failure_has_a_section(self) -> None:
+        found = self.page(f"{DATA}/lan.lsas", f"{DATA}/lan.profile")
+        sections = [attrs["id"] for attrs in found.all("div") if attrs.get("id", "").startswith("f-")]
+        self.assertEqual(len(sections), len(set(sections)))
+        self.assertEqual(len(sections), 9 + 7)
+        self.assertIn("10.255.1.6 has 5 destinations over it: 5 have no way left", found.of(page.anchor("link:10.255.1.3/192.0.2.17")))
+
+    def test_the_style_has_what_it_should(self) -> None:
+        style = page.file_text("report.css")
+        for words in ("prefers-color-scheme: dark", "max-width: 600px", "@media print", ":focus-visible"):
+            self.assertIn(words, style)
+
+
+class Lacking(unittest.TestCase):
+    """Without the library the page cannot be made, and the facts can."""
+
+    def run_without(self, *words: str) -> subprocess.CompletedProcess[str]:
+        with tempfile.TemporaryDirectory() as folder:
+            with open(os.path.join(folder, "jinja2.py"), "w", encoding="ascii") as file:
+                file.write("raise ImportError\n")
+            command = [f"{TOOLS}/report", "--mrt", MRT, *words, f"{DATA}/lan.lsas", f"{DATA}/lan.profile"]
+            env = os.environ | {"PYTHONPATH": folder}
+            return subprocess.run(command, capture_output=True, text=True, env=env, check=False)
+
+    @unittest.skipUnless(os.access(MRT, os.X_OK), "the program is not built")
+    def test_jinja(self) -> None:
+        done = self.run_without()
+        self.assertEqual((done.returncode, done.stdout, done.stderr), (8, "", f"report: {page.LACKS}\n"))
+        done = self.run_without("--json")
+        self.assertEqual((done.returncode, done.stderr), (0, ""))
+        self.assertEqual(json.loads(done.stdout)["format"], "semborui-report")
+
+
+class Parts(unittest.TestCase):
+    def test_a_share_that_is_not_all_is_not_told_as_all(self) -> None:
+        self.assertEqual(
+            [page.percent(*each) for each in ((9999, 10000), (1, 10000), (3, 3), (0, 3), (0, 0))],
+            ["99.9 %", "0.1 %", "100 %", "0 %", "\u2013"],
+        )
+
+    def test_verdicts(self) -> None:
+        pairs = {"all": 2, "repaired": 2}
+        choice, other, fault = ({"causes": [1], "by_choice": True}, {"causes": [1], "by_choice": False}, {"causes": []})
+        for gaps, installed, wanted in (
+            ([], None, "protected"),
+            ([choice], None, "protected"),
+            ([choice, other], None, "in-part"),
+            ([choice, fault], None, "fault"),
+            ([], ["current", "current"], "protected"),
+            ([], ["behind", "current"], "not"),
+            ([], ["old"], "not"),
+        ):
+            said = installed and {"routers": [{"installed": each} for each in installed]}
+            self.assertEqual(verdict.verdict({"pairs": pairs, "gaps": gaps, "installed": said}), wanted)
+        self.assertEqual(verdict.verdict({"pairs": {"all": 2, "repaired": 0}, "gaps": [], "installed": None}), "not")
+
+    def test_signs_can_be_told_without_color(self) -> None:
+        self.assertEqual(len({page.SIGNS[state] for state in ("protected", "in-part", "not")}), 3)
+        self.assertEqual(len(set(page.CELLS.values())), 4)
+
+    def test_anchors(self) -> None:
+        self.assertEqual(page.anchor("link:10.0.0.1/0.0.0.3"), "f-link-10.0.0.1-0.0.0.3")
+        self.assertTrue(re.fullmatch(r"[\w.-]+", page.anchor("net:1.2.3.4")))
