@@ -50,8 +50,8 @@ class Advice:
         if changes:
             lines.append(shlex.join([tool("change"), *changes, old]) + f" > {database}")
         if kept_out:
-            texts = " ".join(f"-e {shlex.quote(text)}" for text in kept_out)
-            lines.append(f"grep -v {texts} {shlex.quote(profile)} > {new_profile}")
+            texts = " ".join("-e " + shlex.quote(f"/{text}/d") for text in kept_out)
+            lines.append(f"sed {texts} {shlex.quote(profile)} > {new_profile}")
         words = [tool("diff"), old, database, profile, *([new_profile] if new_profile else [])]
         return " && ".join([*lines, shlex.join(words)])
 
@@ -127,7 +127,8 @@ class Advice:
         }
 
     def values(self) -> list[dict[str, Any]]:
-        """The lines, those that gain most first."""
+        """The lines, those that gain most first, without those that gain next to nothing beside them."""
         joining = Joining(self.found.area, self.sites, self.without)
         lines = [*self.for_gaps(), *map(self.for_link, joining.choices(MOST))]
-        return sorted(lines, key=lambda line: -line["pairs"])[:MOST]
+        most = max((line["pairs"] for line in lines), default=0)
+        return sorted((line for line in lines if 100 * line["pairs"] >= most), key=lambda line: -line["pairs"])[:MOST]

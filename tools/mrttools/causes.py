@@ -29,6 +29,11 @@ class Cause(NamedTuple):
 Causes = tuple[Cause, ...]
 
 
+def is_choice(causes: Causes) -> bool:
+    """Whether the profile alone is the cause."""
+    return bool(causes) and all(cause.by_choice for cause in causes)
+
+
 class Parting:
     """Which routers each single point of failure parts."""
 

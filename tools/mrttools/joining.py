@@ -143,10 +143,15 @@ class Joining:
             links = [link._replace(pairs=tree.gain(tree.between(link.a, link.b))) for link in links]
             links = sorted(filter(is_of_use, links), key=self.order)
             if links:
-                best, blocks = links[0], set(tree.between(*links[0][:2]))
-                alike = [each for each in links[1:] if 2 * each.pairs > best.pairs]
-                others = [each for each in alike if blocks & set(tree.between(each.a, each.b))]
-                found.append(Choice(alone[best[:2]], [alone[each[:2]] for each in others[:OTHERS]]))
+                best = links[0]
+                gained, blocks = alone[best[:2]].pairs, tree.between(best.a, best.b)
+                others = [
+                    alone[each[:2]]
+                    for each in links[1:]
+                    if {each.a, each.b} & {best.a, best.b} or tree.between(each.a, each.b) == blocks
+                ]
+                others = [each for each in others if gained < 2 * each.pairs < 4 * gained]
+                found.append(Choice(alone[best[:2]], others[:OTHERS]))
                 built.append(Bond(best.a, best.b, 0, 0, 1, 1))
         return found
 

@@ -5,7 +5,7 @@ from __future__ import annotations
 
 from typing import Iterable, Iterator, NamedTuple
 
-from .causes import Causes, Parting, WhyNot
+from .causes import Causes, Parting, WhyNot, is_choice
 from .paths import Graph, Hop
 from .target import END, GAP, PARTED, Repairs, Row, Target, routers_of, size_of
 
@@ -33,9 +33,10 @@ class Toll:
     """What one failure costs, in pairs, and by bits from and to which routers these go."""
 
     def __init__(self) -> None:
-        self.met = self.parted = self.gaps = 0
-        self.met_from = self.parted_from = self.gaps_from = 0
-        self.met_to = self.parted_to = self.gaps_to = 0
+        self.met = self.parted = self.gaps = self.chosen = 0
+        # (a gap that the profile alone causes is one of choice)
+        self.met_from = self.parted_from = self.gaps_from = self.chosen_from = 0
+        self.met_to = 0
         # Of each router that meets it, how many of its own rows switch to blue, to red, have a gap (-2), are parted (-1).
         self.rows: dict[int, list[int]] = {}
         self.shown: list[tuple[int, int]] = []
@@ -93,19 +94,21 @@ class Losses:
 
     def put_lost(self, to: Target, router: int, hop: Hop, repairs: Repairs, pairs: Pairs) -> None:
         """The failures of a primary after which its packets are lost."""
-        senders, count, bit = to.senders[router], to.counts[router], 1 << to.target
+        senders, count = to.senders[router], to.counts[router]
         for element, repair in zip(hop.elements, repairs):
             toll = self.tolls[element]
             if repair == PARTED:
                 toll.parted += count
                 toll.parted_from |= senders
-                toll.parted_to |= bit
                 pairs.parted[element] = pairs.parted.get(element, 0) | senders
             elif repair == GAP:
                 toll.gaps += count
-                toll.gaps_from |= senders
-                toll.gaps_to |= bit
                 causes = self.why.of(element, router, to.target)
+                if is_choice(causes):
+                    toll.chosen += count
+                    toll.chosen_from |= senders
+                else:
+                    toll.gaps_from |= senders
                 pairs.gaps[causes] = pairs.gaps.get(causes, 0) | senders
                 if len(toll.shown) < SHOWN:
                     toll.shown += [(each, to.target) for each in routers_of(senders)[: SHOWN - len(toll.shown)]]

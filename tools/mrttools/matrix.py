@@ -6,12 +6,14 @@ from typing import Callable, NamedTuple, Sequence
 from .area import Node
 from .facts import Facts
 from .losses import Toll
+from .reporting import state_of
 
 # So many columns can be read. Of more routers those of a site are one, or else those that follow each other.
 WIDE = 64
 # Above so many rows the failures that are repaired whole are left out.
 HIGH = 600
-GAP, PARTED, REPAIRED, NOTHING = "g", "p", "r", "n"
+# What becomes of the packets of a column, the worst first.
+GAP, PARTED, CHOICE, REPAIRED, NOTHING = "g", "p", "c", "r", "n"
 
 
 class Column(NamedTuple):
@@ -30,12 +32,11 @@ class Row(NamedTuple):
 
 
 class Matrix(NamedTuple):
-    """The columns, the failures by how they end, and how many of those that are repaired are left out."""
+    """The columns, the failures by how they end, the worst first, and how many of those that are repaired are left
+    out."""
 
     columns: list[Column]
-    gaps: list[Row]
-    parts: list[Row]
-    repaired: list[Row]
+    rows: dict[str, list[Row]]
     left_out: int
 
 
@@ -67,6 +68,8 @@ def cells_of(toll: Toll, columns: Sequence[Column]) -> str:
             if toll.gaps_from & column.routers
             else PARTED
             if toll.parted_from & column.routers
+            else CHOICE
+            if toll.chosen_from & column.routers
             else REPAIRED
             if toll.met_from & column.routers
             else NOTHING
@@ -78,12 +81,12 @@ def cells_of(toll: Toll, columns: Sequence[Column]) -> str:
 def matrix_of(found: Facts, spelled: Callable[[Node], str], sites: dict[Node, str]) -> Matrix:
     """The whole of it, in the order of the links and then the nodes."""
     columns = columns_of(found, spelled, sites)
-    rows: dict[str, list[Row]] = {GAP: [], PARTED: [], REPAIRED: []}
+    rows: dict[str, list[Row]] = {state: [] for state in ("gap", "parts", "choice", "repaired")}
     tolls = {found.graph.of_element(element).text: toll for element, toll in enumerate(found.losses.tolls) if toll.met}
-    whole = sum(not toll.gaps and not toll.parted for toll in tolls.values())
+    whole = sum(state_of(toll) == "repaired" for toll in tolls.values())
     left_out = whole if len(tolls) > HIGH else 0
     for element, toll in tolls.items():
-        kind = GAP if toll.gaps else PARTED if toll.parted else REPAIRED
-        if kind != REPAIRED or not left_out:
-            rows[kind].append(Row(element, cells_of(toll, columns)))
-    return Matrix(columns, rows[GAP], rows[PARTED], rows[REPAIRED], left_out)
+        state = state_of(toll)
+        if state != "repaired" or not left_out:
+            rows[state].append(Row(element, cells_of(toll, columns)))
+    return Matrix(columns, rows, left_out)

@@ -27,6 +27,7 @@ SIGNS = {
     "repaired": "+",
     "parts": "\u00d7",
     "gap": "!",
+    "choice": "o",
     "unused": "\u00b7",
     "current": "\u2714",
     "behind": "\u2716",
@@ -42,7 +43,16 @@ INSTALLED = {
     "old": "had the certificate, and has said nothing since",
 }
 PARTS = {"root": "root", "member": "in an island", "alone": "in no island", "no-mrt": "kept out by the profile"}
-CELLS = {"g": "!", "p": "&times;", "r": "+", "n": "&middot;"}
+CELLS = {"g": "!", "p": "&times;", "c": "o", "r": "+", "n": "&middot;"}
+# What a failure ends in, and whether its lists are open where they are short.
+ENDS = {
+    "gap": ("a pair is lost that could be repaired", True),
+    "parts": ("pairs are parted", True),
+    "choice": ("a pair is lost by choice", False),
+    "repaired": ("all is repaired", False),
+    "unused": ("nothing changes: no pair meets it", False),
+}
+SHORT = 40
 # The sections in their order: file, place, name in the list of sections.
 SECTIONS = [
     ("installed", "installed", "installed"),
@@ -78,7 +88,7 @@ def file_text(name: str) -> str:
 
 
 def number(value: float) -> str:
-    return f"{value:,}" if value == int(value) else f"{value:,.1f}"
+    return f"{int(value):,}" if value == int(value) else f"{value:,.1f}"
 
 
 def percent(part: float, whole: float) -> str:
@@ -135,7 +145,9 @@ class Words:
             return self.markup('link <span title="{}">{} \u2013 {}</span>').format(
                 values["element"], *map(self.node, values["ends"])
             )
-        return self.markup("{}{}").format("network " if values["kind"] == "network" else "", self.node(values["element"]))
+        if values["kind"] == "network" and values["element"] not in self.known:
+            return self.markup("network {}").format(values["element"].removeprefix("net:"))
+        return self.node(values["element"])
 
     def any(self, text: str) -> Any:
         """What mrt takes as an element, as a link to the section of its failure."""
@@ -191,7 +203,7 @@ def environment(words_of: Any) -> Any:
         undefined=jinja2.StrictUndefined,
     )
     found.filters |= words_of(markupsafe.Markup).filters()
-    found.globals |= {"signs": SIGNS, "installed_words": INSTALLED, "part_words": PARTS, "near": NEAR}
+    found.globals |= {"signs": SIGNS, "installed_words": INSTALLED, "part_words": PARTS, "near": NEAR, "ends": ENDS, "short": SHORT}
     return found, markupsafe.Markup
 
 

@@ -6,13 +6,13 @@ from typing import Any, NamedTuple
 from . import agreeing, asking, cuts, facts, islands, lsas, origin, stretches
 from .agreeing import Asked
 from .area import Area, Bond, Node
-from .causes import Cause, Causes
+from .causes import Cause, Causes, is_choice
 from .certificate import COLORS
 from .cuts import Cut
 from .demand import EVEN, Demand
 from .facts import Facts, Ground
 from .islands import Islands
-from .losses import Tally
+from .losses import Tally, Toll
 from .lsas import ROUTER
 from .paths import METRIC, Graph
 from .program import Program
@@ -118,7 +118,7 @@ def gap_values(found: Found) -> list[Values]:
     return [
         {
             "causes": list(map(cause_values, causes)),
-            "by_choice": bool(causes) and all(cause.by_choice for cause in causes),
+            "by_choice": is_choice(causes),
             "pairs": tally.pairs,
             "alone": tally.alone,
             "shown": [[nodes[one].text, nodes[other].text] for one, other in tally.shown],
@@ -226,17 +226,24 @@ def router_values(found: Found) -> list[Values]:
 # failures
 
 
+def state_of(toll: Toll) -> str:
+    """How a failure ends, the worst first."""
+    if toll.gaps > toll.chosen:
+        return "gap"
+    return "parts" if toll.parted else "choice" if toll.gaps else "repaired" if toll.met else "unused"
+
+
 def failure_values(found: Facts, element: int) -> Values:
     """What a failure costs."""
     graph, toll = found.graph, found.losses.tolls[element]
     nodes, longest = graph.nodes, found.stretches.longest.get(element)
-    state = "gap" if toll.gaps else "parts" if toll.parted else "repaired" if toll.met else "unused"
     return element_values(graph.of_element(element)) | {
-        "state": state,
+        "state": state_of(toll),
         "pairs": toll.met,
         "repaired": toll.met - toll.parted - toll.gaps,
         "parted": toll.parted,
         "gaps": toll.gaps,
+        "by_choice": toll.chosen,
         "from": size_of(toll.met_from),
         "to": size_of(toll.met_to),
         "switch": [
@@ -258,12 +265,12 @@ def failure_values(found: Facts, element: int) -> Values:
     }
 
 
-STATES = "gap", "parts", "repaired", "unused"
+STATES = "gap", "parts", "choice", "repaired", "unused"
 
 
 def all_failures(found: Facts) -> list[Values]:
-    """All failures, first those that are not repaired though there is a way, then those that part pairs; the most such
-    pairs first."""
+    """All failures, first those that are not repaired though there is a way, then those that part pairs, then those that
+    are not repaired by choice; the most such pairs first."""
     values = [failure_values(found, element) for element in range(len(found.losses.tolls))]
     return sorted(values, key=lambda each: (STATES.index(each["state"]), -each["gaps"], -each["parted"], -each["pairs"]))
 

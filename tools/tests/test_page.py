@@ -1,4 +1,7 @@
 """The report's page: what its first line says, names as hostile input, links, tables, and what it says without a library."""
+import importlib.machinery
+import importlib.util
+import io
 import json
 import os
 import re
@@ -8,8 +11,10 @@ import tempfile
 import unittest
 from html.parser import HTMLParser
 from typing import Any
+from unittest import mock
 
 from mrttools import page, verdict
+from mrttools.progress import Progress
 from tests.making import DATA, MRT, TOOLS, router_lsa
 from tests.test_cuts import name, records_of
 from tests.test_report import run_report
@@ -56,8 +61,13 @@ def database(folder: str, records: list[bytes], kind: str = "lsas") -> str:
     return path
 
 
-@unittest.skipUnless(jinja2 and shutil.which("dot") and os.access(MRT, os.X_OK), "the program or a library is missing")
-class Pages(unittest.TestCase):
+CAN = bool(jinja2 and shutil.which("dot") and os.access(MRT, os.X_OK))
+
+
+@unittest.skipUnless(CAN, "the program or a library is missing")
+class Case(unittest.TestCase):
+    """Pages in a folder."""
+
     def setUp(self) -> None:
         folder = tempfile.TemporaryDirectory()
         self.addCleanup(folder.cleanup)
@@ -72,8 +82,8 @@ class Pages(unittest.TestCase):
     def of(self, records: list[bytes], profile: str = "", *words: str) -> Page:
         return self.page(database(self.folder, records), database(self.folder, [profile.encode()], "profile"), *words)
 
-    # the first line
 
+class FirstLine(Case):
     def test_a_ring_is_protected(self) -> None:
         found = self.of(records_of([(1, 2), (2, 3), (1, 3)], [], [10]))
         self.assertTrue(found.of("verdict").startswith("\u2714 Protected: all 6 pairs of routers that can be repaired are"))
@@ -103,12 +113,22 @@ class Pages(unittest.TestCase):
         self.assertLessEqual({link[1:] for link in links}, places)
         self.assertLessEqual({"#repaired", "#points", "#gaps"}, links)
 
+    def test_a_pair_without_a_cause_is_a_fault_of_ours(self) -> None:
+        spec = importlib.util.spec_from_loader("report", importlib.machinery.SourceFileLoader("report", f"{TOOLS}/report"))
+        tool = importlib.util.module_from_spec(spec)
+        spec.loader.exec_module(tool)
+        words = ["report", "--mrt", MRT, f"{DATA}/lan.lsas", f"{DATA}/lan.profile"]
+        with mock.patch("sys.argv", words), mock.patch("mrttools.causes.WhyNot.of", lambda *_: ()):
+            found = Page(tool.report(tool.words(), Progress("report", io.StringIO())))
+        self.assertTrue(found.of("verdict").startswith("\u2716 A fault of ours."), found.of("verdict"))
+        self.assertIn("nothing explains it: a fault of ours", found.of("gaps"))
+
     def test_no_router_at_all(self) -> None:
         found = self.of([router_lsa(name(1), [])])
         self.assertIn("There is no pair of routers.", found.of("verdict"))
 
-    # what it is made of
 
+class Pages(Case):
     def test_names_are_no_markup(self) -> None:
         path = os.path.join(self.folder, "names")
         with open(path, "w", encoding="utf-8") as file:
@@ -148,6 +168,57 @@ class Pages(unittest.TestCase):
         style = page.file_text("report.css")
         for words in ("prefers-color-scheme: dark", "max-width: 600px", "@media print", ":focus-visible"):
             self.assertIn(words, style)
+
+
+@unittest.skipUnless(shutil.which("chromium"), "chromium is not installed")
+class InABrowser(Case):
+    """What the script makes of the page."""
+
+    def dom(self, place: str = "", script: str = "") -> Page:
+        """The last page as a browser has it, at a place, after a script more has run, which says something at its end."""
+        if not hasattr(self, "source"):
+            self.page(f"{DATA}/lan.lsas", f"{DATA}/lan.profile")
+        path = os.path.join(self.folder, "page.html")
+        # (the page's own policy lets no other script run)
+        text = re.sub(r"<meta http-equiv[^>]*>", "", self.source)
+        more = "{ const say = (words) => { const p = document.createElement('p'); p.id = 'said'; p.append(words); document.body.append(p); };"
+        with open(path, "w", encoding="utf-8") as file:
+            file.write(text.replace("</body>", f"<script>{more} {script} }}</script></body>"))
+        words = ["chromium", "--headless", "--no-sandbox", "--disable-gpu", "--virtual-time-budget=3000", "--dump-dom"]
+        done = subprocess.run([*words, f"file://{path}{place}"], capture_output=True, text=True, timeout=60, check=False)
+        return Page(done.stdout)
+
+    def test_a_failure_opens_by_its_link(self) -> None:
+        place = page.anchor("link:10.255.1.3/192.0.2.17")
+        closed = sum("open" in each for each in self.dom().all("details"))
+        self.assertGreaterEqual(sum("open" in each for each in self.dom(f"#{place}").all("details")), closed + 1)
+
+    def test_tables_are_sorted(self) -> None:
+        click = "const head = [...document.querySelectorAll('#points ~ .wide thead button')][1]; head.click();"
+        found = self.dom("", click + "say(document.querySelector('#points ~ .wide tbody').innerText)")
+        self.assertEqual([each["aria-sort"] for each in found.all("th") if each.get("aria-sort")], ["ascending"])
+        self.assertEqual([int(each) for each in re.findall(r"\t(\d+)\t", found.text["said"])], [8, 10, 16, 16])
+
+    def test_lists_are_filtered(self) -> None:
+        self.of(records_of([(each, each % 20 + 1) for each in range(1, 21)], [], [10]))
+        script = (
+            f"const fields = document.querySelectorAll('.filter'), one = fields[fields.length - 2]; one.value = '{name(7)}';"
+            "one.dispatchEvent(new Event('input')); const all = [...document.querySelectorAll('.failures > details')];"
+            f"say(all.length + ' ' + all.filter((each) => each.hidden !== each.textContent.includes('{name(7)}')).length"
+            " + ' ' + all.filter((each) => each.hidden).length)"
+        )
+        whole, right, hidden = map(int, self.dom("", script).of("said").split())
+        self.assertEqual((whole, right), (40, 40))
+        self.assertGreater(hidden, 10)
+
+    def test_the_picture_is_moved(self) -> None:
+        script = (
+            "const frame = document.querySelector('.picture'), box = frame.querySelector('svg').viewBox.baseVal, old = box.width;"
+            "frame.dispatchEvent(new KeyboardEvent('keydown', { key: '+' })); const near = box.width, left = box.x;"
+            "frame.dispatchEvent(new KeyboardEvent('keydown', { key: 'ArrowRight' }));"
+            "say(`${near < old} ${box.x > left}`)"
+        )
+        self.assertEqual(self.dom("", script).of("said"), "true true")
 
 
 class Lacking(unittest.TestCase):
@@ -195,7 +266,7 @@ class Parts(unittest.TestCase):
 
     def test_signs_can_be_told_without_color(self) -> None:
         self.assertEqual(len({page.SIGNS[state] for state in ("protected", "in-part", "not")}), 3)
-        self.assertEqual(len(set(page.CELLS.values())), 4)
+        self.assertEqual(len(set(page.CELLS.values())), len(page.CELLS))
 
     def test_anchors(self) -> None:
         self.assertEqual(page.anchor("link:10.0.0.1/0.0.0.3"), "f-link-10.0.0.1-0.0.0.3")
