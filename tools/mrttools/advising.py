@@ -4,11 +4,12 @@ from __future__ import annotations
 import os
 import shlex
 import sys
-from typing import Any, Collection, Iterator
+from typing import Any, Collection, Iterator, Sequence
 
-from . import lsas
+from . import area, lsas
 from .area import MAINTENANCE, Bond, Node
 from .causes import INELIGIBLE, METRIC, NO_MRT, ONE_END, Cause, Causes
+from .ending import NOT_THERE, ToolFault
 from .joining import Choice, Joining, Link
 from .lsas import ROUTER
 from .program import Program
@@ -29,6 +30,18 @@ def usual_metric(bonds: Collection[Bond]) -> int:
     metrics = sorted(bond.metric_from(end) or 0 for bond, end in ends)
     metrics = [metric for metric in metrics if 0 < metric < MAINTENANCE]
     return metrics[len(metrics) // 2] if metrics else 10
+
+
+def routers_of(words: Sequence[str], known: dict[Node, str]) -> set[Node]:
+    """The routers that words name, by address or by name."""
+    by_name = {name: node for node, name in known.items()}
+    found = set()
+    for word in words:
+        try:
+            found.add(by_name.get(word) or area.node_of(word))
+        except ValueError:
+            raise ToolFault(f"not there: {word}", NOT_THERE) from None
+    return found
 
 
 class Advice:

@@ -68,7 +68,8 @@ def own_lines(found: Facts, router: int) -> Iterator[str]:
     graph, colors = found.graph, found.colors_to(router)
     tail = graph.nodes[router]
     places = {
-        graph.place[bond]: f"{bond.far(tail).text}/{lsas.spelled(bond.data_of(tail) or 0)}" for bond in graph.links[tail]
+        graph.place[bond]: f"{bond.far(tail).text}/{lsas.spelled(bond.data_of(tail) or 0)}"
+        for bond in graph.links[tail]
     }
     for target in colors.numbers:
         if target in found.rows[router]:
@@ -93,7 +94,9 @@ def ask_tables(mrt: Program, found: Facts, tell: Tell) -> Asked:
         text = found.graph.nodes[router].text
         own, told = list(own_lines(found, router)), list(told_lines(mrt, text))
         if own != told:
-            here, there = next(((a, b) for a, b in zip(own, told) if a != b), (f"{len(own)} rows", f"{len(told)} rows"))
+            here, there = next(
+                ((a, b) for a, b in zip(own, told) if a != b), (f"{len(own)} rows", f"{len(told)} rows")
+            )
             raise ToolFault(f"mrt says otherwise of {text}: {there}, and not {here}", REFUSED)
         rows += len(own)
         tell("questions to mrt", done + 1, len(routers) + 1)

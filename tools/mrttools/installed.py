@@ -17,8 +17,8 @@ from .program import Program
 FORMAT = "semborui-agent"
 # Seconds after which what an agent said is old.
 OLD = 300
-# What is told of a router, the worst first: it has no certificate, another one, has said nothing, has said so long ago, or
-# has the right one.
+# What is told of a router, the worst first: it has no certificate, another one, has said nothing, has said so long ago or
+# its agent has stopped, or has the right one.
 STATES = "none", "behind", "unknown", "old", "current"
 KEPT = "certificate", "generation", "since", "repairs", "waits", "at", "state"
 
@@ -64,16 +64,22 @@ def state_of(said: Said | None, digest: str, now: float) -> str:
     if said["certificate"] != digest:
         return "behind"
     at = seconds_of(said.get("at"))
-    return "old" if at is None or now - at > OLD else "current"
+    return "old" if at is None or now - at > OLD or said.get("state") == "stopped" else "current"
+
+
+def left_out(said: Said | None) -> list[dict[str, str]]:
+    """What a router does not repair, and why."""
+    found = said.get("left_out") if said else None
+    each_one = [each for each in found if isinstance(each, dict)] if isinstance(found, list) else []
+    return [{"what": str(each.get("what")), "why": str(each.get("why"))} for each in each_one]
 
 
 def router_values(node: Node, said: Said | None, state: str) -> dict[str, Any]:
-    left_out = said.get("left_out") if said else None
     return {
         "router": node.text,
         "installed": state,
         **{name: said.get(name) if said else None for name in KEPT},
-        "left_out": len(left_out) if isinstance(left_out, list) else 0,
+        "left_out": left_out(said),
     }
 
 

@@ -82,7 +82,9 @@ def matrix_of(found: Facts, spelled: Callable[[Node], str], sites: dict[Node, st
     """The whole of it, in the order of the links and then the nodes."""
     columns = columns_of(found, spelled, sites)
     rows: dict[str, list[Row]] = {state: [] for state in ("gap", "parts", "choice", "repaired")}
-    tolls = {found.graph.of_element(element).text: toll for element, toll in enumerate(found.losses.tolls) if toll.met}
+    tolls = {
+        found.graph.of_element(element).text: toll for element, toll in enumerate(found.losses.tolls) if toll.met
+    }
     whole = sum(state_of(toll) == "repaired" for toll in tolls.values())
     left_out = whole if len(tolls) > HIGH else 0
     for element, toll in tolls.items():

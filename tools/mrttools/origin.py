@@ -52,7 +52,5 @@ def values(mrt: Program) -> dict[str, Any]:
         "host": os.uname().nodename,
         "program": version(mrt.path),
         "database": database_values(data) | {"file": mrt.database},
-        "profile": None
-        if mrt.profile == "-"
-        else {"sha256": digest(asking.profile(mrt)), "file": mrt.profile},
+        "profile": None if mrt.profile == "-" else {"sha256": digest(asking.profile(mrt)), "file": mrt.profile},
     }

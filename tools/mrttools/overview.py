@@ -64,7 +64,11 @@ def site_drawing(whole: Area, parts: Islands, cuts: Sequence[Cut], sites: dict[N
         sort = "cut" if elements & set(bonds) else "link"
         strokes.append(Stroke(line, line.a, sort, f"{one} \u2013 {other}: {count(len(bonds), 'link')}"))
     marks = [mark_of(site, bool(roots & set(site.nodes))) for site in found.values()]
-    legend = [("link", "links between sites"), ("cut", "a link that parts the area"), ("fill cut", "has single points of failure")]
+    legend = [
+        ("link", "links between sites"),
+        ("cut", "a link that parts the area"),
+        ("fill cut", "has single points of failure"),
+    ]
     kinds = {stroke.sort for stroke in strokes} | {f"fill {mark.fill}" for mark in marks}
     title = f"The area: {count(len(marks), 'site')}, {count(len(whole.bonds), 'link')}"
     return Drawing(title, marks, strokes, {}, [each for each in legend if each[0] in kinds], [])

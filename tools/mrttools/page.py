@@ -8,7 +8,7 @@ import os
 import re
 from typing import Any, NamedTuple, Sequence
 
-from . import area, names
+from . import names
 from .area import Node
 from .ending import READ_FAULT, ToolFault
 from .joining import NEAR
@@ -36,11 +36,11 @@ SIGNS = {
     "old": "?",
 }
 INSTALLED = {
-    "current": "has the certificate",
-    "behind": "has another certificate",
-    "none": "has no repair in",
-    "unknown": "has said nothing",
-    "old": "had the certificate, and has said nothing since",
+    "none": "without a repair in",
+    "behind": "with another certificate",
+    "unknown": "not heard of",
+    "old": "with the certificate when last heard of",
+    "current": "with the certificate",
 }
 PARTS = {"root": "root", "member": "in an island", "alone": "in no island", "no-mrt": "kept out by the profile"}
 CELLS = {"g": "!", "p": "&times;", "c": "o", "r": "+", "n": "&middot;"}
@@ -203,7 +203,14 @@ def environment(words_of: Any) -> Any:
         undefined=jinja2.StrictUndefined,
     )
     found.filters |= words_of(markupsafe.Markup).filters()
-    found.globals |= {"signs": SIGNS, "installed_words": INSTALLED, "part_words": PARTS, "near": NEAR, "ends": ENDS, "short": SHORT}
+    found.globals |= {
+        "signs": SIGNS,
+        "installed_words": INSTALLED,
+        "part_words": PARTS,
+        "near": NEAR,
+        "ends": ENDS,
+        "short": SHORT,
+    }
     return found, markupsafe.Markup
 
 
@@ -236,15 +243,3 @@ def page(values: Values, drawn: Drawn, title: str, known: dict[Node, str]) -> st
 def plain(known: dict[Node, str]) -> Any:
     """A node by its name or else its address, as text."""
     return lambda node: names.spelled(known, node)
-
-
-def exclude(words: Sequence[str], known: dict[Node, str]) -> set[Node]:
-    """The routers that words name, by address or by name."""
-    by_name = {name: node for node, name in known.items()}
-    found = set()
-    for word in words:
-        try:
-            found.add(by_name.get(word) or area.node_of(word))
-        except ValueError:
-            raise ToolFault(f"not there: {word}", 7) from None
-    return found

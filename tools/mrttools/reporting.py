@@ -100,11 +100,7 @@ def pair_values(found: Facts) -> Values:
             if demand.told:
                 sent[place] += sum(demand.of(graph.nodes[each], graph.nodes[target]) for each in routers_of(bits))
     names = "repaired", "parted", "gaps"
-    return {
-        "all": sum(counts),
-        **dict(zip(names, counts)),
-        "demand": dict(zip(names, sent)) if demand.told else None,
-    }
+    return {"all": sum(counts), **dict(zip(names, counts)), "demand": dict(zip(names, sent)) if demand.told else None}
 
 
 def cause_values(cause: Cause) -> Values:
@@ -272,7 +268,9 @@ def all_failures(found: Facts) -> list[Values]:
     """All failures, first those that are not repaired though there is a way, then those that part pairs, then those that
     are not repaired by choice; the most such pairs first."""
     values = [failure_values(found, element) for element in range(len(found.losses.tolls))]
-    return sorted(values, key=lambda each: (STATES.index(each["state"]), -each["gaps"], -each["parted"], -each["pairs"]))
+    return sorted(
+        values, key=lambda each: (STATES.index(each["state"]), -each["gaps"], -each["parted"], -each["pairs"])
+    )
 
 
 def report_values(found: Found, made: Values) -> Values:

@@ -36,7 +36,10 @@ def compared(old: Values, new: Values) -> Values:
     """The changes from one report to another."""
     before, after = names_of(old), names_of(new)
     classes = "all", "repaired", "parted", "gaps"
-    digests = [(values["made"]["database"]["sha256"], (values["made"]["profile"] or {}).get("sha256")) for values in (old, new)]
+    digests = [
+        (values["made"]["database"]["sha256"], (values["made"]["profile"] or {}).get("sha256"))
+        for values in (old, new)
+    ]
     return {
         "at": str(old["made"]["at"]),
         "same_database": digests[0][0] == digests[1][0],

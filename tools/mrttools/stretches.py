@@ -82,12 +82,7 @@ class Stretches:
             self.put_longest(router, failed, repairs, ratios, least)
 
     def put_longest(
-        self,
-        router: int,
-        failed: int,
-        repairs: list[Repair],
-        ratios: list[float],
-        least: list[int],
+        self, router: int, failed: int, repairs: list[Repair], ratios: list[float], least: list[int]
     ) -> None:
         """Keeps the longest repairs of all, and that of each failure."""
         ratio = max(ratios)

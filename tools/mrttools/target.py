@@ -25,7 +25,9 @@ class Target:
     """The primaries and colors to one destination. The routers whose packets come over a router are the bits of a
     number, itself among them."""
 
-    def __init__(self, graph: Graph, colors: Colors | None, target: int, hops: dict[int, Hop], demand: Demand) -> None:
+    def __init__(
+        self, graph: Graph, colors: Colors | None, target: int, hops: dict[int, Hop], demand: Demand
+    ) -> None:
         self.graph, self.target, self.hops = graph, target, hops
         self.place: dict[int, int] = colors.place if colors else {}
         self.ways: list[Ways] = [colors.ways(color, target) for color in (0, 1)] if colors else []

@@ -110,13 +110,21 @@ class Commands(unittest.TestCase):
         return json.loads(done.stdout)
 
     def run_line(self, line: dict) -> str:
-        command = line["command"].replace("tools/diff", f"{TOOLS}/diff --mrt {MRT}").replace("tools/change", f"{TOOLS}/change")
-        done = subprocess.run(["/bin/sh", "-c", command], cwd=self.folder, capture_output=True, text=True, check=False)
+        command = (
+            line["command"]
+            .replace("tools/diff", f"{TOOLS}/diff --mrt {MRT}")
+            .replace("tools/change", f"{TOOLS}/change")
+        )
+        done = subprocess.run(
+            ["/bin/sh", "-c", command], cwd=self.folder, capture_output=True, text=True, check=False
+        )
         self.assertEqual((done.returncode, done.stderr), (0, ""))
         return done.stdout
 
     def advised(self, metrics: list[int], profile: str, *words: str) -> tuple[list[dict], str, str]:
-        database = self.write("lsas", b"".join(records_of([(1, 2), (2, 3), (1, 3), (3, 4), (1, 4), (1, 5)], [], metrics)))
+        database = self.write(
+            "lsas", b"".join(records_of([(1, 2), (2, 3), (1, 3), (3, 4), (1, 4), (1, 5)], [], metrics))
+        )
         said = self.write("profile", profile.encode())
         return self.values(database, said, *words)["advice"], database, said
 

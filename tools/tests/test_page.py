@@ -86,11 +86,15 @@ class Case(unittest.TestCase):
 class FirstLine(Case):
     def test_a_ring_is_protected(self) -> None:
         found = self.of(records_of([(1, 2), (2, 3), (1, 3)], [], [10]))
-        self.assertTrue(found.of("verdict").startswith("\u2714 Protected: all 6 pairs of routers that can be repaired are"))
+        self.assertTrue(
+            found.of("verdict").startswith("\u2714 Protected: all 6 pairs of routers that can be repaired are")
+        )
 
     def test_what_is_kept_out_is_told_as_a_choice(self) -> None:
         found = self.of(records_of(FOUR, [], [10]), f"no-mrt {name(4)}\n")
-        self.assertIn(f"6 could be and are not, by choice: {name(4)} is kept out by the profile (6)", found.of("verdict"))
+        self.assertIn(
+            f"6 could be and are not, by choice: {name(4)} is kept out by the profile (6)", found.of("verdict")
+        )
         self.assertTrue(found.of("verdict").startswith("\u2714 Protected: all 6 pairs"), found.of("verdict"))
 
     def test_a_link_of_the_greatest_metric_is_no_choice(self) -> None:
@@ -114,7 +118,9 @@ class FirstLine(Case):
         self.assertLessEqual({"#repaired", "#points", "#gaps"}, links)
 
     def test_a_pair_without_a_cause_is_a_fault_of_ours(self) -> None:
-        spec = importlib.util.spec_from_loader("report", importlib.machinery.SourceFileLoader("report", f"{TOOLS}/report"))
+        spec = importlib.util.spec_from_loader(
+            "report", importlib.machinery.SourceFileLoader("report", f"{TOOLS}/report")
+        )
         tool = importlib.util.module_from_spec(spec)
         spec.loader.exec_module(tool)
         words = ["report", "--mrt", MRT, f"{DATA}/lan.lsas", f"{DATA}/lan.profile"]
@@ -146,7 +152,9 @@ class Pages(Case):
     def test_it_fetches_nothing_and_runs_its_own_script_alone(self) -> None:
         found = self.page(f"{DATA}/lan.lsas", f"{DATA}/lan.profile")
         for word in ("src=", "http://", "https://", "@import", "url("):
-            self.assertNotIn(word, self.source.replace('xmlns="http://www.w3.org/2000/svg"', "").replace('"url(#', ""))
+            self.assertNotIn(
+                word, self.source.replace('xmlns="http://www.w3.org/2000/svg"', "").replace('"url(#', "")
+            )
         (policy,) = [each["content"] for each in found.all("meta") if "http-equiv" in each]
         self.assertRegex(policy, r"default-src 'none'; style-src 'unsafe-inline'; script-src 'sha256-[\w+/]+='$")
         self.assertEqual([key for _, attrs in found.found for key in attrs if key.startswith("on")], [])
@@ -162,7 +170,10 @@ class Pages(Case):
         sections = [attrs["id"] for attrs in found.all("div") if attrs.get("id", "").startswith("f-")]
         self.assertEqual(len(sections), len(set(sections)))
         self.assertEqual(len(sections), 9 + 7)
-        self.assertIn("10.255.1.6 has 5 destinations over it: 5 have no way left", found.of(page.anchor("link:10.255.1.3/192.0.2.17")))
+        self.assertIn(
+            "10.255.1.6 has 5 destinations over it: 5 have no way left",
+            found.of(page.anchor("link:10.255.1.3/192.0.2.17")),
+        )
 
     def test_the_style_has_what_it_should(self) -> None:
         style = page.file_text("report.css")
@@ -184,8 +195,17 @@ class InABrowser(Case):
         more = "{ const say = (words) => { const p = document.createElement('p'); p.id = 'said'; p.append(words); document.body.append(p); };"
         with open(path, "w", encoding="utf-8") as file:
             file.write(text.replace("</body>", f"<script>{more} {script} }}</script></body>"))
-        words = ["chromium", "--headless", "--no-sandbox", "--disable-gpu", "--virtual-time-budget=3000", "--dump-dom"]
-        done = subprocess.run([*words, f"file://{path}{place}"], capture_output=True, text=True, timeout=60, check=False)
+        words = [
+            "chromium",
+            "--headless",
+            "--no-sandbox",
+            "--disable-gpu",
+            "--virtual-time-budget=3000",
+            "--dump-dom",
+        ]
+        done = subprocess.run(
+            [*words, f"file://{path}{place}"], capture_output=True, text=True, timeout=60, check=False
+        )
         return Page(done.stdout)
 
     def test_a_failure_opens_by_its_link(self) -> None:
@@ -250,7 +270,11 @@ class Parts(unittest.TestCase):
 
     def test_verdicts(self) -> None:
         pairs = {"all": 2, "repaired": 2}
-        choice, other, fault = ({"causes": [1], "by_choice": True}, {"causes": [1], "by_choice": False}, {"causes": []})
+        choice, other, fault = (
+            {"causes": [1], "by_choice": True},
+            {"causes": [1], "by_choice": False},
+            {"causes": []},
+        )
         for gaps, installed, wanted in (
             ([], None, "protected"),
             ([choice], None, "protected"),

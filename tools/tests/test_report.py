@@ -80,7 +80,10 @@ class Sample(unittest.TestCase):
         found = {each["element"]: (each["gaps"], each["parted"]) for each in self.values["failures"] if each["gaps"]}
         self.assertEqual(found, {"link:10.255.1.4/198.51.100.4": (12, 0), "net:198.51.100.4": (6, 16)})
         (gap,) = self.values["gaps"]
-        self.assertEqual([(cause["cause"], cause["element"]) for cause in gap["causes"]], [("ineligible", "link:10.255.1.4/192.0.2.13")])
+        self.assertEqual(
+            [(cause["cause"], cause["element"]) for cause in gap["causes"]],
+            [("ineligible", "link:10.255.1.4/192.0.2.13")],
+        )
 
     def test_pairs_are_counted_once(self) -> None:
         """Those of 10.255.1.4 but with 10.255.1.3 and 10.255.1.6 on one side of the LAN could be repaired; those of the

@@ -56,13 +56,23 @@ class Folder(unittest.TestCase):
 
 class Demands(Folder):
     def test_a_file(self) -> None:
-        path = self.write("weights", f"# demand\n\n{name(1)} core 2.5\n{name(1)} {name(2)} 1\n{name(2)} {name(1)} 3\n")
+        path = self.write(
+            "weights", f"# demand\n\n{name(1)} core 2.5\n{name(1)} {name(2)} 1\n{name(2)} {name(1)} 3\n"
+        )
         found = demand.read(path, {node(2): "core"})
-        self.assertEqual([found.of(node(1), node(2)), found.of(node(2), node(1)), found.of(node(1), node(3))], [3.5, 3, 0])
+        self.assertEqual(
+            [found.of(node(1), node(2)), found.of(node(2), node(1)), found.of(node(1), node(3))], [3.5, 3, 0]
+        )
         self.assertEqual(demand.EVEN.of(node(1), node(3)), 1)
 
     def test_lines_that_are_none(self) -> None:
-        for line in ("1.2.3.4 1.2.3.5", "1.2.3.4 1.2.3.5 -1", "x 1.2.3.5 1", "1.2.3.4 1.2.3.5 1 2", "1.2.3.4 1.2.3.5 nan"):
+        for line in (
+            "1.2.3.4 1.2.3.5",
+            "1.2.3.4 1.2.3.5 -1",
+            "x 1.2.3.5 1",
+            "1.2.3.4 1.2.3.5 1 2",
+            "1.2.3.4 1.2.3.5 nan",
+        ):
             path = self.write("weights", f"\n{line}\n")
             with self.assertRaisesRegex(ToolFault, f"bad weights: {path} on line 2"):
                 demand.read(path, {})
@@ -84,7 +94,9 @@ class Demands(Folder):
         for part in ("load", "coverage", "failures"):
             self.assertEqual(even[part], own[part])
         self.assertEqual(even["stretch"]["metric_bars"], own["stretch"]["metric_bars"])
-        self.assertEqual(list(own["pairs"]["demand"].values()), [even["pairs"][each] for each in ("repaired", "parted", "gaps")])
+        self.assertEqual(
+            list(own["pairs"]["demand"].values()), [even["pairs"][each] for each in ("repaired", "parted", "gaps")]
+        )
 
 
 @unittest.skipUnless(os.access(MRT, os.X_OK), "the program is not built")
@@ -101,7 +113,7 @@ class Installed(Folder):
             self.say(router, self.right)
         found = self.values("--installed", self.folder)
         self.assertEqual((found["verdict"], found["installed"]["counts"]["current"]), ("protected", 6))
-        self.assertEqual({each["left_out"] for each in found["installed"]["routers"]}, {1})
+        self.assertEqual(found["installed"]["routers"][0]["left_out"], [{"what": "1.2.3.0/24", "why": "x"}])
 
     def test_who_is_behind(self) -> None:
         for router in ROUTERS[1:5]:
@@ -109,15 +121,21 @@ class Installed(Folder):
         self.say(ROUTERS[1], "ab" * 32, waits="not heard: a router-LSA")
         self.say(ROUTERS[2], None)
         self.say(ROUTERS[3], self.right, at="2020-01-01T00:00:00Z")
+        self.say(ROUTERS[4], self.right, state="stopped")
         self.say(ROUTERS[5], self.right)
         self.say("9.9.9.9", self.right)
         self.write("other.json", "{}")
         self.write("list.json", "[1]")
         found = self.values("--installed", self.folder)
         states = {each["router"]: each["installed"] for each in found["installed"]["routers"]}
-        self.assertEqual([states[router] for router in ROUTERS], ["unknown", "behind", "none", "old", "current", "current"])
+        self.assertEqual(
+            [states[router] for router in ROUTERS], ["unknown", "behind", "none", "old", "old", "current"]
+        )
         self.assertEqual(found["verdict"], "not")
-        self.assertEqual((found["installed"]["others"], found["installed"]["bad_files"]), (["9.9.9.9"], ["list.json", "other.json"]))
+        self.assertEqual(
+            (found["installed"]["others"], found["installed"]["bad_files"]),
+            (["9.9.9.9"], ["list.json", "other.json"]),
+        )
 
     def test_the_newest_of_two_counts(self) -> None:
         self.say(ROUTERS[0], self.right)
@@ -141,9 +159,11 @@ class InstalledPages(Case):
         self.assertTrue(found.of("verdict").startswith("\u2714 Protected now: all "), found.of("verdict"))
         self.say(statement(ROUTERS[3], "00") | {"waits": "<b>hostile</b>"})
         found = self.page("--installed", self.folder, *LAN)
-        wanted = f"\u2716 Not protected now: 1 of 6 routers has not the certificate of this area ( {ROUTERS[3]} )."
-        self.assertTrue(found.of("verdict").replace("(", "( ").replace(")", " )").startswith(wanted), found.of("verdict"))
-        self.assertIn("5 of 6 routers have the certificate", found.of("installed"))
+        wanted = f"\u2716 Not protected now: 1 of 6 routers is not known to have the certificate of this area ( {ROUTERS[3]} )."
+        self.assertTrue(
+            found.of("verdict").replace("(", "( ").replace(")", " )").startswith(wanted), found.of("verdict")
+        )
+        self.assertIn("5 routers with the certificate", found.of("installed"))
         self.assertIn("&lt;b&gt;hostile&lt;/b&gt;", self.source)
 
     def say(self, said: dict[str, Any]) -> None:
@@ -177,7 +197,13 @@ class Since(Folder):
         self.assertEqual(found["pairs"]["all"], [30, 30])
 
     def test_what_is_no_report(self) -> None:
-        for text in ("", "[]", "{}", '{"format": "semborui-report", "version": 1}', '{"format": "semborui-report", "version": 2}'):
+        for text in (
+            "",
+            "[]",
+            "{}",
+            '{"format": "semborui-report", "version": 1}',
+            '{"format": "semborui-report", "version": 2}',
+        ):
             old = self.write("old.json", text)
             done = run_report("--json", "--against", old, *LAN)
             wanted = f"report: {old}: it is no report that tools/report --json has written\n"
@@ -198,7 +224,10 @@ class Origins(unittest.TestCase):
     def test_versions(self) -> None:
         with tempfile.TemporaryDirectory() as folder:
             path = os.path.join(folder, "mrt")
-            for script, wanted in (("echo Semborui 1.0; echo commit x; exit 0", "Semborui 1.0, commit x"), ("exit 2", None)):
+            for script, wanted in (
+                ("echo Semborui 1.0; echo commit x; exit 0", "Semborui 1.0, commit x"),
+                ("exit 2", None),
+            ):
                 with open(path, "w", encoding="ascii") as file:
                     file.write(f"#!/bin/sh\n{script}\n")
                 os.chmod(path, 0o755)
@@ -215,7 +244,9 @@ class Overviews(unittest.TestCase):
 
     def check_matrix(self, one: Written) -> None:
         found = matrix.matrix_of(one.facts, lambda node: node.text, {})
-        self.assertEqual([column.name for column in found.columns], [one.graph.nodes[each].text for each in one.graph.routers])
+        self.assertEqual(
+            [column.name for column in found.columns], [one.graph.nodes[each].text for each in one.graph.routers]
+        )
         rows = {row.element: row.cells for rows in found.rows.values() for row in rows}
         for element in range(len(one.graph.bonds) + len(one.graph.nodes)):
             met = {}
@@ -243,7 +274,10 @@ class Overviews(unittest.TestCase):
         of = {node(1): "west", node(2): "west", node(6): "west", node(3): "east", node(4): "east"}
         drawing = overview.site_drawing(whole, islands.Islands([], [], set(), set()), cuts_found, of)
         self.assertEqual([mark.name for mark in drawing.marks], ["east", overview.NO_SITE, "west"])
-        self.assertEqual([mark.word for mark in drawing.marks], ["2 routers, 1 single point", "1 router", "3 routers, 2 single points"])
+        self.assertEqual(
+            [mark.word for mark in drawing.marks],
+            ["2 routers, 1 single point", "1 router", "3 routers, 2 single points"],
+        )
         tips = {stroke.tip: stroke.sort for stroke in drawing.strokes}
         self.assertEqual(tips, {"east \u2013 west: 2 links": "link", "east \u2013 no site: 1 link": "cut"})
 
