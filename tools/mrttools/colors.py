@@ -84,11 +84,11 @@ class Colors:
 
     def nodes(self, color: int, router: int, target: int) -> list[int]:
         """The nodes that a router's way meets, in their order."""
-        at, to, found = self.place[router], self.place[target], []
-        following = self.following(self.column(color, to), to)
-        while at != to:
-            at = following[at]
-            found.append(self.numbers[at])
+        graph, at, found = self.graph, router, []
+        while at != target:
+            bond = graph.bonds[self.link(color, at, target)]
+            at = graph.number[bond.far(graph.nodes[at])]
+            found.append(at)
         return found
 
 

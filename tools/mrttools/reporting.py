@@ -16,7 +16,7 @@ from .losses import Tally, Toll
 from .lsas import ROUTER
 from .paths import METRIC, Graph
 from .program import Program
-from .stretches import Stretched
+from .stretches import Longest, Stretched
 from .target import routers_of, size_of
 
 VERSION = 2
@@ -229,6 +229,18 @@ def state_of(toll: Toll) -> str:
     return "parts" if toll.parted else "choice" if toll.gaps else "repaired" if toll.met else "unused"
 
 
+def longest_values(found: Facts, element: int, longest: Longest) -> Values:
+    """The longest repair of a failure, and the mean of all."""
+    nodes = found.graph.nodes
+    return {
+        "ratio": round(longest.ratio, 3),
+        "mean": round(longest.total / longest.count, 3),
+        "from": nodes[longest.router].text,
+        "to": nodes[longest.target].text,
+        "trace": agreeing.trace(found, longest.router, longest.target, element),
+    }
+
+
 def failure_values(found: Facts, element: int) -> Values:
     """What a failure costs."""
     graph, toll = found.graph, found.losses.tolls[element]
@@ -246,13 +258,7 @@ def failure_values(found: Facts, element: int) -> Values:
             {"router": nodes[router].text, "blue": blue, "red": red, "gaps": gaps, "parted": parted}
             for router, (blue, red, gaps, parted) in sorted(toll.rows.items())
         ],
-        "longest": longest
-        and {
-            "ratio": round(longest.ratio, 3),
-            "mean": round(longest.total / longest.count, 3),
-            "from": nodes[longest.router].text,
-            "to": nodes[longest.target].text,
-        },
+        "longest": longest and longest_values(found, element, longest),
         "fullest": [
             {"link": facts.name_of(graph, bond), "before": found.loads.load[bond], "more": more}
             for bond, more in found.loads.fullest(element)
