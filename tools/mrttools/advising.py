@@ -83,8 +83,7 @@ class Advice:
             if cause.kind == METRIC:
                 found += self.metric_changes(cause)
             elif cause.kind == ONE_END:
-                ends = cause.element.a, cause.element.b
-                found += ["--add", *(end.text for end in ends), str(self.near_metric(ends))]
+                found += ["--add", *(end.text for end in cause.ends), str(self.near_metric(cause.ends))]
         return found
 
     def kept_out(self, causes: Causes) -> Iterator[str]:
@@ -92,8 +91,8 @@ class Advice:
         for cause in causes:
             if cause.kind == NO_MRT:
                 yield rf"^\s*no-mrt\s\+{cause.element.text}\s*$".replace(".", r"\.")
-            elif cause.kind == INELIGIBLE:
-                for end in (cause.element.a, cause.element.b):
+            elif cause.kind == INELIGIBLE and isinstance(cause.element, Bond):
+                for end in cause.ends:
                     words = rf"^\s*ineligible\s\+{end.text}\s\+{lsas.spelled(cause.element.data_of(end) or 0)}\s*$"
                     yield words.replace(".", r"\.")
 
@@ -101,15 +100,12 @@ class Advice:
 
     def speaks_of(self, causes: Causes) -> set[Node]:
         """The routers that a piece of advice is about."""
-        found: set[Node] = set()
-        for cause in causes:
-            found |= {cause.element.a, cause.element.b} if isinstance(cause.element, Bond) else {cause.element}
-        return found
+        return {end for cause in causes for end in cause.ends}
 
     def for_gaps(self) -> Iterator[Values]:
         for causes, tally in self.found.tallies.items():
-            ends = [cause for cause in causes if cause.kind == ONE_END]
-            on_networks = any(end.kind != ROUTER for cause in ends for end in (cause.element.a, cause.element.b))
+            half = [cause for cause in causes if cause.kind == ONE_END]
+            on_networks = any(end.kind != ROUTER for cause in half for end in cause.ends)
             if causes and tally.alone and not self.speaks_of(causes) & self.without and not on_networks:
                 yield {
                     "advice": "take-in",

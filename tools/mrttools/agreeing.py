@@ -39,7 +39,7 @@ def trace(found: Facts, router: int, target: int, failed: int) -> list[str]:
     if color < 0:
         return [*lines, f"lost {why_lost(found, router, target, color)}"]
     lines.append(f"switched {COLORS[color]}")
-    way = found.colors_to(target).nodes(color, router, target)
+    way = found.colors[graph.nodes[target]].nodes(color, router, target)
     return lines + [moved(graph, node, target) for node in way if graph.nodes[node].kind == ROUTER]
 
 
@@ -65,7 +65,7 @@ def chosen(found: Facts) -> list[int]:
 
 def own_lines(found: Facts, router: int) -> Iterator[str]:
     """What `mrt table` has to say of each router that one sends to, but for the word of a row."""
-    graph, colors = found.graph, found.colors_to(router)
+    graph, colors = found.graph, found.colors[found.graph.nodes[router]]
     tail = graph.nodes[router]
     places = {
         graph.place[bond]: f"{bond.far(tail).text}/{lsas.spelled(bond.data_of(tail) or 0)}"

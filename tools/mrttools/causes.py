@@ -21,6 +21,11 @@ class Cause(NamedTuple):
     element: Node | Bond
 
     @property
+    def ends(self) -> tuple[Node, ...]:
+        """The router, or the two ends of the link."""
+        return (self.element.a, self.element.b) if isinstance(self.element, Bond) else (self.element,)
+
+    @property
     def by_choice(self) -> bool:
         """Whether the profile says so."""
         return self.kind in (NO_MRT, INELIGIBLE)
@@ -119,7 +124,8 @@ class WhyNot:
     def on_way(self, failed: int, start: int, end: int, labels: list[int]) -> Iterator[Cause]:
         if start == end:
             return
-        gone, ways = failed - len(self.graph.bonds), {}
+        gone = failed - len(self.graph.bonds)
+        ways: dict[int, list[tuple[int, int, int, int]]] = {}
         for a, b, bond in self.over:
             if bond != failed and gone not in (a, b):
                 ways.setdefault(labels[a], []).append((labels[b], a, b, bond))
@@ -146,8 +152,8 @@ class WhyNot:
         if not bond.two_way:
             yield Cause(ONE_END, bond)
         elif not bond.transit:
-            resting = [node for node in (bond.a, bond.b) if node in self.resting]
-            yield from [Cause(METRIC, each) for each in resting or [bond]]
+            resting = [Cause(METRIC, node) for node in (bond.a, bond.b) if node in self.resting]
+            yield from resting or [Cause(METRIC, bond)]
         if any(bond.is_of(router, data) for router, data in self.kept_out):
             yield Cause(INELIGIBLE, bond)
         if head in self.out:

@@ -135,7 +135,9 @@ def hops_of(side: Side, source: Node) -> Iterator[tuple[Node, list[Way | None]]]
     primary here."""
     found, graph = side.facts, side.facts.graph
     colors, own = found.colors.get(source), graph.number[source]
-    for target in colors.numbers if colors else []:
+    if colors is None:
+        return
+    for target in colors.numbers:
         if target != own:
             bonds: list[Bond | None] = [graph.bonds[colors.link(color, own, target)] for color in range(len(COLORS))]
             hop, _ = found.rows[own].get(target, (None, ()))

@@ -67,7 +67,8 @@ class Colors:
         to, steps = self.place[target], self.steps
         column = self.column(color, to)
         following = self.following(column, to)
-        met, links, costs = [0] * len(following), [[]] * len(following), [0] * len(following)
+        met, costs = [0] * len(following), [0] * len(following)
+        links: list[list[int]] = [[]] * len(following)
         for place in towards(following, to)[1:]:
             after = following[place]
             bond, bits, cost = steps[place][column[place]]

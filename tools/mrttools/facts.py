@@ -98,8 +98,8 @@ class Facts:
             self.stretches.take(to)
             tell("repairs and loads", done + 1, len(graph.routers))
         self.loads.settle()
-        for router, rows in self.rows.items():
-            kinds = Counter(rows.values()).items()
+        for router, own in self.rows.items():
+            kinds = Counter(own.values()).items()
             self.losses.settle(router, kinds)
             for (_, repairs), count in kinds:
                 self.coverage[router].take(repairs, count)

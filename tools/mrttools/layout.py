@@ -7,6 +7,9 @@ from itertools import combinations
 from random import Random
 from typing import NamedTuple, Sequence
 
+from .ending import READ_FAULT, ToolFault
+
+LACKS = "a picture needs Debian's graphviz"
 Point = tuple[float, float]
 Line = tuple[int, int]
 
@@ -106,9 +109,12 @@ def graph_text(sizes: Sequence[Size], lines: Sequence[Line], space: float) -> st
 def places_of(program: str, mode: str, text: str, start: int, count: int) -> list[Point]:
     """Where graphviz puts the nodes from one of its random starts, each of which is the same every time."""
     command = [program, f"-Gstart={start}", *([f"-Gmode={mode}"] if mode else []), "-Tplain"]
-    plain = subprocess.run(
-        command, input=text.encode(), stdout=subprocess.PIPE, stderr=subprocess.DEVNULL, check=True
-    ).stdout.decode()
+    try:
+        plain = subprocess.run(
+            command, input=text.encode(), stdout=subprocess.PIPE, stderr=subprocess.DEVNULL, check=True
+        ).stdout.decode()
+    except FileNotFoundError:
+        raise ToolFault(LACKS, READ_FAULT) from None
     found = [(0.0, 0.0)] * count
     for line in plain.splitlines():
         words = line.split(" ")

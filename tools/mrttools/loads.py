@@ -39,9 +39,8 @@ class Loads:
     def __init__(self, graph: Graph) -> None:
         self.graph = graph
         self.load: list[float] = self.zeros()
-        self.changes: dict[int, list[float]] = {}
-        # Of a primary of two elements what changes with the failure of either.
-        self.shared: dict[Hop, list[float]] = {}
+        # By failure, and before all is settled by a primary of two elements, where the failure of either changes the same.
+        self.changes: dict[Hop | int, list[float]] = {}
         self.waiting: dict[Hop | int, list[Move]] = {}
         self.kept = 0
 
@@ -71,28 +70,27 @@ class Loads:
 
     def put_waiting(self) -> None:
         for key, moves in self.waiting.items():
-            changes = self.changes if isinstance(key, int) else self.shared
-            if key not in changes:
-                changes[key] = self.zeros()
-            put(changes[key], moves)
+            if key not in self.changes:
+                self.changes[key] = self.zeros()
+            put(self.changes[key], moves)
         self.waiting.clear()
 
     def settle(self) -> None:
         """Adds what waits, and what two failures share to each of them."""
         self.put_waiting()
-        for hop, shared in self.shared.items():
+        for hop in [key for key in self.changes if isinstance(key, Hop)]:
+            shared = self.changes.pop(hop)
             for failed in hop.elements:
                 change = self.changes.get(failed) or self.zeros()
                 self.changes[failed] = [one + more for one, more in zip(change, shared)]
-        self.shared.clear()
 
     def most(self) -> list[Most]:
         """Of each link the failure after which it carries most; of several the first."""
         found = [Most(load, None) for load in self.load]
-        best: list[float | None] = [None] * len(found)
-        for failed in sorted(self.changes):
+        best = [float("-inf")] * len(found)
+        for failed in sorted(key for key in self.changes if isinstance(key, int)):
             for bond, more in enumerate(self.changes[failed]):
-                if bond != failed and (best[bond] is None or more > best[bond]):
+                if more > best[bond] and bond != failed:
                     best[bond] = more
                     found[bond] = Most(self.load[bond] + more, failed)
         return found

@@ -55,9 +55,9 @@ def site_drawing(whole: Area, parts: Islands, cuts: Sequence[Cut], sites: dict[N
         found[name] = Site(Node(number, ROUTER), name, nodes, [node for node in nodes if node in elements])
     between: dict[tuple[str, str], list[Bond]] = {}
     for bond in whole.bonds:
-        ends = tuple(sorted((of[bond.a], of[bond.b])))
-        if ends[0] != ends[1]:
-            between.setdefault(ends, []).append(bond)
+        one, other = sorted((of[bond.a], of[bond.b]))
+        if one != other:
+            between.setdefault((one, other), []).append(bond)
     strokes = []
     for (one, other), bonds in between.items():
         line = Bond(found[one].node, found[other].node, 0, 0)

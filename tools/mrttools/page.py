@@ -6,9 +6,10 @@ import base64
 import hashlib
 import os
 import re
+import shutil
 from typing import Any, NamedTuple, Sequence
 
-from . import names
+from . import layout, names
 from .area import Node
 from .ending import READ_FAULT, ToolFault
 from .joining import NEAR
@@ -188,13 +189,21 @@ class Words:
         }
 
 
-def environment(words_of: Any) -> Any:
-    """The templates, which escape whatever is put into them."""
+def libraries() -> tuple[Any, Any]:
+    """What makes the page. Where something is missing, it is said before anything is done."""
     try:
         import jinja2
         import markupsafe
     except ImportError:
         raise ToolFault(LACKS, READ_FAULT) from None
+    if not shutil.which("neato"):
+        raise ToolFault(f"{layout.LACKS}; --json writes the facts without it", READ_FAULT)
+    return jinja2, markupsafe
+
+
+def environment(words_of: Any) -> Any:
+    """The templates, which escape whatever is put into them."""
+    jinja2, markupsafe = libraries()
     found = jinja2.Environment(
         loader=jinja2.FileSystemLoader(FOLDER),
         autoescape=True,

@@ -234,7 +234,7 @@ def longest_values(found: Facts, element: int, longest: Longest) -> Values:
     nodes = found.graph.nodes
     return {
         "ratio": round(longest.ratio, 3),
-        "mean": round(longest.total / longest.count, 3),
+        "mean": round(longest.total / longest.number, 3),
         "from": nodes[longest.router].text,
         "to": nodes[longest.target].text,
         "trace": agreeing.trace(found, longest.router, longest.target, element),

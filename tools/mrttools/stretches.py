@@ -35,7 +35,7 @@ class Longest(NamedTuple):
     router: int
     target: int
     total: float
-    count: int
+    number: int
 
 
 # A destination with the color that repairs it, and the cost of its way.
@@ -88,9 +88,9 @@ class Stretches:
         ratio = max(ratios)
         target = repairs[ratios.index(ratio)][0]
         old = self.longest.get(failed)
-        total, count = sum(ratios) + (old.total if old else 0), len(ratios) + (old.count if old else 0)
+        total, count = sum(ratios) + (old.total if old else 0), len(ratios) + (old.number if old else 0)
         if old and old.ratio >= ratio:
-            self.longest[failed] = old._replace(total=total, count=count)
+            self.longest[failed] = old._replace(total=total, number=count)
         else:
             self.longest[failed] = Longest(ratio, router, target, total, count)
         if len(self.worst) < WORST or ratio > self.worst[-1].ratio:

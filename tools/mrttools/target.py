@@ -1,7 +1,7 @@
 """What holds of one destination: primaries, what repairs them, and which routers send over which."""
 from __future__ import annotations
 
-from typing import Callable, Iterator
+from typing import Callable, Iterator, TypeVar
 
 from .colors import Colors, Ways
 from .demand import Demand
@@ -17,6 +17,7 @@ BLUE = [(0,) * count for count in range(5)]
 Why = Callable[[int, int, int], bool]
 # Of each element of a primary the color that goes round it, or why none does.
 Repairs = tuple[int, ...]
+Sum = TypeVar("Sum", int, float)
 # A router with its primary and repairs.
 Row = tuple[int, Hop, Repairs]
 
@@ -35,19 +36,18 @@ class Target:
         self.senders = {router: 1 << router for router in hops}
         # How many routers send over a router, what it sends itself, and what goes over it.
         self.counts = dict.fromkeys(hops, 1)
-        self.own = self.sending = self.counts
+        self.gather(self.counts)
+        self.own: dict[int, float] = {router: 1 for router in hops}
+        self.sending: dict[int, float] = {**self.counts}
         if demand.told:
             self.own = dict(zip(hops, demand.to(graph.nodes[target], [graph.nodes[router] for router in hops])))
             self.sending = dict(self.own)
             self.gather(self.sending)
-        else:
-            self.own = dict.fromkeys(hops, 1)
-        self.gather(self.counts)
         self.gather(self.senders)
         for router, hop in hops.items():
             self.paths[router] = hop.bonds + self.paths[hop.following]
 
-    def gather(self, sums: dict[int, float]) -> None:
+    def gather(self, sums: dict[int, Sum]) -> None:
         """Adds to each router what those have that send over it. (Bits of different routers are added as they are joined.)"""
         for router, hop in reversed(self.hops.items()):
             after = hop.following
@@ -61,12 +61,12 @@ class Target:
     def rows(self, why: Why) -> Iterator[Row]:
         """The rows of all routers, the nearest first. Of each element of a primary the color is blue where both go round
         it, and also where it is outside the island. Both ways meet the destination."""
-        blues, reds = (ways.met for ways in self.ways) if self.ways else ([], [])
+        blues, reds = [ways.met for ways in self.ways] or [[], []]
         places = self.place
         for router, hop in self.hops.items():
             place = places.get(router)
             if place is None:
-                repairs = tuple([self.lost(router, element, why) for element in hop.elements])
+                repairs: Repairs = tuple([self.lost(router, element, why) for element in hop.elements])
             elif not blues[place] & hop.all:
                 repairs = BLUE[len(hop.bits)]
             else:

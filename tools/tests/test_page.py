@@ -9,6 +9,7 @@ import shutil
 import subprocess
 import tempfile
 import unittest
+from collections import Counter
 from html.parser import HTMLParser
 from typing import Any
 from unittest import mock
@@ -244,12 +245,12 @@ class InABrowser(Case):
 class Lacking(unittest.TestCase):
     """Without the library the page cannot be made, and the facts can."""
 
-    def run_without(self, *words: str) -> subprocess.CompletedProcess[str]:
+    def run_without(self, *words: str, tool: str = "report", path: str = "") -> subprocess.CompletedProcess[str]:
         with tempfile.TemporaryDirectory() as folder:
             with open(os.path.join(folder, "jinja2.py"), "w", encoding="ascii") as file:
                 file.write("raise ImportError\n")
-            command = [f"{TOOLS}/report", "--mrt", MRT, *words, f"{DATA}/lan.lsas", f"{DATA}/lan.profile"]
-            env = os.environ | {"PYTHONPATH": folder}
+            command = [f"{TOOLS}/{tool}", "--mrt", MRT, f"{DATA}/lan.lsas", f"{DATA}/lan.profile", *words]
+            env = os.environ | ({"PATH": path} if path else {"PYTHONPATH": folder})
             return subprocess.run(command, capture_output=True, text=True, env=env, check=False)
 
     @unittest.skipUnless(os.access(MRT, os.X_OK), "the program is not built")
@@ -259,6 +260,39 @@ class Lacking(unittest.TestCase):
         done = self.run_without("--json")
         self.assertEqual((done.returncode, done.stderr), (0, ""))
         self.assertEqual(json.loads(done.stdout)["format"], "semborui-report")
+
+    @unittest.skipUnless(os.access(MRT, os.X_OK), "the program is not built")
+    def test_graphviz(self) -> None:
+        wanted = "a picture needs Debian's graphviz"
+        done = self.run_without(path="/nonexistent")
+        self.assertEqual((done.returncode, done.stdout), (8, ""))
+        lacks = f"{wanted}; --json writes the facts without it" if jinja2 else page.LACKS
+        self.assertEqual(done.stderr, f"report: {lacks}\n")
+        self.assertEqual(self.run_without("--json", path="/nonexistent").returncode, 0)
+        done = self.run_without("10.255.1.1", tool="draw", path="/nonexistent")
+        self.assertEqual((done.returncode, done.stdout, done.stderr), (8, "", f"draw: {wanted}\n"))
+
+
+@unittest.skipUnless(os.access(MRT, os.X_OK), "the program is not built")
+class Runs(unittest.TestCase):
+    def test_a_large_area_takes_few(self) -> None:
+        """The program is started once for each island, for a hundred tables, for a trace and for its version."""
+        with tempfile.TemporaryDirectory() as folder:
+            path, log = os.path.join(folder, "mrt"), os.path.join(folder, "log")
+            with open(path, "w", encoding="ascii") as file:
+                file.write(f'#!/bin/sh\necho "$1" >>{log}\nexec {MRT} "$@"\n')
+            os.chmod(path, 0o755)
+            links = [(each, each % 240 + 1) for each in range(1, 241)]
+            area = database(folder, records_of(links, [], [10]))
+            done = subprocess.run(
+                [f"{TOOLS}/report", "--json", "--mrt", path, area, "-"], capture_output=True, check=False
+            )
+            self.assertEqual((done.returncode, done.stderr), (0, b""))
+            with open(log, encoding="ascii") as file:
+                runs = Counter(file.read().split())
+        self.assertEqual((runs["certify"], runs["fabric"], runs["--version"]), (1, 1, 1))
+        self.assertTrue(50 <= runs["table"] <= 100, runs)
+        self.assertEqual(sum(runs.values()) - runs["table"], 3)
 
 
 class Parts(unittest.TestCase):
