@@ -81,6 +81,10 @@ class Stretches:
                 self.weights.extend([self.demand.of(nodes[router], nodes[each[0]]) for each in repairs])
             self.put_longest(router, failed, repairs, ratios, least)
 
+    def sends(self, router: int, target: int) -> bool:
+        nodes = self.graph.nodes
+        return not self.demand.told or self.demand.of(nodes[router], nodes[target]) > 0
+
     def put_longest(
         self, router: int, failed: int, repairs: list[Repair], ratios: list[float], least: list[int]
     ) -> None:
@@ -97,7 +101,7 @@ class Stretches:
             self.worst += [
                 Stretched(each, router, target, failed, color, cost, least[target])
                 for each, (target, color, cost) in zip(ratios, repairs)
-                if len(self.worst) < WORST or each > self.worst[-1].ratio
+                if (len(self.worst) < WORST or each > self.worst[-1].ratio) and self.sends(router, target)
             ]
             self.worst.sort(key=lambda each: (-each.ratio, each[1:4]))
             del self.worst[WORST:]

@@ -214,6 +214,13 @@ class InABrowser(Case):
         closed = sum("open" in each for each in self.dom().all("details"))
         self.assertGreaterEqual(sum("open" in each for each in self.dom(f"#{place}").all("details")), closed + 1)
 
+    def test_the_age_of_the_page_is_told(self) -> None:
+        self.page(f"{DATA}/lan.lsas", f"{DATA}/lan.profile")
+        self.source = re.sub(r'datetime="[^"]*"', 'datetime="2020-01-01T00:00:00Z"', self.source)
+        self.assertRegex(
+            self.dom("", "say(document.querySelector('time + b').textContent)").of("said"), r"^\(\d+ hours ago\)$"
+        )
+
     def test_tables_are_sorted(self) -> None:
         click = "const head = [...document.querySelectorAll('#points ~ .wide thead button')][1]; head.click();"
         found = self.dom("", click + "say(document.querySelector('#points ~ .wide tbody').innerText)")

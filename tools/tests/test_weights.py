@@ -83,6 +83,8 @@ class Demands(Folder):
         path = self.write("weights", f"{ROUTERS[0]} {ROUTERS[5]} 7\n{ROUTERS[0]} {ROUTERS[4]} 3\n")
         found = self.values("--weights", path)
         self.assertEqual(found["pairs"]["demand"], {"repaired": 3, "parted": 7, "gaps": 0})
+        worst = {(each["from"], each["to"]) for each in found["stretch"]["worst"]}
+        self.assertLessEqual(worst, {(ROUTERS[0], ROUTERS[4]), (ROUTERS[0], ROUTERS[5])})
         loads = {link["element"]: link["primaries"] for link in found["load"]["links"]}
         self.assertEqual(loads["link:10.255.1.3/192.0.2.17"], 7)
         self.assertEqual({loads[each] for each in loads} - {0}, {3, 7, 10})

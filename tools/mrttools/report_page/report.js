@@ -1,5 +1,5 @@
 "use strict";
-// Sorts and filters tables, opens what a link leads to, and moves the picture. Without it the page has all the same.
+// Sorts and filters tables, opens what a link leads to, tells how old the page is, and moves the picture. Without it the page has all the same.
 const text = (cell) => cell.dataset.v ?? cell.textContent.trim();
 const compare = (a, b) => {
   const [one, other] = [a, b].map((word) => parseFloat(word.replaceAll(",", "")));
@@ -53,6 +53,15 @@ function reveal() {
 }
 addEventListener("hashchange", reveal);
 if (location.hash) reveal();
+
+const made = document.querySelector("time"), ago = document.createElement("b");
+function tellAge() {
+  const minutes = Math.floor((Date.now() - Date.parse(made.dateTime)) / 60000);
+  ago.textContent = minutes < 1 ? "" : minutes < 120 ? ` (${minutes} min ago)` : ` (${Math.floor(minutes / 60)} hours ago)`;
+}
+made.after(ago);
+tellAge();
+setInterval(tellAge, 30000);
 
 const frame = document.querySelector(".picture"), svg = frame && frame.querySelector("svg");
 if (svg) {
