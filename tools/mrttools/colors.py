@@ -1,12 +1,10 @@
 """The two colors of an island by destination: of each node what its way meets, its links and its cost."""
 from __future__ import annotations
 
-import sys
 from array import array
 from typing import NamedTuple
 
 from .area import Bond, Node
-from .certificate import ROW
 from .paths import Graph
 from .picture import Island
 
@@ -25,7 +23,13 @@ class Colors:
 
     def __init__(self, graph: Graph, island: Island) -> None:
         cert = island.certificate
-        self.graph, self.rows = graph, cert.rows
+        self.graph = graph
+        count = range(len(cert.nodes))
+        # By color the links of all nodes to all, source by source.
+        self.rows = [
+            array("H", [cert.link(color, tail, to) if tail != to else 0 for tail in count for to in count])
+            for color in (0, 1)
+        ]
         self.numbers = [graph.number[node] for node in cert.nodes]
         self.place = {number: place for place, number in enumerate(self.numbers)}
         self.bonds = [graph.place[bond] for bond in island.bonds]
@@ -43,17 +47,7 @@ class Colors:
 
     def column(self, color: int, to: int) -> "array[int]":
         """The link of each node on a color to a destination; of the destination itself there is none, and 0 stands."""
-        count = len(self.numbers)
-        step, found = ROW * (count - 1), bytearray(2 * count)
-        for byte in (0, 1):
-            at = 2 * color + byte
-            if to:
-                found[byte : 2 * to : 2] = self.rows[ROW * (to - 1) + at :: step][:to]
-            found[2 * to + 2 + byte :: 2] = self.rows[ROW * to + (to + 1) * step + at :: step]
-        links = array("H", bytes(found))
-        if sys.byteorder == "little":
-            links.byteswap()
-        return links
+        return self.rows[color][to :: len(self.numbers)]
 
     def following(self, links: "array[int]", to: int) -> list[int]:
         """The next node of each node over its link."""
@@ -79,9 +73,7 @@ class Colors:
 
     def link(self, color: int, router: int, target: int) -> int:
         """The link of the graph that a router's packets take on a color."""
-        source, to = self.place[router], self.place[target]
-        at = ROW * (source * (len(self.numbers) - 1) + to - (to > source)) + 2 * color
-        return self.bonds[int.from_bytes(self.rows[at : at + 2], "big")]
+        return self.bonds[self.rows[color][self.place[router] * len(self.numbers) + self.place[target]]]
 
     def nodes(self, color: int, router: int, target: int) -> list[int]:
         """The nodes that a router's way meets, in their order."""

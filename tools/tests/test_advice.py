@@ -24,7 +24,8 @@ def with_link(whole: Area, a: Node, b: Node) -> Area:
 def never_parted(whole: Area) -> set[tuple[Node, Node]]:
     """The pairs that no failure but that of an end parts, by a plain search for each failure."""
     found = connected(whole, None)
-    for element in [*whole.nodes, *whole.bonds]:
+    elements: list[Node | Bond] = [*whole.nodes, *whole.bonds]
+    for element in elements:
         joined = connected(whole, element)
         found = {pair for pair in found if element in pair or pair in joined}
     return found
@@ -47,7 +48,7 @@ class NewLinks(unittest.TestCase):
             whole = random_area(random)
             if any(not bond.two_way for bond in whole.bonds):
                 continue
-            links = {link[:2]: link.pairs for link in joining_of(whole).links}
+            links = {(link.a, link.b): link.pairs for link in joining_of(whole).links}
             before = len(never_parted(whole))
             for a in whole.nodes:
                 for b in whole.nodes:

@@ -8,6 +8,7 @@ import re
 import shutil
 import subprocess
 import tempfile
+import types
 import unittest
 from collections import Counter
 from html.parser import HTMLParser
@@ -20,10 +21,7 @@ from tests.making import DATA, MRT, TOOLS, router_lsa
 from tests.test_cuts import name, records_of
 from tests.test_report import run_report
 
-try:
-    import jinja2
-except ImportError:
-    jinja2 = None
+HAS_JINJA = importlib.util.find_spec("jinja2") is not None
 
 # A ring of three, and a fourth router on two of them.
 FOUR = [(1, 2), (2, 3), (1, 3), (3, 4), (1, 4)]
@@ -37,7 +35,7 @@ class Page(HTMLParser):
         self.open: list[str] = []
         self.found: list[tuple[str, dict[str, Any]]] = []
         self.text: dict[str, str] = {}
-        self.inside: str | None = None
+        self.inside = ""
         self.feed(text)
 
     def handle_starttag(self, tag: str, attrs: Any) -> None:
@@ -62,7 +60,7 @@ def database(folder: str, records: list[bytes], kind: str = "lsas") -> str:
     return path
 
 
-CAN = bool(jinja2 and shutil.which("dot") and os.access(MRT, os.X_OK))
+CAN = bool(HAS_JINJA and shutil.which("dot") and os.access(MRT, os.X_OK))
 
 
 @unittest.skipUnless(CAN, "the program or a library is missing")
@@ -119,11 +117,9 @@ class FirstLine(Case):
         self.assertLessEqual({"#repaired", "#points", "#gaps"}, links)
 
     def test_a_pair_without_a_cause_is_a_fault_of_ours(self) -> None:
-        spec = importlib.util.spec_from_loader(
-            "report", importlib.machinery.SourceFileLoader("report", f"{TOOLS}/report")
-        )
-        tool = importlib.util.module_from_spec(spec)
-        spec.loader.exec_module(tool)
+        loader = importlib.machinery.SourceFileLoader("report", f"{TOOLS}/report")
+        tool = types.ModuleType("report")
+        loader.exec_module(tool)
         words = ["report", "--mrt", MRT, f"{DATA}/lan.lsas", f"{DATA}/lan.profile"]
         with mock.patch("sys.argv", words), mock.patch("mrttools.causes.WhyNot.of", lambda *_: ()):
             found = Page(tool.report(tool.words(), Progress("report", io.StringIO())))
@@ -273,7 +269,7 @@ class Lacking(unittest.TestCase):
         wanted = "a picture needs Debian's graphviz"
         done = self.run_without(path="/nonexistent")
         self.assertEqual((done.returncode, done.stdout), (8, ""))
-        lacks = f"{wanted}; --json writes the facts without it" if jinja2 else page.LACKS
+        lacks = f"{wanted}; --json writes the facts without it" if HAS_JINJA else page.LACKS
         self.assertEqual(done.stderr, f"report: {lacks}\n")
         self.assertEqual(self.run_without("--json", path="/nonexistent").returncode, 0)
         done = self.run_without("10.255.1.1", tool="draw", path="/nonexistent")
@@ -311,11 +307,9 @@ class Parts(unittest.TestCase):
 
     def test_verdicts(self) -> None:
         pairs = {"all": 2, "repaired": 2}
-        choice, other, fault = (
-            {"causes": [1], "by_choice": True},
-            {"causes": [1], "by_choice": False},
-            {"causes": []},
-        )
+        choice: dict[str, Any] = {"causes": [1], "by_choice": True}
+        other: dict[str, Any] = {"causes": [1], "by_choice": False}
+        fault: dict[str, Any] = {"causes": []}
         for gaps, installed, wanted in (
             ([], None, "protected"),
             ([choice], None, "protected"),

@@ -8,7 +8,7 @@ import tempfile
 import unittest
 from io import StringIO
 from random import Random
-from typing import Any
+from typing import Any, ClassVar
 
 from mrttools import agreeing, area, facts, islands, lsas, reporting
 from mrttools.area import Bond, Node
@@ -30,6 +30,9 @@ def run_report(*words: str) -> subprocess.CompletedProcess[str]:
 @unittest.skipUnless(os.access(MRT, os.X_OK), "the program is not built")
 class Sample(unittest.TestCase):
     """The sample with a LAN: 10.255.1.6 hangs on 10.255.1.3, and this on the LAN."""
+
+    done: ClassVar[subprocess.CompletedProcess[str]]
+    values: ClassVar[Any]
 
     @classmethod
     def setUpClass(cls) -> None:
@@ -132,7 +135,7 @@ class Written:
         count = random.randint(3, 7)
         routers = range(1, count + 1)
         links = [(each, random.randint(1, each - 1)) for each in range(2, count + 1)]
-        links += [tuple(random.sample(routers, 2)) for _ in range(random.randint(0, count))]
+        links += [(one, other) for one, other in (random.sample(routers, 2) for _ in range(random.randint(0, count)))]
         lans = [random.sample(routers, random.randint(2, count)) for _ in range(random.choice([0, 1, 1, 2]))]
         metrics = [random.choice([1, 2, 2, 3, 5]) for _ in range(2 * len(links))]
         if random.random() < 0.4:
@@ -182,9 +185,8 @@ class BesideTheProgram(unittest.TestCase):
             for line in table:
                 hop, _ = one.facts.rows[router][one.graph.number[area.node_of(line[0])]]
                 bond = one.graph.bonds[hop.bonds[0]]
-                wanted = (
-                    f"{bond.far(one.graph.nodes[router]).text}/{lsas.spelled(bond.data_of(one.graph.nodes[router]))}"
-                )
+                data = bond.data_of(one.graph.nodes[router])
+                wanted = f"{bond.far(one.graph.nodes[router]).text}/{lsas.spelled(data or 0)}"
                 self.assertEqual(line[line.index("primary") + 1], wanted)
 
     def test_traces(self) -> None:
@@ -211,19 +213,19 @@ class BesideAPlainSearch(unittest.TestCase):
         written(4, self.check_loads, 8)
 
     def check_loads(self, one: Written) -> None:
-        elements = [None, *range(len(one.graph.bonds) + len(one.graph.nodes))]
-        loads = {failed: self.loads_after(one, failed) for failed in elements}
+        elements = range(len(one.graph.bonds) + len(one.graph.nodes))
+        before, _ = self.loads_after(one, None)
+        after = {failed: self.loads_after(one, failed) for failed in elements}
         for place, own in enumerate(reporting.load_values(one.facts)):
-            self.assertEqual(own["primaries"], loads[None][0][place])
-            others = [load[place] for failed, (load, _) in loads.items() if failed not in (None, place)]
-            self.assertEqual(own["most"], max(others))
-        for failed in elements[1:]:
+            self.assertEqual(own["primaries"], before[place])
+            self.assertEqual(
+                own["most"], max(loads[place] for failed, (loads, _) in after.items() if failed != place)
+            )
+        for failed, (loads, lost) in after.items():
             toll = one.facts.losses.tolls[failed]
-            self.assertEqual(toll.parted + toll.gaps, loads[failed][1])
-            change = one.facts.loads.changes.get(failed, [0] * len(one.graph.bonds))
-            after = [before + more for before, more in zip(one.facts.loads.load, change)]
-            if failed >= len(one.graph.bonds):
-                self.assertEqual(after, loads[failed][0])
+            self.assertEqual(toll.parted + toll.gaps, lost)
+            change = one.facts.loads.changes.get(failed, [0] * len(before))
+            self.assertEqual([one + more for one, more in zip(before, change)], loads)
 
     def loads_after(self, one: Written, failed: int | None) -> tuple[list[int], int]:
         """The load of each link after a failure, and how many pairs lose packets but for those whose end has failed."""
@@ -241,7 +243,8 @@ class BesideAPlainSearch(unittest.TestCase):
 
     def follow(self, one: Written, router: int, target: int, gone: Node | Bond | None) -> tuple[list[Bond], bool]:
         """The links that a packet goes over, and whether it arrives."""
-        nodes, bonds, at = one.graph.nodes, [], router
+        nodes, at = one.graph.nodes, router
+        bonds: list[Bond] = []
         while at != target:
             hop, _ = one.facts.rows[at][target]
             if gone is not None and one.graph.element(gone) in hop.elements:

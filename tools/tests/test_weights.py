@@ -105,7 +105,7 @@ class Demands(Folder):
 class Installed(Folder):
     def setUp(self) -> None:
         super().setUp()
-        self.right = origin.digest(Program(MRT, *LAN).run("certify", ROUTERS[0]))
+        self.right = origin.digest(Program(MRT, LAN[0], LAN[1]).run("certify", ROUTERS[0]))
 
     def say(self, router: str, certificate: str | None, **more: Any) -> None:
         self.write(f"{router}.json", json.dumps(statement(router, certificate) | more))
@@ -154,7 +154,7 @@ class Installed(Folder):
 
 class InstalledPages(Case):
     def test_the_first_line(self) -> None:
-        right = origin.digest(Program(MRT, *LAN).run("certify", ROUTERS[0]))
+        right = origin.digest(Program(MRT, LAN[0], LAN[1]).run("certify", ROUTERS[0]))
         for router in ROUTERS:
             self.say(statement(router, right))
         found = self.page("--installed", self.folder, *LAN)
@@ -221,7 +221,7 @@ class Origins(unittest.TestCase):
                 self.assertEqual((found[part]["sha256"], found[part]["file"]), (origin.digest(file.read()), path))
         # (one router is withdrawn, and of the others some LSAs have older instances)
         self.assertEqual((found["database"]["lsas"], found["host"]), (9, os.uname().nodename))
-        self.assertLess(abs(installed.seconds_of(found["at"]) - time.time()), 100)
+        self.assertLess(abs((installed.seconds_of(found["at"]) or 0) - time.time()), 100)
 
     def test_versions(self) -> None:
         with tempfile.TemporaryDirectory() as folder:
@@ -251,7 +251,7 @@ class Overviews(unittest.TestCase):
         )
         rows = {row.element: row.cells for rows in found.rows.values() for row in rows}
         for element in range(len(one.graph.bonds) + len(one.graph.nodes)):
-            met = {}
+            met: dict[int, set[int]] = {}
             for router in one.graph.routers:
                 for target, _ in one.facts.hops_of(router):
                     repair = met_by(one, router, target, element)
