@@ -22,18 +22,25 @@ Tell = Callable[[str, int, int], None]
 
 class Coverage:
     """Of how many pairs of a router a failure is repaired: of the first link, and of the next node where that is not the
-    destination, with loop-free alternates and with colors; and of how many it could be at all."""
+    destination, with loop-free alternates and with colors; and of how many it could be at all. With a demand a pair
+    counts as much as it sends."""
 
     def __init__(self) -> None:
-        self.pairs = self.node_pairs = self.open_link = self.open_node = 0
-        self.lfa_link = self.colors_link = self.lfa_node = self.colors_node = 0
+        self.pairs: float = 0
+        self.node_pairs: float = 0
+        self.open_link: float = 0
+        self.open_node: float = 0
+        self.lfa_link: float = 0
+        self.colors_link: float = 0
+        self.lfa_node: float = 0
+        self.colors_node: float = 0
 
     def add(self, other: Coverage) -> None:
         for name, value in vars(other).items():
             setattr(self, name, getattr(self, name) + value)
 
-    def take(self, repairs: Repairs, count: int) -> None:
-        """Takes what becomes of so many pairs."""
+    def take(self, repairs: Repairs, count: float) -> None:
+        """Takes what becomes of so many pairs, or of what they send."""
         first, last = repairs[0], repairs[-1]
         self.pairs += count
         self.open_link += count * (first != PARTED)
@@ -99,10 +106,18 @@ class Facts:
             tell("repairs and loads", done + 1, len(graph.routers))
         self.loads.settle()
         for router, own in self.rows.items():
-            kinds = Counter(own.values()).items()
-            self.losses.settle(router, kinds)
-            for (_, repairs), count in kinds:
-                self.coverage[router].take(repairs, count)
+            kinds = Counter(own.values())
+            self.losses.settle(router, kinds.items())
+            if self.ground.demand.told:
+                for target, (_, repairs) in own.items():
+                    self.coverage[router].take(repairs, self.sent(router, target))
+            else:
+                for (_, repairs), count in kinds.items():
+                    self.coverage[router].take(repairs, count)
+
+    def sent(self, router: int, target: int) -> float:
+        """What a pair sends."""
+        return self.ground.demand.of(self.graph.nodes[router], self.graph.nodes[target])
 
     def hops_of(self, router: int) -> Iterator[tuple[int, Hop]]:
         """The destinations of a router, each with its primary."""
@@ -120,15 +135,17 @@ class Facts:
 
     def put_alternates(self, router: int, metrics: dict[int, list[int]]) -> None:
         """For how many destinations a neighbour over another link is loop-free (RFC 5286, inequalities 1 and 3)."""
-        coverage, own = self.coverage[router], metrics[router]
+        coverage, own, told = self.coverage[router], metrics[router], self.ground.demand.told
         near = [(bond, metrics[far], metrics[far][router]) for bond, far in self.graph.neighbours(router)]
         for target, hop in self.hops_of(router):
             first, after, whole = hop.elements[0], hop.following, own[target]
             rest = metrics[after][target]
             free = [costs for bond, costs, back in near if bond != first and costs[target] < back + whole]
             if free:
-                coverage.lfa_link += 1
-                coverage.lfa_node += after != target and any(costs[target] < costs[after] + rest for costs in free)
+                sent = self.sent(router, target) if told else 1
+                coverage.lfa_link += sent
+                if after != target and any(costs[target] < costs[after] + rest for costs in free):
+                    coverage.lfa_node += sent
 
 
 def name_of(graph: Graph, element: int) -> str:

@@ -48,7 +48,7 @@ def area_values(found: Found) -> Values:
     whole, parts = found.area, found.islands
     outside = [(bond, islands.why_not(bond, parts)) for bond in whole.bonds]
     routers = [node for node in whole.nodes if node.kind == ROUTER]
-    pairs = sum(coverage.pairs for coverage in found.facts.coverage.values())
+    pairs = sum(map(len, found.facts.rows.values()))
     return {
         "routers": len(routers),
         "networks": len(whole.nodes) - len(routers),

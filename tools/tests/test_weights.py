@@ -85,6 +85,11 @@ class Demands(Folder):
         self.assertEqual(found["pairs"]["demand"], {"repaired": 3, "parted": 7, "gaps": 0})
         worst = {(each["from"], each["to"]) for each in found["stretch"]["worst"]}
         self.assertLessEqual(worst, {(ROUTERS[0], ROUTERS[4]), (ROUTERS[0], ROUTERS[5])})
+        self.assertEqual((found["coverage"]["pairs"], found["area"]["pairs"]), (10, 30))
+        # The LAN's failure parts the first of them, that of a link of 10.255.1.1 does not.
+        self.assertEqual(found["coverage"]["first_link"]["open"], found["coverage"]["first_link"]["colors"])
+        (own,) = [each for each in found["routers"] if each["router"] == ROUTERS[0]]
+        self.assertEqual(own["first_link"], found["coverage"]["first_link"])
         loads = {link["element"]: link["primaries"] for link in found["load"]["links"]}
         self.assertEqual(loads["link:10.255.1.3/192.0.2.17"], 7)
         self.assertEqual({loads[each] for each in loads} - {0}, {3, 7, 10})
