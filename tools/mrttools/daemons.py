@@ -1,10 +1,13 @@
 """The daemons of the lab, FRR and BIRD: how one is started in a namespace, and its database and routes."""
 from __future__ import annotations
 
+import contextlib
 import json
+import os
 import re
 import shutil
 import subprocess
+import time
 from typing import NamedTuple
 
 from .network import LAN, Interface, Network, Plan, router_id
@@ -43,6 +46,8 @@ class Frr:
     needs = ["/usr/lib/frr/zebra", "/usr/lib/frr/ospfd", "vtysh"]
     # Those whom it answers, beside a root with all rights.
     groups = "frr,frrvty"
+    # ospfd tells of its database by an interface of its own (`ospfapi`).
+    options = {"ospfd": ["--apiserver"]}
 
     def version(self) -> str:
         return answer("/usr/lib/frr/ospfd", "--version").split("\n", 1)[0]
@@ -58,11 +63,20 @@ class Frr:
         # The daemons give up root's rights for those of the user frr.
         shutil.chown(folder, "frr", "frr")
         processes = []
+        door = f"{folder}/zserv.api"
+        with contextlib.suppress(FileNotFoundError):
+            os.unlink(door)
         for name, text in {"zebra": "", **configurations}.items():
             write(f"{folder}/{name}.conf", text)
-            files = ["-f", f"{folder}/{name}.conf", "-i", f"{folder}/{name}.pid", "-z", f"{folder}/zserv.api"]
-            words = [f"/usr/lib/frr/{name}", *files, "--vty_socket", folder, "-P", "0", "--log", "stdout"]
+            files = ["-f", f"{folder}/{name}.conf", "-i", f"{folder}/{name}.pid", "-z", door]
+            words = [f"/usr/lib/frr/{name}", *self.options.get(name, []), *files]
+            words += ["--vty_socket", folder, "-P", "0", "--log", "stdout"]
             processes.append(run_in(space, f"{folder}/log", *words))
+            # The others look for zebra when they start, and then after ten seconds.
+            for _ in range(50):
+                if os.path.exists(door):
+                    break
+                time.sleep(0.1)
         return Running(processes, folder)
 
     def configuration(self, plan: Plan, router: int) -> str:
