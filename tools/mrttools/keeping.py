@@ -11,7 +11,7 @@ from typing import Callable, Iterator, NamedTuple, Protocol
 from . import batch, files, kernel, lsas, settling, table
 from .batch import NOTHING, Refusal, State
 from .ending import system_line
-from .hearing import Database, Heard
+from .hearing import Caught, Heard, Look
 from .kernel import Interfaces
 from .lsas import POINT_TO_POINT, ROUTER, TRANSIT, Lsa
 from .nexthops import Ways
@@ -40,12 +40,12 @@ class Router(batch.Kernel, Protocol):
 
 
 class Around(NamedTuple):
-    """What the agent has to do with: the kernel, the daemon's list, the packets that wait, and how it waits, which is
-    where a signal ends it."""
+    """What the agent has to do with: the kernel, what the daemon says of the area, the packets that wait, and how it
+    waits, which is where a signal ends it."""
 
     kernel: Router
-    listed: Callable[[], Database | None]
-    packets: Callable[[], Iterator[bytes]]
+    listed: Callable[[], Look | None]
+    packets: Callable[[], Iterator[Caught]]
     pause: Callable[[float], None]
 
 
@@ -59,7 +59,7 @@ class Agent:
     def __init__(self, said: argparse.Namespace, around: Around) -> None:
         self.said, self.around, self.kernel = said, around, around.kernel
         self.settling = Settling(said.quiet)
-        self.heard = Heard(said.area, lsas.split(self.kept("lsas")), time.monotonic())
+        self.heard = Heard(said.area, said.router, lsas.split(self.kept("lsas")))
         self.certificate = self.kept("cert")
         # What was put last, routes with rules and marks, and how the kernel lists it.
         self.wanted, self.state = NOTHING, NOTHING
@@ -84,8 +84,9 @@ class Agent:
         """What a table would be made of now, and the LSAs. The list comes first, so that what is in it was heard."""
         listed, now = self.around.listed(), time.monotonic()
         interfaces = table.interfaces_of(self.kernel.addresses(), "ip")
-        self.heard.put(self.around.packets(), interfaces.names or {}, now)
-        found, lacks = ([], [SILENT]) if listed is None else self.heard.of(listed, now)
+        found, lacks = [], [SILENT]
+        if listed is not None:
+            found, lacks = self.heard.take(self.around.packets(), listed, interfaces.names or {})
         profile, unread = self.profile(now)
         lacks = lacks or unread or self.own_lacks(found, interfaces)
         return Seen(tuple(lacks), settling.bodies(found), profile, interfaces), found

@@ -83,9 +83,9 @@ def datagram(
     protocol: int = 89,
     ends: tuple[str, str] = ("10.0.0.1", "224.0.0.5"),
 ) -> bytes:
-    """An IP datagram, or a fragment of one, from one address to another."""
+    """An IP datagram, or a fragment of one, from one address to another, over one link."""
     source, target = (struct.pack(">I", address(end)) for end in ends)
-    ip = dpkt.ip.IP(src=source, dst=target, p=protocol, id=number, data=payload)
+    ip = dpkt.ip.IP(src=source, dst=target, p=protocol, id=number, ttl=1, data=payload)
     ip.offset, ip.mf = offset // 8, int(more)
     return bytes(ip)
 

@@ -1,62 +1,26 @@
-"""The agent without root: what it hears, when an area has settled, what changes in a kernel, and that a batch that
-fails in its middle leaves what was there or nothing."""
+"""The agent without root: when an area has settled, what changes in a kernel, and that a batch that fails in its middle
+leaves what was there or nothing."""
 import argparse
 import contextlib
 import io
 import json
 import os
-import socket
 import subprocess
 import tempfile
 import unittest
-from typing import Iterator
 from unittest import mock
 
-from mrttools import batch, capture, hearing, keeping, kernel, listing, program, settling, table, updates
+from mrttools import batch, keeping, kernel, program, settling, table
 from mrttools.batch import NOTHING, Refusal, State
 from mrttools.ending import READ_FAULT, ToolFault
-from mrttools.hearing import AT_ONCE, KEPT, Database, Heard, instance_of
+from mrttools.hearing import Caught, Look, Neighbor, instance_of
 from mrttools.kernel import TABLES, Interfaces
 from mrttools.keeping import Agent, Around
-from mrttools.lsas import Key, address, lsa_of, sealed, split
+from mrttools.lsas import address, lsa_of, sealed, split
 from mrttools.network import Plan, link
 from mrttools.settling import Seen, Settling
-from tests.making import MRT, TOOLS, datagram, fragments, ospf, pair, router_lsa, update
+from tests.making import MRT, TOOLS, datagram, pair, router_lsa, update
 from tests.test_fib import lsas_of
-
-FRR_LIST = """{"routerId": "10.255.0.1", "areas": {"0.0.0.1": {"routerLinkStates": []}, "0.0.0.0": {
-  "routerLinkStates": [
-    {"lsId": "10.255.0.1", "advertisedRouter": "10.255.0.1", "lsaAge": 12, "sequenceNumber": "80000007",
-     "checksum": "2e04", "numOfRouterLinks": 7},
-    {"lsId": "10.255.0.3", "advertisedRouter": "10.255.0.3", "lsaAge": 3600, "sequenceNumber": "80000007",
-     "checksum": "2e04", "numOfRouterLinks": 7}],
-  "networkLinkStates": [
-    {"lsId": "198.51.100.7", "advertisedRouter": "10.255.0.7", "lsaAge": 33, "sequenceNumber": "80000001",
-     "checksum": "f00d"}]}}}"""
-BIRD_LIST = """BIRD 2.0.12 ready.
-
-Area 0.0.0.1
-
- Type   LS ID           Router          Sequence   Age  Checksum
- 0001  10.255.0.9      10.255.0.9      80000007    12    2e04
-
-Area 0.0.0.0
-
- Type   LS ID           Router          Sequence   Age  Checksum
- 0001  10.255.0.1      10.255.0.1      80000007    12    2e04
- 0001  10.255.0.3      10.255.0.3      80000007  3600    2e04
- 0002  198.51.100.7    10.255.0.7      80000001    33    f00d
-
-Global
-
- Type   LS ID           Router          Sequence   Age  Checksum
- 0005  0.0.0.0         10.255.0.1      80000001    12    beef
-"""
-LISTED = {
-    Key(1, address("10.255.0.1"), address("10.255.0.1")): (0x80000007, 0x2E04),
-    Key(2, address("198.51.100.7"), address("10.255.0.7")): (0x80000001, 0xF00D),
-}
-
 
 # A square with a diagonal.
 SQUARE = [
@@ -66,134 +30,9 @@ SQUARE = [
     (1, 4, 10, "10.0.14"),
     (1, 3, 15, "10.0.13"),
 ]
+# Who has sent the packets that the tests make.
+NEIGHBORS = frozenset({Neighbor("to-r2", address("10.0.0.1"), address("9.9.9.9"))})
 PLAN = Plan("square", [1, 2, 3, 4], [link(*ends) for ends in SQUARE], joiner=4)
-
-
-class Lists(unittest.TestCase):
-    def test_the_live_ones_of_an_area(self) -> None:
-        self.assertEqual(listing.frr(FRR_LIST, 0), LISTED)
-        self.assertEqual(listing.bird(BIRD_LIST, 0), LISTED)
-
-    def test_an_area_that_is_not_there(self) -> None:
-        for text in ("", "{}", "[1]", '{"areas": 7}', '{"areas": {"0.0.0.2": {"routerLinkStates": [{}]}}}'):
-            self.assertIsNone(listing.frr(text, 2), text)
-            self.assertIsNone(listing.bird(text, 2), text)
-
-    def test_no_answer(self) -> None:
-        client = listing.Client("bird", "/nonexistent", 0)
-        client.words = ["false"]
-        self.assertIsNone(client.database())
-
-
-# what is heard
-
-
-def listed(*records: bytes) -> Database:
-    return {lsa.key: instance_of(lsa) for lsa in map(lsa_of, records)}
-
-
-class Hearing(unittest.TestCase):
-    def heard(self, *packets: bytes, own: str = "127.0.0.1") -> Heard:
-        found = Heard(0, [], 0)
-        found.put(iter(packets), [address(own)], 0)
-        return found
-
-    def of(self, heard: Heard, wanted: Database, now: float = 0) -> tuple[list[bytes], list[str]]:
-        there, lacks = heard.of(wanted, now)
-        return [lsa.record for lsa in there], lacks
-
-    def test_what_the_daemon_lists(self) -> None:
-        one, other = pair()
-        heard = self.heard(datagram(update([one])), *fragments(update([other]), 32))
-        self.assertEqual(self.of(heard, listed(one, other)), ([one, other], []))
-        self.assertEqual(self.of(heard, listed(one)), ([one], []))
-
-    def test_another_instance_is_not_heard(self) -> None:
-        one, other = pair()
-        newer = router_lsa("2.2.2.2", [("1.1.1.1", "10.0.0.2", 1, 9)], sequence=0x80000002)
-        heard = self.heard(datagram(update([one, other])))
-        self.assertEqual(self.of(heard, listed(one, newer)), ([one], ["not heard: router-LSA of 2.2.2.2"]))
-        heard.put(iter([datagram(update([newer]))]), [], 0)
-        self.assertEqual(self.of(heard, listed(one, newer)), ([one, newer], []))
-
-    def test_two_of_one_checksum(self) -> None:
-        """Somebody may send another LSA with the same sequence number and checksum."""
-        one, forged = (
-            router_lsa("1.1.1.1", [("2.2.2.2", data, 1, metric)])
-            for data, metric in (("0.0.0.1", 1), ("0.0.1.0", 0xFE02))
-        )
-        self.assertEqual(instance_of(lsa_of(one)), instance_of(lsa_of(forged)))
-        heard = self.heard(datagram(update([one])), datagram(update([forged])))
-        self.assertEqual(self.of(heard, listed(one)), ([], ["heard in 2 ways: router-LSA of 1.1.1.1"]))
-
-    def test_what_a_router_would_drop(self) -> None:
-        one, other = pair()
-        gone = router_lsa("1.1.1.1", [("2.2.2.2", "10.0.0.1", 1, 1)], age=3600)
-        for packet in (
-            b"",
-            datagram(update([one]))[:40],
-            datagram(update([one], area="0.0.0.1")),
-            datagram(update([one[:-1] + b"\7"])),
-            datagram(update([gone])),
-            datagram(update([one]), protocol=17),
-            datagram(ospf(1, update([one])[24:])),
-        ):
-            self.assertEqual(self.of(self.heard(packet, datagram(update([other]))), listed(one, other))[0], [other])
-
-    def test_what_only_goes_through_the_router(self) -> None:
-        far, near, own = "203.0.113.1", "192.0.2.2", "192.0.2.1"
-        for ends in ((far, "224.0.0.5"), (far, "224.0.0.6"), (near, own), (own, near), (far, near), (near, far)):
-            heard = self.heard(datagram(update(pair()), ends=ends), own=own)
-            taken = own in ends or ends[1].startswith("224.")
-            self.assertEqual(self.of(heard, listed(*pair()))[0], pair() if taken else [], ends)
-        # An address goes with its interface; what came to it before still waits.
-        heard = self.heard(own=own)
-        heard.put(iter([datagram(update(pair()), ends=(near, own))]), [], 0)
-        self.assertEqual(self.of(heard, listed(*pair())), (pair(), []))
-
-    def test_what_the_daemon_does_not_list_is_forgotten(self) -> None:
-        one, other = pair()
-        heard = self.heard(datagram(update([one, other])))
-        self.of(heard, listed(one), KEPT)
-        self.assertEqual(len(heard.found), 2)
-        self.assertEqual(self.of(heard, listed(one), KEPT + 1), ([one], []))
-        self.assertEqual((len(heard.found), len(heard.times), heard.size), (1, 1, len(one) - 2))
-
-    def test_the_socket_hears_ospf_alone(self) -> None:
-        try:
-            source, out = hearing.ears(), socket.socket(socket.AF_INET, socket.SOCK_RAW, updates.PROTOCOL)
-        except OSError:
-            self.skipTest("packets of an interface need root")
-        other = socket.socket(socket.AF_INET, socket.SOCK_DGRAM)
-        for each in (source, out, other):
-            self.addCleanup(each.close)
-        # What came before the filter.
-        list(hearing.packets(source))
-        other.sendto(update(pair()), ("127.0.0.1", 9))
-        out.sendto(update(pair()), ("127.0.0.1", 0))
-        heard = self.heard(*(found := list(hearing.packets(source))))
-        self.assertTrue(all(capture.is_protocol(data, updates.PROTOCOL) for data in found))
-        self.assertEqual(self.of(heard, listed(*pair())), (pair(), []))
-
-    def test_no_more_than_there_is_room_for(self) -> None:
-        """Whatever somebody sends, and in how many ways."""
-        records = pair() + [router_lsa("2.2.2.2", [("1.1.1.1", "10.0.0.2", 1, metric)]) for metric in range(2, 9)]
-        with mock.patch.object(hearing, "ROOM", 2 * len(records[0])), mock.patch.object(hearing, "PARTS", 3):
-            heard = self.heard(*[datagram(update([record])) for record in records])
-            self.assertEqual((len(heard.found), len(heard.times)), (2, 2))
-            heard.put(self.lost(heard, 9), [], 0)
-            self.assertEqual(sum(map(len, heard.fragments.waiting.values())), 3)
-
-    def lost(self, heard: Heard, count: int) -> Iterator[bytes]:
-        """First fragments whose others do not come, while no more than 3 are kept."""
-        for number in range(count):
-            yield fragments(update(pair()), 32, number)[0]
-            self.assertLessEqual(sum(map(len, heard.fragments.waiting.values())), 3)
-
-    def test_no_more_at_once_than_one_can_take(self) -> None:
-        waiting = iter([b""] * (AT_ONCE + 5))
-        Heard(0, [], 0).put(waiting, [], 0)
-        self.assertEqual(len(list(waiting)), 5)
 
 
 class WhenSettled(unittest.TestCase):
@@ -410,8 +249,8 @@ class TheAgent(unittest.TestCase):
         }
         around = Around(
             self.router,
-            lambda: {lsa.key: instance_of(lsa) for lsa in self.records} if self.listed else None,
-            lambda: iter([datagram(update([lsa.record])) for lsa in self.records] if heard else []),
+            lambda: Look({lsa.key: instance_of(lsa) for lsa in self.records}, {}, NEIGHBORS) if self.listed else None,
+            lambda: (Caught("to-r2", False, datagram(update([lsa.record]))) for lsa in self.records if heard),
             self.paused.append,
         )
         return Agent(argparse.Namespace(**said | more), around)
