@@ -2,10 +2,11 @@
 from __future__ import annotations
 
 import gzip
+import io
 import struct
 import sys
 import zlib
-from typing import BinaryIO, Callable, Iterator, NamedTuple
+from typing import Callable, Iterator, NamedTuple, Protocol, cast
 
 # The byte order of a pcap file, and what stands in a frame's head after its two lengths.
 PCAP_MAGICS = {
@@ -35,6 +36,13 @@ class CaptureError(Exception):
     """A file that is no capture, or that is damaged so that the rest of it cannot be read."""
 
 
+class Source(Protocol):
+    """What a capture is read from."""
+
+    def read(self, size: int, /) -> bytes:
+        ...
+
+
 class Frame(NamedTuple):
     """A captured frame with its kind of link, by the numbers of libpcap."""
 
@@ -61,7 +69,7 @@ class BadDatagram(Exception):
 # frames
 
 
-def exactly(file: BinaryIO, size: int) -> bytes:
+def exactly(file: Source, size: int) -> bytes:
     """So many bytes of a file; a file that ends before is an EOFError."""
     data = file.read(size)
     if len(data) < size:
@@ -69,9 +77,9 @@ def exactly(file: BinaryIO, size: int) -> bytes:
     return data
 
 
-def opened(name: str) -> BinaryIO:
+def opened(name: str) -> io.BufferedReader:
     """The file of a name, or standard input for `-`, with its first bytes still to be read."""
-    return sys.stdin.buffer if name == "-" else open(name, "rb")
+    return cast(io.BufferedReader, sys.stdin.buffer) if name == "-" else open(name, "rb")
 
 
 def frames(name: str, tell: Callable[[str], None]) -> Iterator[Frame]:
@@ -89,7 +97,7 @@ def frames(name: str, tell: Callable[[str], None]) -> Iterator[Frame]:
             raise CaptureError(f"it is damaged gzip: {fault}") from fault
 
 
-def frames_of(file: BinaryIO) -> Iterator[Frame]:
+def frames_of(file: Source) -> Iterator[Frame]:
     magic = file.read(4)
     if magic in PCAP_MAGICS:
         return pcap_frames(file, *PCAP_MAGICS[magic])
@@ -98,7 +106,7 @@ def frames_of(file: BinaryIO) -> Iterator[Frame]:
     raise CaptureError("it is neither a pcap nor a pcapng file")
 
 
-def pcap_frames(file: BinaryIO, order: str, more: int) -> Iterator[Frame]:
+def pcap_frames(file: Source, order: str, more: int) -> Iterator[Frame]:
     """Frames of a pcap file after its magic number."""
     # The upper bits of the kind of link can say how long a checksum of the link is.
     link = struct.unpack_from(order + "I", exactly(file, 20), 16)[0] & 0xFFFF
@@ -116,7 +124,7 @@ def checked(size: int) -> int:
     return size
 
 
-def pcapng_frames(file: BinaryIO, start: bytes) -> Iterator[Frame]:
+def pcapng_frames(file: Source, start: bytes) -> Iterator[Frame]:
     """Frames by the kind of link of their own interface, of a pcapng file after its first bytes."""
     links: list[int] = []
     for kind, order, body in pcapng_blocks(file, start):
@@ -138,7 +146,7 @@ def frame_of_packet(kind: int, order: str, body: bytes, links: list[int]) -> Fra
     return Frame(links[number], body[20 : 20 + size])
 
 
-def pcapng_blocks(file: BinaryIO, start: bytes) -> Iterator[tuple[int, str, bytes]]:
+def pcapng_blocks(file: Source, start: bytes) -> Iterator[tuple[int, str, bytes]]:
     """The blocks of a pcapng file after its first bytes: kind, byte order and body."""
     order = "<"
     while start := start + file.read(8 - len(start)):

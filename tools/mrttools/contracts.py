@@ -158,7 +158,7 @@ class Crate:
     def __init__(self, root: str, name: str) -> None:
         self.name = name
         texts = dict(files(os.path.join(root, "crates", name, "src"), ".rt"))
-        top = texts.get("lib") or texts.get("main", "")
+        top = texts.get("lib") or texts.get("main") or ""
         said = [line[3:] for line in top.splitlines() if line.startswith("//!")]
         self.about = [line.strip() for line in said if not line.startswith("     ")]
         public = {word for _, names in HANDED.findall(top) for word in re.findall(r"\w+", names)} | set(

@@ -10,7 +10,7 @@ import ipaddress
 import json
 import subprocess
 from enum import IntEnum
-from typing import NamedTuple
+from typing import Any, NamedTuple
 
 from . import sockets
 
@@ -29,19 +29,23 @@ class Way(IntEnum):
     MAY_BE_ACCEPTED = 2
 
 
+# A rule as nft tells it: statements, each by its name.
+Rule = list[dict[str, Any]]
+
+
 class Chain(NamedTuple):
     """A chain with its rules, each as a list of statements."""
 
     family: str
     hook: str
     policy: str
-    rules: list[list[dict[str, object]]]
+    rules: list[Rule]
 
 
 Place = tuple[str, str, str]
 
 
-def chains_of(said: object) -> dict[Place, Chain]:
+def chains_of(said: Any) -> dict[Place, Chain]:
     """The chains in the answer of `nft -j list ruleset`, but for those of tables that are asleep, or have another flag:
     nft 1.0.6 does not say which."""
     entries = said["nftables"]
@@ -104,7 +108,7 @@ class Packets:
         last = Way.DROPPED if chain.hook and chain.policy == "drop" else Way.GOES_ON
         return max(best, last)
 
-    def verdict(self, place: Place, rule: list[dict[str, object]], depth: int) -> tuple[Way | None, bool]:
+    def verdict(self, place: Place, rule: Rule, depth: int) -> tuple[Way | None, bool]:
         """What may become of packets by a rule that is for them, if it is the last one for any; and whether it is the
         last one for all of them."""
         for statement in rule:
@@ -125,7 +129,7 @@ class Packets:
                     return Way.MAY_BE_ACCEPTED, name == "accept"
         return None, False
 
-    def mapped(self, said: object) -> tuple[Way | None, bool]:
+    def mapped(self, said: Any) -> tuple[Way | None, bool]:
         """What may become of packets by a map of verdicts, where it has one for them."""
         if not isinstance(said["data"], dict):
             return Way.MAY_BE_ACCEPTED, False
@@ -136,7 +140,7 @@ class Packets:
 
     # what a rule is for
 
-    def holds(self, rule: list[dict[str, object]]) -> bool | None:
+    def holds(self, rule: Rule) -> bool | None:
         """Whether a rule is for all of them, for none of them, or that cannot be told."""
         found: list[bool | None] = []
         for statement in rule:
@@ -148,14 +152,14 @@ class Packets:
             return False
         return None if None in found else True
 
-    def matches(self, match: object) -> bool | None:
+    def matches(self, match: Any) -> bool | None:
         left, right, equal = match["left"], match["right"], match["op"] in ("==", "in")
         if match["op"] not in ("==", "in", "!="):
             return None
         found = self.is_one(left, right)
         return found if equal or found is None else not found
 
-    def is_one(self, left: object, right: object) -> bool | None:
+    def is_one(self, left: Any, right: Any) -> bool | None:
         """Whether what is asked of them is one of some values."""
         (kind, said), *more = left.items()
         if more or not isinstance(said, dict):
@@ -179,7 +183,7 @@ def any_of(found: list[bool | None]) -> bool | None:
     return None if None in found else False
 
 
-def values_of(right: object) -> list[object]:
+def values_of(right: Any) -> list[Any]:
     """The values of a set, of a list of bits, or the one that there is."""
     if isinstance(right, dict) and "set" in right:
         return [one["elem"]["val"] if isinstance(one, dict) and "elem" in one else one for one in right["set"]]
@@ -201,7 +205,7 @@ def is_value(known: object, said: object) -> bool | None:
 # what is asked
 
 
-def rules() -> object:
+def rules() -> Any:
     """The rules of nft in this network namespace; none where they cannot be had."""
     try:
         done = subprocess.run(
@@ -216,7 +220,7 @@ def rules() -> object:
         return {"nftables": []}
 
 
-def are_dropped(said: object, version: int, port: int) -> bool:
+def are_dropped(said: Any, version: int, port: int) -> bool:
     """Whether rules drop what others send to a port by IPv4 or IPv6."""
     try:
         return Packets(chains_of(said), version, port).are_dropped()

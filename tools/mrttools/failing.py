@@ -57,7 +57,8 @@ def failed_router(plan: Plan, router: int) -> Failure:
 
 def pairs(plan: Plan) -> list[Pair]:
     """The routers between which packets go; those in maintenance have no repairs."""
-    return list(permutations([router for router in plan.routers if router not in plan.maintenance], 2))
+    routers = [router for router in plan.routers if router not in plan.maintenance]
+    return [(one, other) for one, other in permutations(routers, 2)]
 
 
 def pinged(plan: Plan, failed: int) -> list[Pair]:

@@ -50,20 +50,20 @@ class Batch:
 
     def __init__(self, place: str, lines: list[str]) -> None:
         self.text = "".join(f"{line}\n" for line in lines)
-        self.process = subprocess.Popen(
-            self.words(place), stdin=subprocess.PIPE, stdout=subprocess.DEVNULL, text=True
-        )
+        self.given = self.words(place)
+        self.process = subprocess.Popen(self.given, stdin=subprocess.PIPE, stdout=subprocess.DEVNULL, text=True)
 
     def words(self, space: str) -> list[str]:
         return ["ip", "-n", space, "-batch", "-"]
 
     def send(self) -> None:
+        assert self.process.stdin is not None
         self.process.stdin.write(self.text)
         self.process.stdin.close()
 
     def end(self) -> None:
         if self.process.wait() != 0:
-            raise ValueError(f"{' '.join(self.process.args)} ended with status {self.process.returncode}")
+            raise ValueError(f"{' '.join(self.given)} ended with status {self.process.returncode}")
 
 
 class Installed:

@@ -235,10 +235,11 @@ def curve(a: Point, b: Point, bend: float) -> list[Point]:
         return [a, b]
     control = control_point(a, b, bend)
     steps = [step / 8 for step in range(9)]
-    return [
-        tuple((1 - t) ** 2 * a[axis] + 2 * t * (1 - t) * control[axis] + t * t * b[axis] for axis in (0, 1))
-        for t in steps
-    ]
+
+    def at(t: float, axis: int) -> float:
+        return (1 - t) ** 2 * a[axis] + 2 * t * (1 - t) * control[axis] + t * t * b[axis]
+
+    return [(at(t, 0), at(t, 1)) for t in steps]
 
 
 def control_point(a: Point, b: Point, bend: float) -> Point:

@@ -5,7 +5,7 @@ from __future__ import annotations
 import json
 import re
 import subprocess
-from typing import Iterator
+from typing import Any, Iterator
 
 from . import lsas
 from .hearing import Database, Look, Neighbor
@@ -30,7 +30,7 @@ def frr(text: str, area: int) -> Database | None:
         return None
 
 
-def frr_lsas(said: object, area: int) -> Iterator[tuple[Key, tuple[int, int], int | None]]:
+def frr_lsas(said: Any, area: int) -> Iterator[tuple[Key, tuple[int, int], int | None]]:
     """Each live LSA: its key, its instance, and of a router-LSA how many links it has."""
     listed = said["areas"][lsas.spelled(area)]
     for kind, name in ((ROUTER, "routerLinkStates"), (NETWORK, "networkLinkStates")):
@@ -56,7 +56,7 @@ def frr_look(answers: list[str], area: int) -> Look | None:
         return None
 
 
-def values_in(text: str) -> list[object]:
+def values_in(text: str) -> list[Any]:
     """The values of JSON that stand one after another."""
     found, decoder, at = [], json.JSONDecoder(), 0
     while text[at:].strip():
@@ -66,7 +66,7 @@ def values_in(text: str) -> list[object]:
     return found
 
 
-def frr_neighbors(said: object, inside: set[str]) -> frozenset[Neighbor]:
+def frr_neighbors(said: Any, inside: set[str]) -> frozenset[Neighbor]:
     """The neighbors on some interfaces."""
     found = set()
     for router, group in said["neighbors"].items():
@@ -82,18 +82,18 @@ def frr_neighbors(said: object, inside: set[str]) -> frozenset[Neighbor]:
 
 def bird(text: str, area: int) -> Database | None:
     """The area's live LSAs in the answer of BIRD; none where that has no such area."""
-    found: Database | None = None
-    here = False
+    found: Database = {}
+    here = there = False
     for line in text.splitlines():
         heading = re.fullmatch(r"(?:Area (\S+)|Global|Link .*)", line.strip())
         if heading:
             here = heading[1] == lsas.spelled(area)
-            found = {} if here else found
+            there |= here
         fields = re.match(r"\s*000([12])\s+(\S+)\s+(\S+)\s+([0-9a-f]{8})\s+(\d+)\s+([0-9a-f]{4})", line)
         if here and fields and int(fields[5]) < MAX_AGE:
             key = Key(int(fields[1]), lsas.address(fields[2]), lsas.address(fields[3]))
             found[key] = int(fields[4], 16), int(fields[6], 16)
-    return found
+    return found if there else None
 
 
 def bird_look(answers: list[str], area: int) -> Look | None:

@@ -85,7 +85,7 @@ class Limits(NamedTuple):
     """How many LSAs an area may have, and how many bytes these, as `mrt` takes them; how many seconds an exchange takes
     at most, and after how many without one the daemon is asked whether it is there."""
 
-    count: int = 16384
+    lsas: int = 16384
     size: int = gather.FILE_LIMIT
     patience: float = 10
     every: float = 10
@@ -194,7 +194,7 @@ class Copy:
         before = self.held.get(lsa.key)
         self.bytes += len(lsa.record) - (len(before.lsa.record) if before else 0)
         self.held[lsa.key] = Held(lsa, fault_of(lsa))
-        if len(self.held) > self.limits.count or self.bytes > self.limits.size:
+        if len(self.held) > self.limits.lsas or self.bytes > self.limits.size:
             raise ApiFault(f"the area has {len(self.held)} LSAs of {self.bytes} bytes, which is over the limit")
         return before is None or before.lsa.text != lsa.text
 

@@ -33,6 +33,7 @@ class Lab:
 
     def hold(self, router: int, routes: str) -> None:
         """Starts a router that has static routes of FRR."""
+        assert isinstance(self.daemon, Frr)
         self.running[router] = self.daemon.hold(self.spaces, router, self.own(router), routes)
 
     def own(self, router: int) -> str:

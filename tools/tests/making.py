@@ -2,6 +2,7 @@
 from __future__ import annotations
 
 import os
+import re
 import struct
 import subprocess
 import tempfile
@@ -15,6 +16,14 @@ TOOLS = os.path.dirname(os.path.dirname(os.path.abspath(__file__)))
 DATA = os.path.join(os.path.dirname(TOOLS), "crates", "mrt", "data")
 MRT = os.path.join(os.path.dirname(TOOLS), "crates", "mrt", "out", "mrt")
 ETHERNET, RAW, COOKED, COOKED_2 = 1, 101, 113, 276
+
+
+
+def found(pattern: str, text: str) -> re.Match[str]:
+    """What a pattern finds, where it has to be there."""
+    match = re.search(pattern, text)
+    assert match is not None, text
+    return match
 
 
 # LSAs
@@ -99,8 +108,8 @@ def fragments(payload: bytes, size: int, number: int = 1) -> list[bytes]:
 def ethernet(ip: bytes, tags: int = 0) -> bytes:
     """An Ethernet frame with no, one or two VLAN tags, padded as a short one is. The outer one of two is a service
     tag."""
-    kinds = {0: [], 1: [0x8100], 2: [0x88A8, 0x8100]}[tags]
-    tagged = b"".join(struct.pack(">HH", kind, 100 + number) for number, kind in enumerate(kinds))
+    kinds: list[list[int]] = [[], [0x8100], [0x88A8, 0x8100]]
+    tagged = b"".join(struct.pack(">HH", kind, 100 + number) for number, kind in enumerate(kinds[tags]))
     return (b"\1\0\x5e\0\0\5" + b"\2\0\0\0\0\1" + tagged + b"\x08\0" + ip).ljust(60, b"\0")
 
 
@@ -161,6 +170,12 @@ class Converted:
             if os.path.exists(target):
                 with open(target, "rb") as file:
                     self.file = file.read()
+
+    @property
+    def written(self) -> bytes:
+        """The file, where there has to be one."""
+        assert self.file is not None, self.lines
+        return self.file
 
     def says(self, text: str) -> bool:
         return any(text in line for line in self.lines)

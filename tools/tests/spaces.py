@@ -23,6 +23,16 @@ def lacks(*programs: str) -> str:
 
 
 @contextlib.contextmanager
+def made(space: str) -> Iterator[None]:
+    """A namespace, which is taken away at the end."""
+    subprocess.run(["ip", "netns", "add", space], check=True)
+    try:
+        yield
+    finally:
+        subprocess.run(["ip", "netns", "del", space], check=True)
+
+
+@contextlib.contextmanager
 def inside(space: str) -> Iterator[None]:
     """What this thread does meanwhile, with sockets and what it starts, is in a namespace."""
     kernel = ctypes.CDLL(None, use_errno=True)

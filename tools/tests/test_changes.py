@@ -170,13 +170,13 @@ class Differences(unittest.TestCase):
                 other = os.path.join(folder, "other.lsas")
                 with open(other, "wb") as file:
                     file.write(edited.data())
-                sides = [
-                    changes.side_of(Program(MRT, each, one.mrt.profile), lambda *_: None)
-                    for each in (one.database, other)
-                ]
+                sides = (
+                    changes.side_of(Program(MRT, one.database, one.mrt.profile), lambda *_: None),
+                    changes.side_of(Program(MRT, other, one.mrt.profile), lambda *_: None),
+                )
                 self.check_rows(one, other, sides)
 
-    def check_rows(self, one: Written, other: str, sides: list[changes.Side]) -> None:
+    def check_rows(self, one: Written, other: str, sides: tuple[changes.Side, changes.Side]) -> None:
         told = changes.row_lines(*sides, None)
         for router in one.graph.routers:
             text = one.graph.nodes[router].text

@@ -240,8 +240,8 @@ class Pages(unittest.TestCase):
         for crate in crates:
             names = os.listdir(os.path.join(ROOT, "crates", crate, "src"))
             text = self.read(f"crates/{crate}/src/{'lib.rt' if 'lib.rt' in names else 'main.rt'}")
-            for module, names in re.findall(r"^pub use (\w+)::([^;]*);", text, re.MULTILINE):
-                for name in re.findall(r"\w+", names):
+            for module, handed in re.findall(r"^pub use (\w+)::([^;]*);", text, re.MULTILINE):
+                for name in re.findall(r"\w+", handed):
                     if module not in crates and not name.isupper():
                         self.assertIn(f"[`{name}`](../crates/{crate}/src/{module}.rt)", sections[crate])
                         count += 1

@@ -93,7 +93,7 @@ def connected(whole: Area, gone: Node | Bond | None) -> set[tuple[Node, Node]]:
     for start in routers:
         found, waiting = {start}, [start]
         while waiting:
-            for far in near[waiting.pop()] - found - {gone}:
+            for far in [each for each in near[waiting.pop()] - found if each != gone]:
                 found.add(far)
                 waiting.append(far)
         pairs |= {(start, far) for far in found if far.kind == lsas.ROUTER and far != start}
@@ -103,7 +103,7 @@ def connected(whole: Area, gone: Node | Bond | None) -> set[tuple[Node, Node]]:
 def random_area(random: Random) -> Area:
     count = random.randint(2, 8)
     routers = range(1, count + 1)
-    links = [tuple(random.sample(routers, 2)) for _ in range(random.randint(1, 2 * count))]
+    links = [(one, other) for one, other in (random.sample(routers, 2) for _ in range(random.randint(1, 2 * count)))]
     lans = [random.sample(routers, random.randint(1, count)) for _ in range(random.choice([0, 0, 1, 2]))]
     return area_of(links, lans)
 
@@ -114,7 +114,8 @@ class BesideAPlainSearch(unittest.TestCase):
         for _ in range(240):
             whole = random_area(random)
             before, found = connected(whole, None), {cut.element: cut for cut in points(whole)}
-            for element in [*whole.nodes, *whole.bonds]:
+            elements: list[Node | Bond] = [*whole.nodes, *whole.bonds]
+            for element in elements:
                 parted = {pair for pair in before - connected(whole, element) if element not in pair}
                 self.assertEqual(found[element].pairs if element in found else 0, len(parted))
                 seen += element in found

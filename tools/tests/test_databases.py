@@ -47,7 +47,7 @@ class Newest(unittest.TestCase):
 
     def newest(self, *records: bytes) -> bytes:
         """The file, which is the same in whatever order the records come."""
-        files = {Converted(over_ethernet(update(order)), "--newest").file for order in (records, records[::-1])}
+        files = {Converted(over_ethernet(update(order)), "--newest").written for order in (records, records[::-1])}
         self.assertEqual(len(files), 1)
         return files.pop()
 
@@ -156,7 +156,7 @@ class Summary(unittest.TestCase):
                     "live: routers 2, networks 1",
                     "named, but not there: router 3.3.3.3",
                     "told by one end: the link of net:10.0.0.1 to 1.1.1.1",
-                    f"written: 4 LSAs, {len(done.file)} bytes",
+                    f"written: 4 LSAs, {len(done.written)} bytes",
                 )
             ],
         )

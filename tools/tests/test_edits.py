@@ -46,7 +46,8 @@ def read(place: str) -> str:
 
 def why_not(crate: str, text: str) -> str | None:
     """Why an edit of a crate cannot be made, if it cannot."""
-    place, old, texts, changed = None, None, {}, 0
+    place, old, changed = None, None, 0
+    texts: dict[str, str] = {}
     for line in text.splitlines():
         word, _, said = line.partition(":")
         said = said.removeprefix(" ")

@@ -1,11 +1,13 @@
 """Whether others can reach a port: by the kernel's list of sockets, and by rules of nft as nft itself tells them."""
+import os
 import subprocess
 import unittest
+from typing import Any
 from unittest import mock
 
 from mrttools import exposure, sockets
 from mrttools.exposure import are_dropped, open_to_others
-from tests.spaces import inside, lacks
+from tests.spaces import inside, lacks, made
 
 PORT = 2607
 CHAIN = "chain input {; type filter hook input priority filter; policy %s; %s; };"
@@ -81,11 +83,11 @@ class Rules(unittest.TestCase):
 
     @classmethod
     def setUpClass(cls) -> None:
-        subprocess.run(["ip", "netns", "add", "mrt-test-rules"], check=True)
-        cls.addClassCleanup(subprocess.run, ["ip", "netns", "del", "mrt-test-rules"], check=True)
-        cls.enterClassContext(inside("mrt-test-rules"))
+        space = f"mrt-test-{os.getpid()}-rules"
+        cls.enterClassContext(made(space))
+        cls.enterClassContext(inside(space))
 
-    def told(self, rules: str) -> object:
+    def told(self, rules: str) -> Any:
         # (what is in a line here is one in each)
         text = "flush ruleset\n" + rules.replace("; ", "\n").replace(";", "\n")
         subprocess.run(["nft", "-f", "-"], input=text, text=True, check=True)
@@ -130,7 +132,8 @@ class Rules(unittest.TestCase):
 
 class Listings(unittest.TestCase):
     def test_what_is_no_listing(self) -> None:
-        for said in (None, [], {}, {"nftables": 7}, {"nftables": [7]}, {"nftables": [{"chain": {}}]}):
+        wrong: list[Any] = [None, [], {}, {"nftables": 7}, {"nftables": [7]}, {"nftables": [{"chain": {}}]}]
+        for said in wrong:
             self.assertFalse(are_dropped(said, 4, PORT))
 
     def test_no_nft(self) -> None:

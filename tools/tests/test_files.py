@@ -6,13 +6,14 @@ import stat
 import subprocess
 import tempfile
 import unittest
+from typing import Any
 
 from tests.making import TOOLS, over_ethernet, pair, update
 
 WANTED = b"".join(pair())
 
 
-def run(tool: str, *words: str, **more: object) -> subprocess.CompletedProcess[bytes]:
+def run(tool: str, *words: str, **more: Any) -> subprocess.CompletedProcess[bytes]:
     return subprocess.run(
         [os.path.join(TOOLS, tool), *words], stdout=subprocess.PIPE, stderr=subprocess.PIPE, check=False, **more
     )
@@ -38,6 +39,7 @@ class Targets(unittest.TestCase):
         pipe = self.name("pipe")
         os.mkfifo(pipe)
         reader = subprocess.Popen(["timeout", "20", "cat", pipe], stdout=subprocess.PIPE)
+        assert reader.stdout is not None
         self.addCleanup(reader.stdout.close)
         self.addCleanup(reader.kill)
         done = run("lsdb-from-pcap", self.capture, pipe)
@@ -116,9 +118,9 @@ class Links(unittest.TestCase):
             with open(os.path.join(there, "mrt"), "w", encoding="ascii") as file:
                 file.write("#!/bin/sh\necho this one >&2; exit 5\n")
             os.chmod(file.name, 0o755)
-            for tool, words in (("draw", ["1.1.1.1"]), ("lint", []), ("trace", ["1.1.1.1", "2.2.2.2", "blue"])):
+            for tool, words in (("draw", "1.1.1.1"), ("lint", ""), ("trace", "1.1.1.1 2.2.2.2 blue")):
                 os.symlink(os.path.join(there, "tools", tool), os.path.join(folder, tool))
-                command = [os.path.join(folder, tool), "/dev/null", "-", *words]
+                command = [os.path.join(folder, tool), "/dev/null", "-", *words.split()]
                 done = subprocess.run(command, stderr=subprocess.PIPE, text=True, check=False)
                 self.assertEqual((done.returncode, done.stderr), (5, "this one\n"), tool)
 

@@ -162,7 +162,7 @@ class TakenByMrt(unittest.TestCase):
             self.assertEqual(done.file, b"".join(updates), done.lines)
             routers = [name(router) for router in range(1, 7)]
             deliveries = in_two_orders(random, len(updates))
-            result = flooded(done.file, deliveries + [f"same 0 1 {router}" for router in routers])
+            result = flooded(done.written, deliveries + [f"same 0 1 {router}" for router in routers])
             self.assertEqual((result.status, result.errors), (0, ""))
             self.assertEqual(len(result.answers), len(deliveries) - 1 + len(routers))
             found = list(map(lsas.lsa_of, records))
@@ -174,7 +174,7 @@ class TakenByMrt(unittest.TestCase):
     def test_a_packet_of_two_routers(self) -> None:
         one, other = pair()
         done = Converted(over_ethernet(update([one, other]), update([one])), "--packets")
-        result = flooded(done.file, ["routers 2", "deliver 1 0", "deliver 0 0", "deliver 3 1", "same 0 1 2.2.2.2"])
+        result = flooded(done.written, ["routers 2", "deliver 1 0", "deliver 0 0", "deliver 3 1", "same 0 1 2.2.2.2"])
         self.assertEqual(result, (0, ["changed 1 sent 2", "changed 1 sent 3", "changed 1 sent 4", "different"], ""))
 
     def test_what_has_not_settled(self) -> None:
@@ -182,7 +182,7 @@ class TakenByMrt(unittest.TestCase):
         twin = one[:20] + b"\xff" + one[21:]
         done = Converted(over_ethernet(update([one, other]), update([twin])), "--packets")
         result = flooded(
-            done.file, ["routers 1", "deliver 0 0", "same 0 0 2.2.2.2", "deliver 1 0", "same 0 0 2.2.2.2"]
+            done.written, ["routers 1", "deliver 0 0", "same 0 0 2.2.2.2", "deliver 1 0", "same 0 0 2.2.2.2"]
         )
         self.assertEqual(result, (0, ["changed 2 sent 2", "same", "changed 0", "none"], ""))
 
@@ -192,7 +192,7 @@ class TakenByMrt(unittest.TestCase):
         for kind, record in (("checksum", spoilt), ("zero-metric", pair(metric=0)[0])):
             done = Converted(over_ethernet(update([one]), update([other, record])), "--packets")
             place = 28 + len(one) + 28 + len(other)
-            self.assertEqual(flooded(done.file, ["routers 1"]), (14, [], f"mrt: bad update: {kind} at {place}\n"))
+            self.assertEqual(flooded(done.written, ["routers 1"]), (14, [], f"mrt: bad update: {kind} at {place}\n"))
 
 
 class Scripts(unittest.TestCase):

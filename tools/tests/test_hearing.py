@@ -9,14 +9,14 @@ import subprocess
 import time
 import tracemalloc
 import unittest
-from typing import Iterator
+from typing import ClassVar, Iterator
 from unittest import mock
 
 from mrttools import capture, hearing, listing, updates
 from mrttools.hearing import AT_ONCE, COUNT, Caught, Heard, Look, Neighbor, instance_of
 from mrttools.lsas import Key, address, lsa_of, sealed
 from tests.making import datagram, fragments, network_lsa, ospf, pair, router_lsa, update
-from tests.spaces import inside, lacks
+from tests.spaces import inside, lacks, made
 
 FRR_LIST = """{"routerId": "10.255.0.1", "areas": {"0.0.0.1": {"routerLinkStates": []}, "0.0.0.0": {
   "routerLinkStates": [
@@ -130,6 +130,7 @@ class Lists(unittest.TestCase):
         """Its size is not known, so that it is not taken yet."""
         text = FRR_LOOK.replace('"linkStateId": "198.51.100.7"', '"linkStateId": "198.51.100.8"')
         found = listing.frr_look([text], 0)
+        assert found is not None
         self.assertEqual(found.sizes[max(LISTED)], -1)
 
     def test_what_is_no_answer(self) -> None:
@@ -429,12 +430,13 @@ LACKS = lacks()
 class Ears(unittest.TestCase):
     """Packets between two namespaces."""
 
+    spaces: ClassVar[list[str]]
+
     @classmethod
     def setUpClass(cls) -> None:
         cls.spaces = [f"mrt-test-{os.getpid()}-{name}" for name in ("here", "there")]
         for space in cls.spaces:
-            subprocess.run(["ip", "netns", "add", space], check=True)
-            cls.addClassCleanup(subprocess.run, ["ip", "netns", "del", space], check=True)
+            cls.enterClassContext(made(space))
         for device, far, net in (("core", "core-far", "10.0.0"), ("customer", "customer-far", "192.0.2")):
             words = ["link", "add", device, "netns", cls.spaces[0], "type", "veth", "peer", "name", far]
             subprocess.run(["ip", *words, "netns", cls.spaces[1]], check=True)

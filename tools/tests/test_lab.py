@@ -146,13 +146,13 @@ class Failures(unittest.TestCase):
         self.assertEqual(len(failing.pinged(plan, 5)), 56 + 6)
         self.assertEqual(len(failing.pinged(plan, 3)), 56 + 7)
         with mock.patch.object(forwarding, "lost_by_mrt", lambda *_: {(1, 8), (2, 8), (2, 3)}):
-            parted = forwarding.parted_pairs(None, plan, failure)
+            parted = forwarding.parted_pairs(mock.Mock(), plan, failure)
             self.assertEqual(parted, {(1, 8), (8, 1), (2, 8), (8, 2), (2, 3), (3, 2), (2, network.SHARED)})
 
     def test_static_routes_of_frr_that_word_takes_away(self) -> None:
         """Those whose next hop is gone, of the primaries alone, in the words of FRR."""
         lab = mock.Mock(running={3: Running([], "/r3"), 4: Running([], "/r4")})
-        installed = statics.Static(mock.Mock(plan=network.PLAN), None, "", [], lab)
+        installed = statics.Static(mock.Mock(plan=network.PLAN), mock.Mock(), "", [], lab)
         primary, row = "ip route 10.255.0.7/32 198.51.100.7 to-lan", "ip route 10.255.0.7/32 198.51.100.7 to-lan table 7811"
         other = "ip route 10.255.0.2/32 198.51.100.70 to-lan"
         installed.configurations = {3: f"{primary}\n{row}\n{other}\n", 4: f"{other}\n"}
@@ -193,8 +193,13 @@ class Changes(unittest.TestCase):
         changing = agents.Change("one goes", lambda: course.append("change"), (6,), (6, 9))
         held = mock.Mock(network=mock.Mock(plan=network.PLAN))
         held.wait.side_effect = lambda out: course.append(f"settled without {out}")
+
+        def began(*_: object) -> mock.Mock:
+            course.append("pings")
+            return mock.Mock(end=lambda: course.append("end"))
+
         with mock.patch.object(agents, "Pinging") as pinging, mock.patch.object(agents.time, "sleep"):
-            pinging.side_effect = lambda *_: course.append("pings") or mock.Mock(end=lambda: course.append("end"))
+            pinging.side_effect = began
             agents.pinged(held, changing)
         self.assertEqual(course, ["pings", "change", "settled without (6,)", "end"])
         chosen = pinging.call_args.args[1]
@@ -221,7 +226,8 @@ class Changes(unittest.TestCase):
 class Configurations(unittest.TestCase):
     def test_a_router_in_maintenance(self) -> None:
         plan = PLANS["stubs"]
-        for daemon, words in ((Frr(), " max-metric router-lsa administrative"), (Bird(), "    stub router yes;")):
+        said: list[tuple[Frr | Bird, str]] = [(Frr(), " max-metric router-lsa administrative")]
+        for daemon, words in [*said, (Bird(), "    stub router yes;")]:
             self.assertIn(words, daemon.configuration(plan, 10).splitlines())
             self.assertNotIn(words, daemon.configuration(plan, 1).splitlines())
 

@@ -139,8 +139,8 @@ class OtherPrograms(unittest.TestCase):
 
     def test_one_that_is_not_there_is_told_at_once(self) -> None:
         for tool in self.WORDS:
-            wanted = (8, [], f"{tool}: /nonexistent: there is no such program\n")
-            self.assertEqual(self.done(tool, "/nonexistent"), wanted)
+            told = f"{tool}: /nonexistent: there is no such program\n"
+            self.assertEqual(self.done(tool, "/nonexistent"), (8, [], told))
 
     def test_one_that_says_nothing(self) -> None:
         for tool, form in (("fib", "table"), ("lint", "table"), ("trace", "trace")):
@@ -150,8 +150,8 @@ class OtherPrograms(unittest.TestCase):
     def test_what_is_no_certificate(self) -> None:
         for program in ("/bin/true", "/bin/echo"):
             for tool in ("diff", "draw", "report"):
-                wanted = (1, [], f"{tool}: what was written is no certificate\n")
-                self.assertEqual(self.done(tool, program), wanted)
+                told = f"{tool}: what was written is no certificate\n"
+                self.assertEqual(self.done(tool, program), (1, [], told))
 
 
 class Trace(unittest.TestCase):

@@ -1,6 +1,5 @@
 """The marks of tools/fib in a real kernel, in namespaces. This needs root, iproute2 and nftables."""
 import os
-import re
 import shutil
 import subprocess
 import time
@@ -8,6 +7,7 @@ import unittest
 
 from mrttools import kernel
 from mrttools.agents import Inside
+from tests.making import found
 
 SEND = "import socket; s = socket.socket(type=socket.SOCK_DGRAM); s.bind(('10.0.0.1', 0)); s.sendto(b'x', ('10.0.0.2', 9))"
 
@@ -24,7 +24,7 @@ class Marks(unittest.TestCase):
         if os.geteuid() != 0 or not (shutil.which("ip") and shutil.which("nft")):
             self.skipTest("namespaces need root, ip and nft")
         for name in "abr":
-            self.addCleanup(subprocess.run, ["ip", "netns", "del", self.space(name)], stderr=subprocess.DEVNULL)
+            self.addCleanup(self.end, name)
         try:
             self.join()
         except subprocess.CalledProcessError as fault:
@@ -45,6 +45,9 @@ class Marks(unittest.TestCase):
         self.inside("r", "sh", text=kernel.SETTINGS)
         self.inside("r", "nft", "-f", "-", text=kernel.marking((3, 7), set()))
 
+    def end(self, name: str) -> None:
+        subprocess.run(["ip", "netns", "del", self.space(name)], stderr=subprocess.DEVNULL, check=False)
+
     def space(self, name: str) -> str:
         return f"mrt-test-{os.getpid()}-{name}"
 
@@ -61,11 +64,11 @@ class Marks(unittest.TestCase):
         self.inside("a", "/usr/bin/python3", "-c", SEND)
         for _ in range(20):
             said = self.inside("r", "nft", "list", "chain", "ip", "mrt", "write")
-            found = int(re.search(r"counter packets (\d+)", said)[1])
-            if found:
+            count = int(found(r"counter packets (\d+)", said)[1])
+            if count:
                 break
             time.sleep(0.05)
-        return found
+        return count
 
     def test_a_repair(self) -> None:
         self.assertEqual(self.marked([]), 1)

@@ -9,7 +9,7 @@ import subprocess
 import tempfile
 import time
 import unittest
-from typing import Callable
+from typing import Callable, ClassVar
 from unittest import mock
 
 from mrttools import exposure, listing, lsas, ospfapi, sockets
@@ -410,19 +410,24 @@ class Wrong(Many):
 class Floods(Case):
     """More than there is room for."""
 
+    def waiting(self, api: Api) -> int:
+        """How many bytes of a message that is not whole are kept."""
+        assert api.events is not None
+        return len(api.events.held)
+
     def count(self, api: Api, texts: list[bytes]) -> None:
         for text in texts:
             self.come(api, text)
 
     def test_lsas_without_end(self) -> None:
-        api = self.whole(limits=Limits(count=50))
+        api = self.whole(limits=Limits(lsas=50))
         texts = [told(router_lsa(f"1.1.{number >> 8}.{number & 255}", [])) for number in range(51)]
         self.count(api, texts[:50])
         self.assertEqual(len(api.found), 50)
         self.faults(api, "over the limit", texts[50])
 
     def test_those_that_are_left_out_count_too(self) -> None:
-        api = self.whole(limits=Limits(count=50))
+        api = self.whole(limits=Limits(lsas=50))
         spoilt = [told(router_lsa(f"1.1.1.{number}", [])[:-1] + b"\7") for number in range(51)]
         self.count(api, spoilt[:50])
         self.faults(api, "over the limit", spoilt[50])
@@ -443,7 +448,7 @@ class Floods(Case):
         for _ in range(40):
             self.come(api, head[:50000])
             self.come(api, head[50000:])
-        self.assertEqual(len(api.events.held), 0)
+        self.assertEqual(self.waiting(api), 0)
 
     def test_so_much_at_once(self) -> None:
         """However much has come, a call takes a part of it and comes back; what is asked meanwhile goes on."""
@@ -460,7 +465,7 @@ class Floods(Case):
                 before = time.process_time()
                 api.read()
                 self.assertLess(time.process_time() - before, 1)
-                self.assertLess(len(api.events.held), 1 << 17)
+                self.assertLess(self.waiting(api), 1 << 17)
         self.assertGreater(sent, 1 << 20)
         self.assertEqual(len(api.found), 2)
 
@@ -468,7 +473,7 @@ class Floods(Case):
         api = self.whole()
         for _ in range(20):
             self.assertFalse(self.come(api, message(99, 0) * 4000))
-        self.assertEqual(len(api.events.held), 0)
+        self.assertEqual(self.waiting(api), 0)
 
 
 class Silent(Case):
@@ -649,6 +654,8 @@ class Routers(unittest.TestCase):
     """Routers with FRR. The tests are in the first one's namespace."""
 
     plan = ALONE
+    network: ClassVar[Network]
+    lab: ClassVar[Lab]
 
     @classmethod
     def setUpClass(cls) -> None:
@@ -792,7 +799,7 @@ class BesideFrr(Routers):
         )
         for rule in rules:
             subprocess.run(["nft", rule], check=True)
-        self.addCleanup(subprocess.run, ["nft", "delete table inet ospfapi"], check=True)
+        self.addCleanup(lambda: subprocess.run(["nft", "delete table inet ospfapi"], check=True))
         self.assertIsNone(exposure.open_to_others(ospfapi.PORT))
         self.assertFalse(reached())
         self.assertEqual(self.whole().instances, self.lists.database())

@@ -15,7 +15,7 @@ from mrttools.ending import ToolFault
 from mrttools.layout import Size
 from mrttools.picture import Arrow, Course, Failure, Island, Style
 from tests import making
-from tests.making import DATA, TOOLS
+from tests.making import DATA, TOOLS, found
 
 STAND_IN = """#!/bin/sh
 case $1 in
@@ -176,7 +176,7 @@ class Texts(unittest.TestCase):
 
     def test_a_legend_stays_within_the_width(self) -> None:
         lines, end = svg.legend_lines([("blue", "a long explanation of this line")] * 9, 400, 0)
-        places = [float(re.search(' x="([0-9.]+)"', line)[1]) for line in lines if line.startswith("<text")]
+        places = [float(found(' x="([0-9.]+)"', line)[1]) for line in lines if line.startswith("<text")]
         self.assertLess(max(places), 400)
         self.assertGreater(end, 9 * svg.LINE_SPACE)
 
@@ -212,7 +212,7 @@ class Layouts(unittest.TestCase):
         """Forty nodes with sixty random links."""
         random = Random(4)
         lines = [(random.randrange(node), node) for node in range(1, 40)]
-        lines += [tuple(sorted(random.sample(range(40), 2))) for _ in range(21)]
+        lines += [(min(ends), max(ends)) for ends in (random.sample(range(40), 2) for _ in range(21))]
         found = layout.layout([Size(38, 9)] * 40, lines)
         wrong = layout.through(found.places, [Size(38, 9)] * 40, sorted(set(lines)))
         self.assertLessEqual(len(wrong), 1)

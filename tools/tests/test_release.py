@@ -94,8 +94,10 @@ class Checkout(unittest.TestCase):
         for name, text in FILES.items():
             write(self.at(name), text)
         for name in COPIED:
-            copy = shutil.copytree if os.path.isdir(os.path.join(ROOT, name)) else shutil.copy
-            copy(os.path.join(ROOT, name), self.at(name))
+            if os.path.isdir(os.path.join(ROOT, name)):
+                shutil.copytree(os.path.join(ROOT, name), self.at(name))
+            else:
+                shutil.copy(os.path.join(ROOT, name), self.at(name))
         shutil.copytree(os.path.join(ROOT, "crates", "mrt", "data"), self.at("crates/mrt/data"))
         os.mkdir(self.at("docs"))
         for name in ("COMMANDS.md", "mrt.1"):

@@ -5,7 +5,7 @@ import subprocess
 import tempfile
 import unittest
 
-from tests.making import DATA, MRT, TOOLS
+from tests.making import DATA, MRT, TOOLS, found
 
 # The words of each form, by what they are.
 FORMS = {
@@ -53,7 +53,7 @@ def listed(form: str) -> set[int]:
     """The statuses that the page lists for a form."""
     with open(os.path.join(os.path.dirname(TOOLS), "docs", "COMMANDS.md"), encoding="utf-8") as file:
         section = file.read().split(f"\n### {form}\n")[1].split("\n##")[0]
-    return {int(status) for status in re.findall(r"\d+", re.search(r"\nStatuses: ([\d, ]+)", section)[1])}
+    return {int(status) for status in re.findall(r"\d+", found(r"\nStatuses: ([\d, ]+)", section)[1])}
 
 
 def status(words: list[str], output: str = "/dev/null") -> int:
