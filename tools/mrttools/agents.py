@@ -8,23 +8,24 @@ import subprocess
 import time
 from typing import Callable, NamedTuple
 
-from . import batch, kernel, lsas
+from . import batch, kernel, lsas, status
 from .batch import NOTHING, Linux, State
 from .ending import ToolFault
 from .failing import FAILING, STANDING, failures, pairs
 from .forwarding import Batch, do_at_once, line_of, lost_by
 from .hearing import Database, instance_of
-from .keeping import SILENT
 from .network import Network, router_id
 from .pinging import Counted, Pinging
 from .program import ROOT
 from .running import Lab, LabFault
+from .sources import SILENT
 
-# Seconds that the agents are asked to wait, and within which all are to have their tables.
-QUIET, HOLD, PATIENCE = 5, 2, 90
+# Seconds that old tables stay, and within which all are to have their tables.
+LINGER, PATIENCE = 3, 90
 # Pings of each pair while something changes, how far they are apart in milliseconds, and the seconds before it.
-PINGS, EVERY, BEFORE = 1750, 20, 0.5
-HEAD = ("change", "routers", "changes", "batches", "seconds", "lost: with", "without")
+PINGS, EVERY, BEFORE = 1500, 20, 0.5
+HEAD = ("change", "routers", "changes", "last word", "tables", "beyond", "lost: with", "without")
+WIDTHS = (34, 7, 9, 11, 9, 8, 12, 9)
 # Whose daemons die: the first one's agent leaves its table, the second one's takes it away.
 LEFT, STRICT = 6, 9
 
@@ -61,7 +62,8 @@ class Agents:
 
     def start(self, router: int) -> None:
         """Starts an agent before its daemon."""
-        options = ["--mrt", self.mrt, "--quiet", str(QUIET), "--hold", str(HOLD)]
+        # (FRR's API listens on all addresses, and nobody else is in the namespace)
+        options = ["--mrt", self.mrt, "--linger", str(LINGER), "--open-api"]
         options += ["--strict"] if router == STRICT else []
         options += ["--socket", self.lab.daemon.socket(os.path.join(self.lab.folder, f"r{router}"))]
         given = [self.lab.daemon.name.lower(), self.profile, router_id(router), self.name(f"r{router}")]
@@ -84,12 +86,18 @@ class Agents:
     def state(self, router: int) -> State:
         return Inside(self.network.of(router)).state()
 
+    def facts(self, router: int) -> dict[str, object]:
+        """What an agent says of itself."""
+        return status.read(self.name(f"r{router}"))
+
     def wanted(self, router: int, database: str) -> State:
         """What tools/fib has for a router."""
-        addresses = self.name("addresses")
-        with open(addresses, "w", encoding="utf-8") as file:
-            json.dump(Inside(self.network.of(router)).addresses(), file)
-        words = ["--mrt", self.mrt, "--daemon", "--addresses", addresses, database, self.profile, router_id(router)]
+        here, addresses, routes = Inside(self.network.of(router)), self.name("addresses"), self.name("routes")
+        for name, told in ((addresses, here.addresses()), (routes, here.told("route", "show"))):
+            with open(name, "w", encoding="utf-8") as file:
+                json.dump(told, file)
+        words = ["--mrt", self.mrt, "--daemon", "--addresses", addresses, "--routes", routes]
+        words += [database, self.profile, router_id(router)]
         fib = [os.path.join(ROOT, "tools", "fib"), *words]
         done = subprocess.run(fib, stdout=subprocess.PIPE, stderr=subprocess.DEVNULL, text=True, check=True)
         lines = (line.removeprefix("route replace ") for line in done.stdout.splitlines())
@@ -184,22 +192,24 @@ def changes(agents: Agents) -> list[Change]:
 
 
 class Row(NamedTuple):
-    """What came of a change: how many routers had other tables, their changes, the most batches of one, the seconds
-    until the last one had its table, and what was counted of pings, with agents and without."""
+    """What came of a change: how many routers had other tables, their changes, the seconds until the last word of it came
+    to an agent and until the last one had its table, and how long that took one at most after its last word; and what
+    was counted of pings, with agents and without."""
 
     name: str
     routers: int
     changes: int
-    batches: int
-    seconds: float
+    word: float
+    tables: float
+    beyond: float
     counted: Counted
     without: Counted
 
     @property
     def cells(self) -> tuple[str, ...]:
-        lost = lost_by(self.counted), lost_by(self.without)
-        numbers = self.routers, self.changes, self.batches, round(self.seconds), *lost
-        return self.name, *(f"{number:,}" for number in numbers)
+        lost = (f"{lost_by(each):,}" for each in (self.counted, self.without))
+        seconds = (f"{each:.1f}" for each in (self.word, self.tables, self.beyond))
+        return self.name, f"{self.routers:,}", f"{self.changes:,}", *seconds, *lost
 
 
 def pinged(agents: Agents, change: Change) -> Counted:
@@ -215,17 +225,21 @@ def pinged(agents: Agents, change: Change) -> Counted:
 def tried(agents: Agents, change: Change, without: Counted) -> Row:
     """A change, with what the agents said of it."""
     routers = list(agents.running)
-    before = {router: (len(agents.said(router, "out")), len(agents.said(router, "err"))) for router in routers}
+    before = {router: len(agents.said(router, "out")) for router in routers}
     began = time.time() + BEFORE
     counted = pinged(agents, change)
-    lines = {router: len(agents.said(router, "out")) - before[router][0] for router in routers}
-    batches = {
-        router: sum(line.startswith("agent: changed:") for line in agents.said(router, "err")[before[router][1] :])
-        for router in routers
-    }
-    last = max(os.stat(agents.name(f"r{router}.out")).st_mtime for router in routers)
-    seconds, most = max(0, last - began), max(batches.values())
-    return Row(change.name, sum(map(bool, lines.values())), sum(lines.values()), most, seconds, counted, without)
+    lines = {router: len(agents.said(router, "out")) - before[router] for router in routers}
+    times = [times_of(agents.facts(router)) for router in routers]
+    new = [(heard, put) for heard, put in times if put > began]
+    word, tables = (max((each[place] for each in new), default=began) - began for place in (0, 1))
+    beyond = max((put - heard for heard, put in new), default=0.0)
+    return Row(change.name, sum(map(bool, lines.values())), sum(lines.values()), word, tables, beyond, counted, without)
+
+
+def times_of(facts: dict[str, object]) -> tuple[float, float]:
+    """When the last word of a change came to an agent, and when its table was in the kernel."""
+    times = facts["times"]
+    return (float(times[0]), float(times[1])) if isinstance(times, list) else (0.0, 0.0)
 
 
 def silent_as_asked(agents: Agents, before: State) -> bool:
@@ -253,7 +267,8 @@ def begin(agents: Agents, routers: list[int]) -> None:
     write_profile(agents, 2)
     wires(agents.network, "down", "link r4-r5")
     for router in agents.network.plan.routers:
-        Inside(agents.network.of(router)).run("sh", text=kernel.SETTINGS)
+        own = [lsas.address(each.address) for each in agents.network.plan.interfaces(router)]
+        Inside(agents.network.of(router)).run("sh", text=kernel.settings(own))
     for router in routers:
         agents.start(router)
     for router in agents.network.plan.routers:
@@ -284,12 +299,12 @@ def run(agents: Agents, bare: list[Counted], say: Callable[[str], None]) -> bool
     say(f"agent: {len(agents.running)} routers have the tables of tools/fib: {total(agents):,} routes and rules")
     undone = refused(agents, 1)
     say(f"agent: r1 is given a batch that fails in its middle: {undone or 'IT IS NOT UNDONE'}")
-    say(line_of(HEAD))
+    say(line_of(HEAD, WIDTHS))
     agreed, rows = bool(undone), []
     for change, counted in zip(changes(agents), bare):
         before = agents.state(LEFT)
         rows.append(tried(agents, change, counted))
-        say(line_of(rows[-1].cells))
+        say(line_of(rows[-1].cells, WIDTHS))
         if STRICT in change.out:
             agreed = silent_as_asked(agents, before) and agreed
     say(circled(rows))

@@ -9,14 +9,16 @@ from typing import Iterable, Protocol
 
 from . import kernel
 from .ending import REFUSED, ToolFault
-from .kernel import PROTOCOL, TABLES
+from .kernel import MARK, MASK, PROTOCOL, TABLES
 
 # Lines of `ip -batch` without their verb, as `route 10.0.0.1/32 via ..` and `rule pref ..`.
 State = frozenset[str]
 NOTHING: State = frozenset()
 # The kernel's number of a kind of route, as `ip -N` has it.
 KINDS = {"7": "unreachable"}
-RULES = [f"rule pref {table} fwmark {table} lookup {table}" for table in TABLES]
+RULES = [f"rule {kernel.rule_of(number)}" for number in range(len(TABLES))]
+# Seconds that a program of the system may take.
+LIMIT = 20
 
 
 def state_of(routes: Iterable[str]) -> State:
@@ -44,7 +46,14 @@ def place(line: str) -> str:
     return " ".join([*found, "proto", str(PROTOCOL)])
 
 
+def prefix_of(line: str) -> str:
+    """The prefix of a route's line."""
+    words = line.split(" ")
+    return words[2 if words[1] == "unreachable" else 1]
+
+
 def is_repair(line: str) -> bool:
+    """Whether a line is of a route in the main table: a repair, or a primary after the daemon's."""
     return line.startswith("route ") and " table " not in line
 
 
@@ -77,10 +86,11 @@ class Kernel(Protocol):
 
 
 class Refusal(ToolFault):
-    """A change that the kernel does not take."""
+    """A change that the kernel does not take, with the batch that it was in."""
 
-    def __init__(self, line: str) -> None:
+    def __init__(self, line: str, lines: Iterable[str] = ()) -> None:
         super().__init__(line, REFUSED)
+        self.lines = list(lines)
 
 
 def put(router: Kernel, wanted: State) -> list[str]:
@@ -93,7 +103,7 @@ def put(router: Kernel, wanted: State) -> list[str]:
     try:
         router.batch(lines)
     except Refusal as fault:
-        raise Refusal(f"{fault}; {taken_back(router, have)}") from None
+        raise Refusal(f"{fault}; {taken_back(router, have)}", lines) from None
     return lines
 
 
@@ -110,14 +120,25 @@ def taken_back(router: Kernel, had: State) -> str:
 
 
 class Linux:
-    """The kernel of this machine, by ip and nft."""
+    """A kernel, by ip and nft."""
 
     def run(self, *words: str, text: str = "") -> str:
         """What a program prints. It is given a file, which it reads to its end even where this process is gone."""
         with tempfile.TemporaryFile("w+") as given:
             given.write(text)
             given.seek(0)
-            done = subprocess.run(words, stdin=given, stdout=subprocess.PIPE, stderr=subprocess.PIPE, text=True)
+            try:
+                done = subprocess.run(
+                    words,
+                    stdin=given,
+                    stdout=subprocess.PIPE,
+                    stderr=subprocess.PIPE,
+                    timeout=LIMIT,
+                    text=True,
+                    check=False,
+                )
+            except subprocess.TimeoutExpired:
+                raise Refusal(f"{' '.join(words)}: it took more than {LIMIT} seconds") from None
         if done.returncode != 0:
             why = " ".join(done.stderr.split())
             raise Refusal(f"{' '.join(words)}: status {done.returncode}: {why}")
@@ -127,12 +148,16 @@ class Linux:
         """What ip says, with numbers for what has names too."""
         return json.loads(self.run("ip", "-N", "-j", "-4", *words) or "[]")
 
+    def routes(self, protocol: int) -> list[dict[str, object]]:
+        """All routes of a protocol, in all tables."""
+        return self.told("route", "show", "table", "all", "proto", str(protocol))
+
+    def rules(self) -> list[dict[str, object]]:
+        return self.told("rule", "show")
+
     def state(self) -> State:
-        routes = self.told("route", "show", "table", "all", "proto", str(PROTOCOL))
-        rules = self.told("rule", "show")
-        return frozenset(f"route {route_of(each)}" for each in routes) | {
-            RULES[TABLES.index(each["priority"])] for each in rules if is_ours(each)
-        }
+        ours = (number for each in self.rules() if (number := number_of(each)) is not None)
+        return frozenset(f"route {route_of(each)}" for each in self.routes(PROTOCOL)) | {RULES[each] for each in ours}
 
     def batch(self, lines: list[str]) -> None:
         if lines:
@@ -172,7 +197,14 @@ def route_of(found: dict[str, object]) -> str:
     return " ".join(map(str, [*words, "proto", PROTOCOL]))
 
 
-def is_ours(rule: dict[str, object]) -> bool:
-    """Whether a rule of `ip -j` is one of these."""
-    said = rule.get("priority"), rule.get("fwmark"), rule.get("table")
-    return said in [(table, hex(table), str(table)) for table in TABLES]
+def number_of(rule: dict[str, object]) -> int | None:
+    """Which color's rule one of `ip -j` is, if it is one."""
+    said = rule.get("priority"), rule.get("fwmark"), rule.get("fwmask"), rule.get("table")
+    return next(
+        (
+            number
+            for number, table in enumerate(TABLES)
+            if said == (table, hex(MARK * (number + 1)), hex(MASK), str(table))
+        ),
+        None,
+    )

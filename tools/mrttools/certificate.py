@@ -1,7 +1,8 @@
-"""A certificate that `mrt` has written or accepted, read for pictures."""
+"""A certificate that `mrt` has written or accepted, read for pictures and tables."""
 from __future__ import annotations
 
 import struct
+from itertools import accumulate
 from typing import NamedTuple
 
 from .area import Node
@@ -10,25 +11,70 @@ from .ending import REFUSED, ToolFault
 MAGIC = b"MRTC"
 HEADER, NODE, LINK, ROW = 14, 11, 7, 5
 BLUE, RED = 0, 1
-CARRIED = b"\x06"
 COLORS = "blue", "red"
 
 
+class Rows:
+    """The rows of a certificate by source and destination. Each is read when it is asked for: what is asked for one
+    router is not as much as the square of the area."""
+
+    def __init__(self, version: int, root: int, heads: list[int], blocks: list[int], data: bytes) -> None:
+        self.root, self.heads, self.blocks, self.data, self.every = root, heads, blocks, data, version == 1
+        self.members: dict[int, list[int]] = {}
+        self.below: dict[int, list[int]] = {}
+        for node, head in enumerate(heads):
+            self.members.setdefault(blocks[node], []).append(node)
+            if node != root:
+                self.below.setdefault(head, []).append(node)
+        counts = list(map(self.count, range(len(heads))))
+        self.first = [0, *accumulate(counts)]
+        self.places: dict[int, dict[int, int]] = {}
+        if len(data) != ROW * self.first[-1]:
+            raise ValueError(len(data))
+
+    def count(self, source: int) -> int:
+        """How many rows a node has of its own."""
+        if self.every:
+            return len(self.heads) - 1
+        block = self.blocks[source]
+        near = [self.heads[source], *self.below.get(source, [])]
+        outside = sum(self.blocks[node] != block for node in near if node != source)
+        return len(self.members[block]) - 1 + outside
+
+    def of(self, source: int) -> dict[int, int]:
+        """The places of a node's own rows, by destination."""
+        if source not in self.places:
+            own = range(len(self.heads)) if self.every else sorted(
+                {self.heads[source], *self.below.get(source, []), *self.members[self.blocks[source]]}
+            )
+            others = (node for node in own if node != source)
+            self.places[source] = {node: self.first[source] + place for place, node in enumerate(others)}
+        return self.places[source]
+
+    def link(self, color: int, source: int, target: int) -> int:
+        """The number of a row's link. The row of s for another t has the links of the row of s for the head of t or,
+        where t is the root, for the head of s."""
+        own = self.of(source)
+        for _ in self.heads:
+            if target in own:
+                return int(struct.unpack_from(">H", self.data, ROW * own[target] + 2 * color)[0])
+            target = self.heads[source if target == self.root else target]
+        raise ValueError(target)
+
+
 class Certificate(NamedTuple):
-    """The nodes, the root, each node's head and block, the two nodes of each link, and the rows by source and
-    destination."""
+    """The nodes, the root, each node's head and block, the two nodes of each link, and the rows."""
 
     nodes: list[Node]
     root: Node
     heads: list[int]
     blocks: list[int]
     pairs: list[tuple[int, int]]
-    rows: bytes
+    rows: Rows
 
     def link(self, color: int, source: int, target: int) -> int:
         """The number of the link that a source's packets for a target take on a color."""
-        row = source * (len(self.nodes) - 1) + target - (target > source)
-        return struct.unpack_from(">H", self.rows, ROW * row + 2 * color)[0]
+        return self.rows.link(color, source, target)
 
     def far(self, link: int, node: int) -> int:
         a, b = self.pairs[link]
@@ -65,38 +111,5 @@ def certificate_of(data: bytes) -> Certificate:
     at += NODE * count
     for a, b, _, _ in struct.iter_unpack(">HHHB", data[at : at + LINK * links]):
         pairs.append((a, b))
-    rows = data[at + LINK * links :]
-    if version == 2:
-        rows = all_rows(nodes.index(Node(root, 1)), heads, blocks, rows)
-    if len(rows) != ROW * count * (count - 1):
-        raise ValueError(len(rows))
+    rows = Rows(version, nodes.index(Node(root, 1)), heads, blocks, data[at + LINK * links :])
     return Certificate(nodes, Node(root, 1), heads, blocks, pairs, rows)
-
-
-def all_rows(root: int, heads: list[int], blocks: list[int], rows: bytes) -> bytes:
-    """The rows of all pairs, of those of nodes with a common block. The row of s for another t has the links of the row
-    of s for the head of t or, where t is the root, for the head of s."""
-    count, at, parts = len(heads), 0, []
-    order = by_depth(root, heads)
-    for s in range(count):
-        found: list[bytes] = [b""] * count
-        for t in range(count):
-            if t != s and (blocks[s] == blocks[t] or t == heads[s] or s == heads[t]):
-                found[t] = rows[at : at + ROW]
-                at += ROW
-        for t in order:
-            if t != s and not found[t]:
-                found[t] = found[heads[s] if t == root else heads[t]][:4] + CARRIED
-        parts += found
-    return b"".join(parts)
-
-
-def by_depth(root: int, heads: list[int]) -> list[int]:
-    """The nodes, each after its head."""
-    order, below = [root], {}
-    for node, head in enumerate(heads):
-        if node != root:
-            below.setdefault(head, []).append(node)
-    for node in order:
-        order += below.get(node, [])
-    return order

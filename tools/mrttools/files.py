@@ -58,6 +58,17 @@ def replace(name: str, data: bytes) -> None:
         raise
 
 
+def copy(source: str, target: str) -> None:
+    """Puts what stands in a file into another, where it is not there already."""
+    with open(source, "rb") as file:
+        data = file.read()
+    if os.path.exists(target):
+        with open(target, "rb") as file:
+            if file.read() == data:
+                return
+    replace(target, data)
+
+
 def mask() -> int:
     """The rights that new files do not get."""
     found = os.umask(0)

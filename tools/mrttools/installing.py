@@ -1,34 +1,10 @@
-"""Which prefixes a router installs, and with which next hops."""
+"""How much of a prefix that hangs on one node a router installs, and with which metrics."""
 from __future__ import annotations
 
-from collections import Counter
 from typing import Iterator
 
-from . import lsas
-from .area import Node
 from .kernel import FOR_PORT, FOR_WORD, LAST, PRIMARY, Entry
-from .lsas import ROUTER, STUB
-from .nexthops import Route, Ways
-
-HOST = 0xFFFFFFFF
-
-
-def host_prefixes(ways: Ways) -> dict[Node, list[int]]:
-    """The host prefixes that each router tells of, as a rule that of its loopback; its router ID where it tells of
-    none."""
-    found = {}
-    for lsa in ways.found:
-        if lsa.kind == ROUTER:
-            links = lsas.links_of(lsa.record)
-            own = sorted({link.far for link in links if link.kind == STUB and link.data == HOST})
-            found[Node(lsa.number, ROUTER)] = own or [lsa.number]
-    return found
-
-
-def of_one_router(prefixes: dict[Node, list[int]]) -> dict[Node, list[int]]:
-    """The prefixes that no second router has."""
-    counts = Counter(prefix for own in prefixes.values() for prefix in own)
-    return {node: [prefix for prefix in own if counts[prefix] == 1] for node, own in prefixes.items()}
+from .nexthops import Route
 
 
 def repairs(route: Route) -> Iterator[tuple[int, int]]:
@@ -53,24 +29,4 @@ def entry_of(prefix: str, route: Route) -> Entry:
     it."""
     primary = route.primary if route.primary.gateway is not None else None
     repaired = [(metric, color, route.rows[color]) for metric, color in repairs(route)]
-    return Entry(prefix, primary, after_daemon(route), repaired, list(route.rows))
-
-
-def entries(ways: Ways) -> list[Entry]:
-    """What is installed for each host prefix of the other routers of the island."""
-    prefixes = of_one_router(host_prefixes(ways))
-    return [
-        entry_of(f"{lsas.spelled(prefix)}/32", route)
-        for route in ways.routes()
-        for prefix in prefixes.get(route.to, [])
-    ]
-
-
-def summary(ways: Ways, found: list[Entry]) -> list[str]:
-    """How much there is, and what has no repair."""
-    repaired, prefixes = sum(bool(entry.repairs) for entry in found), host_prefixes(ways)
-    every, single = (
-        {prefix for own in each.values() for prefix in own} for each in (prefixes, of_one_router(prefixes))
-    )
-    lines = [f"router {ways.router.text}: {len(found)} prefixes, {repaired} of them with a repair"]
-    return lines + [f"left out, as several routers have it: {lsas.spelled(one)}/32" for one in sorted(every - single)]
+    return Entry(prefix, primary, after_daemon(route), repaired, list(route.rows), (route.to.text,))

@@ -1,52 +1,37 @@
-"""What the agent does: it looks at the area, and where that has settled it makes the router's table and puts what
-changed into the kernel."""
+"""What the agent does: where the area has changed it makes the router's table and puts what changed into the kernel. A
+fault is told, and costs what hangs on it."""
 from __future__ import annotations
 
 import argparse
 import os
 import sys
-import time
-from typing import Callable, Iterator, NamedTuple, Protocol
+import traceback
 
-from . import batch, files, kernel, lsas, settling, table
+from . import batch, files, generations, kernel, lsas, table
+from .around import Around
 from .batch import NOTHING, Refusal, State
-from .ending import system_line
-from .hearing import Caught, Heard, Look
-from .kernel import Interfaces
-from .lsas import POINT_TO_POINT, ROUTER, TRANSIT, Lsa
+from .ending import ToolFault, system_line
+from .generations import Generations, Made
+from .lsas import Lsa
+from .netlink import News
 from .nexthops import Ways
 from .program import Program
-from .settling import Seen, Settling
+from .refusing import Refused
+from .settling import Settling
+from .sight import Content, Sight
+from .status import Status
 from .table import Table, Wanted
 
-# Seconds between two looks, and between two at the kernel, and those for which a profile may be away, as while it is
-# written anew.
-EVERY, KERNEL_EVERY, PATIENCE = 1, 5, 60
-SILENT = "the daemon does not answer"
+# Seconds between two looks at the kernel, whatever it tells, and at the least; those after which something is tried
+# again that failed; those after which it is told what lacks, and with --strict the table goes; and those that a run of
+# mrt may take.
+KERNEL_EVERY, KERNEL_LEAST, RETRY, LACKING, LIMIT = 5.0, 0.5, 60.0, 10.0, 60.0
+# Seconds between two writes of newer instances that say the same.
+KEPT_EVERY = 2.0
+# How many records at most are left out because mrt says so, and how often a table is tried without what is refused.
+TRIES = 8
 KINDS = "lsas", "profile", "cert"
-
-
-class Router(batch.Kernel, Protocol):
-    """The kernel of the router."""
-
-    def mark(self, nft: str) -> None:
-        ...
-
-    def marks(self) -> str:
-        ...
-
-    def addresses(self) -> object:
-        ...
-
-
-class Around(NamedTuple):
-    """What the agent has to do with: the kernel, what the daemon says of the area, the packets that wait, and how it
-    waits, which is where a signal ends it."""
-
-    kernel: Router
-    listed: Callable[[], Look | None]
-    packets: Callable[[], Iterator[Caught]]
-    pause: Callable[[float], None]
+BAD_DATABASE = 3
 
 
 def tell(line: str) -> None:
@@ -59,188 +44,297 @@ class Agent:
     def __init__(self, said: argparse.Namespace, around: Around) -> None:
         self.said, self.around, self.kernel = said, around, around.kernel
         self.settling = Settling(said.quiet)
-        self.heard = Heard(said.area, said.router, lsas.split(self.kept("lsas")))
-        self.certificate = self.kept("cert")
-        # What was put last, routes with rules and marks, and how the kernel lists it.
-        self.wanted, self.state = NOTHING, NOTHING
-        self.nft, self.marks = "", ""
-        self.kernel_seen = self.profile_read = time.monotonic()
-        self.installed: Seen | None = None
-        self.refused: Seen | None = None
+        self.sight = Sight(said, around.kernel, around.source, self.settling)
+        self.generations = Generations(said.linger)
+        self.refused = Refused()
+        self.status = Status(self.name("status", "agent"), lsas.spelled(said.router), said.daemon)
+        # What the kernel listed after the last change, its marks, and what these were made of.
+        self.state: State = NOTHING
+        self.nft, self.marks, self.devices = "", "", set[str]()
+        # When it was looked at next and last, and when it was changed last.
+        self.kernel_next = self.kernel_last = self.put_last = 0.0
+        self.ways: tuple[Content, Ways] | None = None
+        self.links: set[tuple[int, int]] = set()
+        self.lacking: float | None = None
+        self.fault, self.retry = "", 0.0
+        self.kept, self.keep_next = self.sight.found, 0.0
+        self.told = ""
+        self.done = self.gone = False
 
     def name(self, kind: str, stem: str = "area") -> str:
         return os.path.join(self.said.folder, f"{stem}.{kind}")
 
-    def kept(self, kind: str) -> bytes:
-        """A file of the table that is in the kernel, if there is one."""
-        if not os.path.exists(self.name(kind)):
-            return b""
-        with open(self.name(kind), "rb") as file:
-            return file.read()
+    def tell_once(self, line: str) -> None:
+        """Tells what may be so for long."""
+        if line != self.told:
+            tell(line)
+        self.told = line
 
-    # what is there
+    # the kernel
 
-    def look(self) -> tuple[Seen, list[Lsa]]:
-        """What a table would be made of now, and the LSAs. The list comes first, so that what is in it was heard."""
-        listed, now = self.around.listed(), time.monotonic()
-        interfaces = table.interfaces_of(self.kernel.addresses(), "ip")
-        found, lacks = [], [SILENT]
-        if listed is not None:
-            found, lacks = self.heard.take(self.around.packets(), listed, interfaces.names or {})
-        profile, unread = self.profile(now)
-        lacks = lacks or unread or self.own_lacks(found, interfaces)
-        return Seen(tuple(lacks), settling.bodies(found), profile, interfaces), found
+    def begin(self) -> None:
+        """Has the kernel end packets on colors that have no table yet, from the first moment on."""
+        now = self.around.clock()
+        self.state = self.kernel.state()
+        self.generations.begin(self.state, generations.read(self.name("json", "generations")), now)
+        if not self.said.dry_run:
+            self.mark(self.kernel.marks() or kernel.marking(self.said.dscp, set()))
+            self.put(now)
 
-    def profile(self, now: float) -> tuple[bytes, list[str]]:
-        """The profile, or why it cannot be read. Where that lasts it is the end."""
-        if self.said.profile == "-":
-            return b"", []
-        try:
-            with open(self.said.profile, "rb") as file:
-                data = file.read()
-        except OSError as fault:
-            if now - self.profile_read > PATIENCE:
-                raise
-            return b"", [system_line(fault)]
-        self.profile_read = now
-        return data, []
-
-    def own_lacks(self, found: list[Lsa], interfaces: Interfaces) -> list[str]:
-        """Whether the daemon has no LSA of the router itself, or that tells of addresses that no interface has: it will
-        soon tell otherwise."""
-        own = [lsa for lsa in found if lsa.kind == ROUTER and lsa.number == self.said.router]
-        if not own:
-            return [f"no router-LSA of {lsas.spelled(self.said.router)}"]
-        links = [link for link in lsas.links_of(own[0].record) if link.kind in (POINT_TO_POINT, TRANSIT)]
-        gone = sorted({link.data for link in links} - set(interfaces.names or {}))
-        return [f"no interface is up with the address {lsas.spelled(address)}" for address in gone]
-
-    # tables
-
-    def certified(self, seen: Seen, found: list[Lsa]) -> tuple[Program, bytes]:
-        """mrt over the files of the next table, and the certificate."""
-        files.replace(self.name("lsas", "next"), b"".join(lsa.record for lsa in found))
-        files.replace(self.name("profile", "next"), seen.profile)
-        mrt = Program(self.said.mrt, self.name("lsas", "next"), self.name("profile", "next"))
-        certificate = mrt.run("certify", lsas.spelled(self.said.router))
-        files.replace(self.name("cert", "next"), certificate)
-        return mrt, certificate
-
-    def made(self, mrt: Program, certificate: bytes, seen: Seen, found: list[Lsa]) -> Table:
-        """The router's table by a certificate, which mrt checks."""
-        tell(mrt.lines("check", self.name("cert", "next"))[0])
-        ways = Ways(mrt, found, self.said.router, certificate)
-        return table.table_of(ways, seen.interfaces, Wanted(True, self.said.prefixes, True, tuple(self.said.dscp)))
-
-    def put(self, wanted: State) -> None:
-        """Changes the routes and rules of the kernel."""
+    def put(self, now: float) -> int:
+        """Brings the kernel to what it is to have by now; how many lines that were."""
+        wanted = self.refused.without(self.generations.state(now))
         lines = batch.put(self.kernel, wanted)
         for line in lines:
             print(line, flush=True)
+        self.state = self.kernel.state()
+        self.kernel_last = self.put_last = now
+        self.kernel_next, self.gone = now + KERNEL_EVERY, False
         if lines:
+            self.generations.write(self.name("json", "generations"))
             tell(f"changed: {len(lines)}")
-        self.wanted, self.state = wanted, self.kernel.state()
+        return len(lines)
+
+    def put_or_refuse(self, now: float) -> int:
+        """The same; next hops that the kernel refuses are left out, with what needs them."""
+        for left in range(TRIES, 0, -1):
+            try:
+                return self.put(now)
+            except Refusal as fault:
+                if not left - 1 or not self.refused.learn(fault):
+                    # (old routes may be over interfaces that are gone)
+                    if not self.generations.old:
+                        raise
+                    self.generations.forget_old()
+                tell(f"{fault}; tries without")
+        raise Refusal("the kernel refuses again and again")
 
     def mark(self, nft: str) -> bool:
         """Puts the marks into the kernel, if it has not these: what is put anew counts anew."""
         if self.marks and (nft, self.kernel.marks()) == (self.nft, self.marks):
             return False
-        self.kernel.mark(nft)
+        if nft != self.kernel.marks():
+            self.kernel.mark(nft)
+            print("nft table ip mrt", flush=True)
         self.nft, self.marks = nft, self.kernel.marks()
-        print("nft table ip mrt", flush=True)
         return True
 
-    def put_back(self, seen: Seen) -> None:
-        """Puts back what the kernel has lost since. Where a firewall took the marks, packets on repairs may circle, so
-        that these come back whatever is seen; the routes only where all has been the same."""
-        marked = bool(self.marks) and self.mark(self.nft)
-        lost = seen == self.installed and self.settling.told and self.kernel.state() != self.state
-        if lost:
-            self.put(self.wanted)
-        if marked or lost:
-            tell("put back what the kernel had lost")
+    def look_after(self, news: News, now: float) -> None:
+        """Puts back what others have taken out of the kernel. Where a firewall took the marks, packets on repairs may
+        circle, so that these come back whatever is seen; the routes only where all is as it was."""
+        told = kernel.PROTOCOL in news.protocols or news.rules
+        if now >= self.kernel_next or ((told or news.marks) and now >= self.kernel_last + KERNEL_LEAST):
+            self.kernel_last, self.kernel_next = now, now + KERNEL_EVERY
+            lost = self.mark(self.nft) if self.nft else False
+            self.set()
+            if self.settling.due() is None and not self.sight.lacks() and self.kernel.state() != self.state:
+                lost = bool(self.put_or_refuse(now)) or lost
+            if lost:
+                tell("put back what the kernel had lost")
+        elif told or news.marks:
+            self.kernel_next = min(self.kernel_next, self.kernel_last + KERNEL_LEAST)
 
-    def install(self, seen: Seen, found: list[Lsa]) -> None:
+    def set(self) -> None:
+        """Keeps the settings on the interfaces of the area."""
+        if self.devices:
+            for name in self.around.settings.apply(self.devices):
+                print(f"setting {name}", flush=True)
+
+    # tables
+
+    def certified(self, profile: bytes, found: list[Lsa]) -> tuple[Program, bytes, list[Lsa]]:
+        """mrt over the files of the next table, and the certificate. A record that mrt refuses is left out, and told."""
+        mrt = Program(self.said.mrt, self.name("lsas", "next"), self.name("profile", "next"), LIMIT)
+        files.replace(mrt.profile, profile)
+        for _ in range(TRIES):
+            files.replace(mrt.database, b"".join(lsa.record for lsa in found))
+            try:
+                certificate = mrt.run("certify", lsas.spelled(self.said.router))
+            except ToolFault as fault:
+                bad = record_at(found, fault.told) if fault.status == BAD_DATABASE else None
+                if bad is None:
+                    raise
+                self.sight.left.append(f"{lsas.key_text(bad.key)}: {fault.told}")
+                found = [lsa for lsa in found if lsa is not bad]
+                continue
+            files.replace(self.name("cert", "next"), certificate)
+            return mrt, certificate, found
+        raise ToolFault(f"mrt refuses more than {TRIES} records", BAD_DATABASE)
+
+    def ways_of(self, content: Content) -> Ways:
+        """The ways by a certificate that mrt has checked; those of before where only the daemon's routes are others."""
+        if self.ways is None or self.ways[0] != content:
+            mrt, certificate, found = self.certified(content.profile, self.sight.found)
+            tell(mrt.lines("check", self.name("cert", "next"))[0])
+            self.ways = content, Ways(mrt, found, self.said.router, certificate)
+            self.refused = Refused()
+        return self.ways[1]
+
+    def table(self, now: float) -> tuple[Table, Ways]:
+        ways = self.ways_of(self.sight.content())
+        wanted = Wanted(True, self.said.prefixes, True, self.said.dscp)
+        return table.table_of(ways, self.sight.daemon(now), wanted), ways
+
+    def install(self, now: float) -> None:
         """Makes the table and puts it into the kernel."""
-        mrt, certificate = self.certified(seen, found)
-        stale = certificate != self.certificate and bool(self.kernel.state() - batch.bare())
-        if stale and not self.said.dry_run:
-            # Before the rest is computed: then only what certify takes on a slow router counts against --hold. Between
-            # old repairs and new ones packets may circle; where there are none they are dropped.
-            self.take_back()
-        made = self.made(mrt, certificate, seen, found)
-        wanted = batch.state_of(made.routes)
+        made, ways = self.table(now)
+        state = batch.state_of(made.routes)
         if self.said.dry_run:
-            print(*batch.changes(self.kernel.state(), wanted), sep="\n")
+            print(*batch.changes(self.kernel.state(), state), sep="\n")
+            self.done = True
             return
-        if stale:
-            self.around.pause(self.said.hold)
-            if self.look()[0] != seen:
-                self.settling.forget()
-                return
+        links = self.sight.own_links()
+        owners = {entry.prefix: entry.owners for entry in made.entries}
+        digest = table.digest_of(ways.certified)
+        is_other = self.generations.made is None or self.generations.made.digest != digest
+        told = self.generations.take(
+            Made(digest, made.generation, state, owners), self.state, bool(self.links - links), now
+        )
+        if told:
+            tell(told)
+        self.links, self.devices = links, self.sight.interfaces.of(ways.own_addresses())
         self.mark(made.nft)
-        self.put(wanted)
+        self.set()
+        self.put_or_refuse(now)
         for kind in KINDS:
-            os.replace(self.name(kind, "next"), self.name(kind))
-        self.certificate, self.installed, self.refused = certificate, seen, None
+            files.copy(self.name(kind, "next"), self.name(kind))
+        # (of the LSAs there may be newer instances by now)
+        self.kept, self.keep_next = [], now
+        self.status.installed(made, digest, is_other, self.left_out(made))
 
-    def take_back(self) -> None:
-        """Takes the repairs away, whose certificate is not the area's any more."""
-        self.put(batch.bare())
-        self.certificate = b""
-        files.replace(self.name("cert"), b"")
+    def left_out(self, made: Table) -> dict[str, str]:
+        """What has no repair, and why."""
+        left = dict(made.left) | {record.split(": ")[0]: record.split(": ", 1)[1] for record in self.sight.left}
+        left |= {f"interface {name!r}": "a name that is not taken" for name in self.sight.interfaces.odd}
+        return left | self.refused.told()
+
+    def keep(self, now: float) -> None:
+        """Keeps newer instances that say the same, with which an agent that is started again begins."""
+        settled = self.ways and self.settling.due() is None and not self.sight.lacks() and not self.fault
+        if settled and self.sight.found is not self.kept and now >= self.keep_next:
+            self.kept, self.keep_next = self.sight.found, now + KEPT_EVERY
+            files.replace(self.name("lsas"), b"".join(lsa.record for lsa in self.kept))
 
     def take_away(self) -> None:
-        """Takes away all that the agent has put into the kernel, but the settings."""
-        self.put(NOTHING)
+        """Takes away all that the agent has put into the kernel, and puts the settings back."""
+        batch.put(self.kernel, NOTHING)
         self.kernel.mark(kernel.NO_MARKING)
-        self.marks = ""
-
-    def keep(self, found: list[Lsa]) -> None:
-        """Keeps newer instances that say the same, with which an agent that is started again begins."""
-        data = b"".join(lsa.record for lsa in found)
-        if data != self.kept("lsas"):
-            files.replace(self.name("lsas"), data)
+        self.around.settings.put_back()
+        self.generations = Generations(self.said.linger)
+        self.state, self.nft, self.marks, self.devices = NOTHING, "", "", set()
+        self.ways, self.gone = None, True
+        self.status.bare()
 
     # the work
 
-    def lacking(self, seen: Seen) -> None:
-        """Says what lacks, if that has been so for a while."""
-        first, *others = seen.lacks
-        tell(f"waits: {first}" + (f", and {len(others)} more" if others else ""))
-        if first == SILENT and self.said.strict:
-            self.take_away()
+    def act(self, now: float) -> None:
+        """Makes what there is into a table. A fault leaves the last good one, or with --strict none."""
+        if self.sight.lacks():
+            return
+        if self.sight.soft_lacks(now):
+            self.settling.note(now)
+            return
+        before = self.ways
+        first, last = self.settling.acted(now, (key.router for key in self.sight.bodies))
+        self.install(now)
+        self.fault = self.told = ""
+        after = self.around.clock()
+        if self.ways is not before:
+            self.status.took(after - now, after - first, after - last, self.generations.whole(after) - after)
+        self.write_status(after)
 
-    def step(self) -> bool:
-        """Looks once, and does what is to be done; whether that was a table."""
-        seen, found = self.look()
-        if seen == self.installed:
-            self.keep(found)
-        if seen != self.refused:
-            self.refused = None
-        now = time.monotonic()
-        try:
-            if self.settling.settled(seen, now):
-                if not seen.lacks:
-                    self.install(seen, found)
-                    return True
-                self.lacking(seen)
-            elif now - self.kernel_seen >= KERNEL_EVERY:
-                self.kernel_seen = now
-                self.put_back(seen)
-        except Refusal as fault:
-            self.try_again(seen, fault)
-        return False
+    def failed(self, line: str, now: float) -> None:
+        self.fault, self.retry = line, now + RETRY
+        self.tell_once(f"{line}; the last table {'goes' if self.said.strict else 'stays'}, and it is tried again")
+        self.lose()
 
-    def try_again(self, seen: Seen, fault: Refusal) -> None:
-        """A link may have gone after the look, so that the area settles anew. What is refused twice is the end."""
-        if seen == self.refused:
-            raise fault
-        tell(f"{fault}; tries again")
-        self.refused = seen
-        self.settling.forget()
+    def lose(self) -> None:
+        """With --strict no table is left where something is wrong."""
+        if self.said.strict and not self.gone and not self.said.dry_run:
+            try:
+                self.take_away()
+            except (ToolFault, OSError) as fault:
+                self.tell_once(f"the table is not taken away: {fault}")
+        self.write_status(self.around.clock())
+
+    def look_at_lacks(self, now: float) -> None:
+        """Tells what lacks, if that has been so for a while; with --strict the table goes where the daemon is silent."""
+        lacks = self.sight.lacks()
+        if not lacks:
+            if self.lacking is not None:
+                self.lacking, self.told = None, ""
+            return
+        self.lacking = now if self.lacking is None else self.lacking
+        if now - self.lacking >= LACKING:
+            first, *others = lacks
+            line = f"waits: {first}" + (f", and {len(others)} more" if others else "")
+            if line != self.told:
+                self.tell_once(line)
+                self.lose()
+
+    def write_status(self, now: float) -> None:
+        lacks = self.sight.lacks()
+        waits = self.fault or (lacks[0] if lacks else "")
+        dampened = [lsas.spelled(router) for router in self.settling.dampened(now)]
+        self.status.write(self.around.source.name(), waits, dampened)
+
+    def step(self) -> float:
+        """Does what is to be done; when to look again at the latest. Whatever fails, the next look is another one."""
+        now = self.around.clock()
+        for work in (self.look, self.look_at_lacks):
+            try:
+                work(now)
+            except ToolFault as fault:
+                self.failed(fault.told, now)
+            except OSError as fault:
+                self.failed(system_line(fault), now)
+            except Exception as fault:  # pylint: disable=broad-except
+                self.failed(f"{fault!r} {traceback.format_tb(fault.__traceback__)[-1].strip()}", now)
+        return self.next(now)
+
+    def look(self, now: float) -> None:
+        """Looks once, and does what is due."""
+        news = self.kernel.news()
+        self.sight.look(news, now)
+        if self.fault and now >= self.retry:
+            self.retry = now + RETRY
+            self.settling.note(now)
+        due = self.settling.due()
+        if due is not None and now >= due:
+            self.act(now)
+        following = self.generations.next(self.put_last)
+        if following is not None and now >= following and not self.gone:
+            self.put_or_refuse(now)
+        if not self.said.dry_run and not self.gone:
+            self.look_after(news, now)
+            self.keep(now)
+
+    def next(self, now: float) -> float:
+        """When something is to be done, whatever comes."""
+        times = [self.kernel_next, self.sight.next(now), self.settling.due(), self.generations.next(now)]
+        if self.sight.lacks():
+            # (then nothing is made of what changes, however it is due)
+            times[2] = now + 1
+        return min(each for each in times if each is not None)
 
     def work(self) -> None:
-        """Looks every second, until a signal comes or a status is not 0; with --dry-run until there is a table."""
-        while not (self.step() and self.said.dry_run):
-            self.around.pause(EVERY)
+        """Until a signal comes; with --dry-run until there is a table."""
+        self.begin()
+        while not self.done:
+            until = self.step()
+            if not self.done:
+                sources = [*self.kernel.filenos(), *self.around.source.filenos()]
+                self.around.wait(sources, until - self.around.clock())
+
+
+def record_at(found: list[Lsa], told: str) -> Lsa | None:
+    """The record that mrt means, by where it says that it lies."""
+    words = told.split(" ")
+    if "at" not in words[:-1] or not words[words.index("at") + 1].isdecimal():
+        return None
+    at, place = int(words[words.index("at") + 1]), 0
+    for lsa in found:
+        place += len(lsa.record)
+        if at < place:
+            return lsa
+    return None

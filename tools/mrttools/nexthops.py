@@ -3,7 +3,8 @@ says."""
 from __future__ import annotations
 
 import tempfile
-from typing import Iterator, NamedTuple
+from functools import cached_property
+from typing import TYPE_CHECKING, Iterator, NamedTuple
 
 from . import area, certificate, lsas
 from .area import Area, Bond, Node
@@ -13,8 +14,17 @@ from .lsas import NETWORK, ROUTER, Lsa
 from .paths import Graph
 from .program import Program
 
+if TYPE_CHECKING:
+    from .prefixes import Proxied
+
 NO_REPAIR = "-"
+# Link data below this is the number of an interface without an address.
+LEAST_ADDRESS = 1 << 24
 COLOR_OF = {"b": 0, "r": 1}
+
+
+class Unfit(Exception):
+    """Why a next hop cannot be had: what needs it is left out, and told."""
 
 
 class Hop(NamedTuple):
@@ -60,41 +70,49 @@ class Ways:
     def __init__(self, mrt: Program, found: list[Lsa], router: int, certified: bytes = b"") -> None:
         self.mrt, self.router = mrt, Node(router, ROUTER)
         self.lines = [line_of(text) for text in mrt.lines("table", lsas.spelled(router))[1:]]
-        self.certificate = certificate.read(certified or mrt.run("certify", lsas.spelled(router)))
+        self.certified = certified or mrt.run("certify", lsas.spelled(router))
+        self.certificate = certificate.read(self.certified)
+        self.place = {node: place for place, node in enumerate(self.certificate.nodes)}
         self.found = list(area.speakers(found).values())
         self.area = area.area_of(found)
+        self.graph = Graph(self.area)
         self.bonds = island_of(mrt, self.area, self.certificate)
+        # Of parallel links, and of those of one link data, the first.
+        self.between: dict[tuple[Node, Node], Bond] = {}
+        self.by_data: dict[tuple[Node, Node, int | None], Bond] = {}
+        for bond in self.area.bonds:
+            for near, far in ((bond.a, bond.b), (bond.b, bond.a)):
+                self.between.setdefault((near, far), bond)
+                self.by_data.setdefault((near, far, bond.data_of(near)), bond)
         self.after = self.routers_after_networks()
+        # What prefixes of two routers have, as far as it was asked for.
+        self.proxied: dict[tuple[Node, Node], Proxied | None] = {}
 
     # links as addresses
 
     def address_on(self, bond: Bond, node: Node) -> int:
         """The address of a router's end of a link."""
-        data = bond.data_a if node == bond.a else bond.data_b
-        if data is None or data < 1 << 24:
-            raise ToolFault(
+        data = bond.data_of(node)
+        if data is None or data < LEAST_ADDRESS:
+            raise Unfit(
                 f"the link of {bond.a.text} and {bond.b.text} has no address at {node.text}: "
-                "links without addresses are not taken",
-                REFUSED,
+                "links without addresses are not taken"
             )
         return data
 
     def own_addresses(self) -> set[int]:
         """The addresses of the router's links in the area."""
-        ends = [(bond.a, bond.data_a) for bond in self.area.bonds] + [
-            (bond.b, bond.data_b) for bond in self.area.bonds
-        ]
-        return {data for node, data in ends if node == self.router and data is not None}
+        found = (bond.data_of(self.router) for bond in self.graph.links[self.router])
+        return {data for data in found if data is not None and data >= LEAST_ADDRESS}
 
     def bond_to(self, network: Node, router: Node) -> Bond:
         """The link by which a router is on a network; of several the first."""
-        found = (bond for bond in self.area.bonds if {bond.a, bond.b} == {network, router})
-        return next(found)
+        return self.between[network, router]
 
     def row(self, color: int, to: Node) -> Hop:
         """The next hop of a color, by the rows of the router and, where the link leads to a network, of that."""
         nodes, cert = self.certificate.nodes, self.certificate
-        source, target = nodes.index(self.router), nodes.index(to)
+        source, target = self.place[self.router], self.place[to]
         link = cert.link(color, source, target)
         own, far = self.address_on(self.bonds[link], self.router), cert.far(link, source)
         if far == target and to.kind == NETWORK:
@@ -126,17 +144,24 @@ class Ways:
                 return Hop(line.primary_data, None)
             after = self.after[line.to]
             return Hop(line.primary_data, self.address_on(self.bond_to(line.primary_far, after), after))
-        bond = next(bond for bond in self.area.bonds if bond.is_of(self.router.number, line.primary_data))
+        bond = self.by_data[self.router, line.primary_far, line.primary_data]
         return Hop(self.address_on(bond, self.router), self.address_on(bond, line.primary_far))
 
-    def routes(self) -> Iterator[Route]:
-        """A route for each line of the router's table."""
-        beginnings = Graph(self.area).beginnings(self.router)
+    @cached_property
+    def routes(self) -> list[tuple[Line, Route | Unfit]]:
+        """A route for each line of the router's table, or why there is none."""
+        return list(self.made_routes())
+
+    def made_routes(self) -> Iterator[tuple[Line, Route | Unfit]]:
+        beginnings = self.graph.beginnings(self.router)
         for line in self.lines:
-            several = len(beginnings[line.to]) > 1
-            rows = self.row(0, line.to), self.row(1, line.to)
-            over_lan = line.primary_far.kind == NETWORK
-            yield Route(line.to, self.primary(line), over_lan, several, *repairs(line.letters), rows)
+            several, over_lan = len(beginnings[line.to]) > 1, line.primary_far.kind == NETWORK
+            try:
+                primary, rows = self.primary(line), (self.row(0, line.to), self.row(1, line.to))
+            except Unfit as why:
+                yield line, why
+                continue
+            yield line, Route(line.to, primary, over_lan, several, *repairs(line.letters), rows)
 
 
 def repairs(letters: str) -> tuple[int | None, int | None]:

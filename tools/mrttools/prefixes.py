@@ -1,205 +1,240 @@
-"""The prefixes of an area beyond loopbacks: stub networks of one router, of two, of more, and the networks
-themselves."""
+"""What a router installs for each prefix of its area: by the rows of the one node that has it, or by those of `mrt proxy`
+for two routers."""
 from __future__ import annotations
-
-from collections import defaultdict
-from typing import NamedTuple
 
 from . import area, lsas
 from .area import Bond, Node
-from .ending import ToolFault
+from .ending import REFUSED, ToolFault
 from .installing import after_daemon, entry_of
 from .kernel import FOR_PORT, FOR_WORD, Entry
-from .lsas import NETWORK, ROUTER, STUB
-from .nexthops import Hop, Ways
-from .paths import Graph
+from .lsas import NETWORK, ROUTER
+from .nexthops import Hop, Route, Unfit, Ways
+from .owners import HOST, Daemon, Owners, Prefix, owners_of
 
 NO_COMMON_BLOCK = 13
 
-
-class Prefix(NamedTuple):
-    number: int
-    mask: int
-
-    @property
-    def text(self) -> str:
-        return f"{lsas.spelled(self.number)}/{bin(self.mask).count('1')}"
-
-
 # The next hop of a node on a color, and its link data there; none where the prefix hangs on it.
 Step = tuple[Node, int] | None
-Owners = dict[Node, int]
-
-
-def is_prefix(number: int, mask: int) -> bool:
-    """Whether a mask is one, and the number has nothing beyond it."""
-    return (~mask & 0xFFFFFFFF) & ((~mask & 0xFFFFFFFF) + 1) == 0 and number & mask == number
-
-
-def owners_of(ways: Ways) -> dict[Prefix, Owners]:
-    """The routers that tell of each stub network, with their metrics. Of a transit network its node is the owner."""
-    found: dict[Prefix, Owners] = defaultdict(dict)
-    for lsa in ways.found:
-        if lsa.kind == ROUTER:
-            for link in lsas.links_of(lsa.record):
-                if link.kind == STUB and is_prefix(link.far, link.data):
-                    owners = found[Prefix(link.far, link.data)]
-                    node = Node(lsa.number, ROUTER)
-                    owners[node] = min(link.metric, owners.get(node, link.metric))
-    for lsa in ways.found:
-        mask = int.from_bytes(lsa.record[20:24], "big")
-        if lsa.kind == NETWORK and is_prefix(lsa.number & mask, mask):
-            found[Prefix(lsa.number & mask, mask)] = {Node(lsa.number, NETWORK): 0}
-    return found
+Pair = tuple[Node, Node]
+Element = Bond | Node
+ATTACHED = b"attached"
 
 
 # two routers
 
 
 class Proxied:
-    """The rows of all nodes for a prefix that hangs on two routers."""
+    """What a router has for a prefix that hangs on two routers: its next hop on each color, or none where the prefix
+    hangs on it; and, by which of the two its primary goes, the colors that repair it for word and for its own port."""
 
-    def __init__(self, ways: Ways, pair: tuple[Node, Node]) -> None:
+    def __init__(self, ways: Ways, text: bytes, hops: dict[Node, list[Element]]) -> None:
         self.ways = ways
-        self.rows: dict[Node, tuple[Step, Step]] = {}
-        words = [node.text for node in (ways.router, *pair)]
-        for line in ways.mrt.lines("proxy", *words, untold=NO_COMMON_BLOCK)[1:]:
-            node, _, blue, _, red = line.split(" ")
-            self.rows[area.node_of(node)] = step_of(blue), step_of(red)
+        # (the rows of all nodes, each to be read when it is met: there are many, and many prefixes)
+        self.lines = dict(line.split(b" ", 1) for line in text.split(b"\n")[1:-1])
+        self.unfit: Unfit | None = None
+        self.hops: list[Hop | None] = []
+        try:
+            self.hops = [self.hop(color) for color in (0, 1)]
+        except Unfit as why:
+            self.unfit = why
+        self.met = [self.met_on(color) for color in (0, 1)]
+        self.repairs = {to: (self.past(found[:1:-1]), self.past(found[1::-1])) for to, found in hops.items()}
+        self.lines, self.met = {}, []
+
+    def word(self, node: bytes, color: int) -> bytes:
+        """What a row of the text says: a next hop and link data, or that the prefix hangs there."""
+        if node not in self.lines:
+            raise ToolFault(f"mrt proxy has no row of {node.decode()}", REFUSED)
+        return self.lines[node].split(b" ")[1 + 2 * color]
+
+    def step(self, node: Node, color: int) -> Step:
+        """The same as a node and its link data."""
+        word = self.word(node.text.encode(), color)
+        if word == ATTACHED:
+            return None
+        far, data = word.decode().split("/")
+        return area.node_of(far), lsas.address(data)
 
     def hop(self, color: int) -> Hop | None:
-        """The next hop of the router itself, or none where the prefix hangs on it."""
-        step = self.rows[self.ways.router][color]
+        """The next hop of the router itself."""
+        step = self.step(self.ways.router, color)
         if step is None:
             return None
         far, own = step
         bond = self.bond(self.ways.router, step)
+        self.ways.address_on(bond, self.ways.router)
         if far.kind == NETWORK:
             # A row of a network leads to a router, as the prefix hangs on none.
-            after = self.rows[far][color][0]
-            bond, far = self.ways.bond_to(far, after), after
+            beyond = self.step(far, color)
+            if beyond is None:
+                raise ToolFault(f"mrt proxy has the prefix at {far.text}", REFUSED)
+            bond, far = self.ways.bond_to(far, beyond[0]), beyond[0]
         return Hop(own, self.ways.address_on(bond, far))
 
     def bond(self, node: Node, step: tuple[Node, int]) -> Bond:
         far, data = step
-        if node.kind == NETWORK:
-            return self.ways.bond_to(node, far)
-        return next(one for one in self.ways.bonds if one.is_of(node.number, data) and far in (one.a, one.b))
+        return self.ways.bond_to(node, far) if node.kind == NETWORK else self.ways.by_data[node, far, data]
 
-    def met(self, color: int) -> set[Bond | Node]:
-        """The links and nodes that a packet of the router meets on a color."""
-        found: set[Bond | Node] = set()
-        at = self.ways.router
-        for _ in self.rows:
-            step = self.rows[at][color]
-            if step is None:
-                break
-            found |= {self.bond(at, step), step[0]}
-            at = step[0]
+    def met_on(self, color: int) -> dict[bytes, bytes]:
+        """The nodes from which a packet of the router goes on on a color, each with the one that it goes to."""
+        found: dict[bytes, bytes] = {}
+        at = self.ways.router.text.encode()
+        while at not in found and (word := self.word(at, color)) != ATTACHED:
+            found[at] = word.split(b"/")[0]
+            at = found[at]
         return found
 
-    def color_past(self, elements: list[Bond | Node]) -> int | None:
+    def meets(self, color: int, element: Element) -> bool:
+        """Whether the packet goes over a link or to a node."""
+        found = self.met[color]
+        if isinstance(element, Node):
+            return element.text.encode() in found.values()
+        for node, far in ((element.a, element.b), (element.b, element.a)):
+            if found.get(node.text.encode()) == far.text.encode():
+                step = self.step(node, color)
+                if step is not None and self.bond(node, step) == element:
+                    return True
+        return False
+
+    def past(self, elements: list[Element]) -> int | None:
         """The color that goes round the first of the elements that one goes round."""
-        met = self.met(0), self.met(1)
         for element in elements:
             for color in (0, 1):
-                if element not in met[color]:
+                if not self.meets(color, element):
                     return color
         return None
-
-
-def step_of(word: str) -> Step:
-    if word == "attached":
-        return None
-    far, data = word.split("/")
-    return area.node_of(far), lsas.address(data)
 
 
 # what is installed
 
 
+class LeftOut(Exception):
+    """Why nothing is installed for a prefix."""
+
+
 class Prefixes:
-    """What a router installs for each prefix that is not its own host prefix."""
+    """What a router installs for the prefixes of the area: for all of them, or for the host prefixes of one other router
+    alone, as a rule the loopbacks. Of each prefix is told how it came about, or why nothing is installed."""
 
-    def __init__(self, ways: Ways) -> None:
-        self.ways, self.graph = ways, Graph(ways.area)
-        self.routes = {route.to: route for route in ways.routes()}
+    def __init__(self, ways: Ways, daemon: Daemon, every: bool) -> None:
+        self.ways, self.daemon, self.every = ways, daemon, every
+        self.routes: dict[Node, Route] = {}
+        self.unfit: dict[Node, Unfit] = {}
+        for line, route in ways.routes:
+            if isinstance(route, Unfit):
+                self.unfit[line.to] = route
+            else:
+                self.routes[line.to] = route
         self.lines = {line.to: line for line in ways.lines}
-        self.owners = owners_of(ways)
-        self.members = set(ways.certificate.nodes)
+        self.owners = owners_of(ways.found)
         self.far: dict[Node, dict[Node, int]] = {}
-        self.told: list[str] = []
-
-    def distance(self, source: Node, to: Node) -> int | None:
-        if source not in self.far:
-            self.far[source] = self.graph.distances(source)
-        return self.far[source].get(to)
+        self.told: dict[str, str] = {}
+        self.left: dict[str, str] = {}
 
     def nearest(self, source: Node, owners: Owners) -> list[Node]:
         """The owners by their distance, with the metric at them, and by identifier."""
-        found = [(self.distance(source, node), metric, node) for node, metric in owners.items()]
-        return [node for _, node in sorted((far + metric, node) for far, metric, node in found if far is not None)]
+        if source not in self.far:
+            self.far[source] = self.ways.graph.distances(source)
+        far = self.far[source]
+        return [node for _, node in sorted((far[node] + metric, node) for node, metric in owners.items() if node in far)]
+
+    def inside(self, owners: Owners) -> list[Node]:
+        """The owners of the island. All routers have to take the same ones: those nearest to the root."""
+        return [node for node in self.nearest(self.ways.certificate.root, owners) if node in self.ways.place]
 
     def entries(self) -> list[Entry]:
+        """What is installed, prefix by prefix."""
+        wanted = {prefix: owners for prefix, owners in sorted(self.owners.items()) if self.is_wanted(prefix, owners)}
+        pairs = {prefix: pair for prefix, owners in wanted.items() if (pair := self.pair_of(owners))}
+        proxied = self.proxied(sorted(set(pairs.values())))
         found = []
-        for prefix, owners in sorted(self.owners.items()):
-            entry, said = self.entry(prefix, owners)
-            self.told.append(f"{prefix.text}: {said}")
-            found += [entry] if entry else []
+        for prefix, owners in wanted.items():
+            try:
+                entry, said = self.entry(prefix, owners, proxied[pairs[prefix]] if prefix in pairs else None)
+                entry.look_at(self.daemon.interfaces)
+                found.append(entry)
+                self.told[prefix.text] = said
+            except (LeftOut, Unfit) as why:
+                self.left[prefix.text] = str(why)
         return found
 
-    def entry(self, prefix: Prefix, owners: Owners) -> tuple[Entry | None, str]:
+    def is_wanted(self, prefix: Prefix, owners: Owners) -> bool:
+        """Whether a prefix is one of those that are asked for, and may have something. What may not is told."""
+        if not self.every and (prefix.mask != HOST or self.ways.router in owners):
+            return False
+        why = self.daemon.why_not(prefix.text, self.has(prefix, owners))
+        if not self.every and len(owners) > 1:
+            why = why or "several routers have it"
+        if why:
+            self.left[prefix.text] = why
+        return not why
+
+    def has(self, prefix: Prefix, owners: Owners) -> bool:
+        """Whether the router itself tells of a prefix, or is on the network that has it."""
+        near = {bond.far(self.ways.router) for bond in self.ways.graph.links[self.ways.router]}
+        return any(node == self.ways.router or (node.kind == NETWORK and node in near) for node in owners)
+
+    def pair_of(self, owners: Owners) -> Pair | None:
+        """The two routers by whose rows a prefix goes, if there are two."""
+        first = self.inside(owners)[:2]
+        return (first[0], first[1]) if [node.kind for node in first] == [ROUTER, ROUTER] else None
+
+    def proxied(self, pairs: list[Pair]) -> dict[Pair, Proxied | None]:
+        """What there is for each two routers that have a common block. They are asked for once."""
+        pairs = [pair for pair in pairs if pair not in self.ways.proxied]
+        known, words = self.ways.proxied, [(self.ways.router.text, one.text, other.text) for one, other in pairs]
+        for place, text in self.ways.mrt.many("proxy", words, untold=NO_COMMON_BLOCK) if words else ():
+            hops = {to: self.elements(to) for to in pairs[place] if to in self.lines}
+            known[pairs[place]] = Proxied(self.ways, text, hops) if text else None
+        return known
+
+    def entry(self, prefix: Prefix, owners: Owners, proxied: Proxied | None) -> tuple[Entry, str]:
         """What is installed for a prefix, and how it came about."""
-        near = self.nearest(self.ways.router, owners)
-        # All routers have to take the same two: those nearest to the root.
-        inside = [node for node in self.nearest(self.ways.certificate.root, owners) if node in self.members]
+        near, inside = self.nearest(self.ways.router, owners), self.inside(owners)
         if not near or not inside:
-            return None, "left out, no router of the island has it"
-        if len(inside) > 1:
-            try:
-                proxied = Proxied(self.ways, (inside[0], inside[1]))
-                return self.of_two(prefix, near[0], proxied), f"by {inside[0].text} and {inside[1].text}"
-            except ToolFault as fault:
-                if fault.status != NO_COMMON_BLOCK:
-                    raise
+            raise LeftOut("no router of the island has it")
+        if proxied:
+            both = inside[0].text, inside[1].text
+            return self.of_two(prefix, near[0], proxied)._replace(owners=both), f"by {both[0]} and {both[1]}"
         return self.of_one(prefix, near[0], inside[0])
 
+    def route(self, to: Node) -> Route | None:
+        """The route to a node, if it is in the router's table."""
+        if to in self.unfit:
+            raise self.unfit[to]
+        return self.routes.get(to)
+
     def of_one(self, prefix: Prefix, nearest: Node, owner: Node) -> tuple[Entry, str]:
-        """By the rows for one router. Where another one is nearer, packets on a color still go on to this one."""
-        if owner == self.ways.router:
-            return Entry(prefix.text, None, None, [], [None, None]), "its own"
+        """By the rows for one node. Where another one is nearer, packets on a color still go on to this one."""
+        route = self.route(owner)
+        if route is None:
+            return Entry(prefix.text, None, None, [], [None, None], (owner.text,)), "its own"
         if nearest == owner:
-            return entry_of(prefix.text, self.routes[owner]), f"by {owner.text}"
-        primary = self.routes[nearest].primary if nearest in self.routes else None
-        rows = list(self.routes[owner].rows)
+            return entry_of(prefix.text, route), f"by {owner.text}"
+        near = self.route(nearest)
         told = f"by {owner.text} on colors, without a repair, as {nearest.text} is nearer"
-        return Entry(prefix.text, primary, None, [], rows), told
+        return Entry(prefix.text, near and near.primary, None, [], list(route.rows), (owner.text,)), told
 
     def of_two(self, prefix: Prefix, nearest: Node, proxied: Proxied) -> Entry:
         """By the rows for a prefix of two routers. Where the router itself has it, a repair is for its own port to
         it."""
-        rows = [proxied.hop(0), proxied.hop(1)]
+        if proxied.unfit:
+            raise proxied.unfit
+        rows, route = list(proxied.hops), self.route(nearest)
         if nearest == self.ways.router or None in rows:
             others = [(FOR_PORT, color, hop) for color, hop in enumerate(rows) if hop is not None]
             return Entry(prefix.text, None, None, others[:1], rows)
-        if nearest not in self.routes:
+        if route is None:
             return Entry(prefix.text, None, None, [], rows)
-        route = self.routes[nearest]
-        elements = self.elements(nearest)
-        colors = [(FOR_WORD, proxied.color_past(elements[:1:-1])), (FOR_PORT, proxied.color_past(elements[1::-1]))]
-        repairs = [(metric, color, rows[color]) for metric, color in colors if color is not None]
+        colors = zip((FOR_WORD, FOR_PORT), proxied.repairs[nearest])
+        repairs = [(metric, color, hop) for metric, color in colors if color is not None and (hop := rows[color])]
         return Entry(prefix.text, route.primary, after_daemon(route), repairs, rows)
 
-    def elements(self, to: Node) -> list[Bond | Node]:
+    def elements(self, to: Node) -> list[Element]:
         """The links and nodes of the primary's hop to a router: the link, its far node and, after a LAN, both
         again."""
         line, ways = self.lines[to], self.ways
-        first = next(
-            bond
-            for bond in ways.area.bonds
-            if bond.is_of(ways.router.number, line.primary_data) and line.primary_far in (bond.a, bond.b)
-        )
-        found: list[Bond | Node] = [first, line.primary_far]
+        found: list[Element] = [ways.by_data[ways.router, line.primary_far, line.primary_data], line.primary_far]
         if to in ways.after:
             found += [ways.bond_to(line.primary_far, ways.after[to]), ways.after[to]]
         return found

@@ -3,9 +3,15 @@ from __future__ import annotations
 
 import argparse
 import os
+import selectors
 import shutil
+import signal
 import subprocess
 import sys
+import tempfile
+import time
+from collections import deque
+from typing import IO, Iterator
 
 from .ending import READ_FAULT, REFUSED, ToolFault
 
@@ -38,28 +44,100 @@ def built(path: str) -> str:
 
 
 class Program:
-    """mrt over one database and one profile."""
+    """mrt over one database and one profile. Where a limit is given, no run takes more than so many seconds."""
 
-    def __init__(self, path: str, database: str, profile: str) -> None:
+    def __init__(self, path: str, database: str, profile: str, limit: float | None = None) -> None:
         refuse_without(path)
-        self.path, self.database, self.profile = path, database, profile
+        self.path, self.database, self.profile, self.limit = path, database, profile, limit
 
-    def run(self, command: str, *words: str, untold: int = 0) -> bytes:
-        """What a command writes. Where it refuses, its line is told, but for one status, and the tool ends with the
-        status."""
+    def run(self, command: str, *words: str) -> bytes:
+        """What a command writes. Where it refuses, its line is told, and the tool ends with the status."""
         words = (self.database, *words) if command == "lfa" else (self.database, self.profile, *words)
-        done = subprocess.run(
-            [self.path, command, *words], stdout=subprocess.PIPE, stderr=subprocess.PIPE, check=False
-        )
-        if done.returncode != untold:
-            sys.stderr.buffer.write(done.stderr)
+        try:
+            done = subprocess.run(
+                [self.path, command, *words],
+                stdin=subprocess.DEVNULL,
+                stdout=subprocess.PIPE,
+                stderr=subprocess.PIPE,
+                timeout=self.limit,
+                check=False,
+            )
+        except subprocess.TimeoutExpired:
+            raise self.too_slow(command) from None
         if done.returncode != 0:
-            raise ToolFault("", done.returncode)
+            sys.stderr.buffer.write(done.stderr)
+            raise ToolFault("", done.returncode, done.stderr.decode("utf-8", "replace").strip())
         return done.stdout
 
-    def lines(self, command: str, *words: str, untold: int = 0) -> list[str]:
+    def too_slow(self, command: str) -> ToolFault:
+        return ToolFault(f"{self.path} {command} took more than {self.limit:g} seconds", REFUSED)
+
+    def lines(self, command: str, *words: str) -> list[str]:
         """The lines that a command writes, of which there is one at least."""
-        found = self.run(command, *words, untold=untold).decode("ascii").splitlines()
+        found = self.run(command, *words).decode("ascii").splitlines()
         if not found:
             raise ToolFault(f"{self.path} {command} ended with status 0 and has written nothing", REFUSED)
         return found
+
+    def many(self, command: str, each: list[tuple[str, ...]], untold: int) -> Iterator[tuple[int, bytes | None]]:
+        """What a command writes for each of several words, by their place, as it comes; none where it refuses with the
+        one status. A shell for each processor runs it again and again: to start it is most of what it takes."""
+        shells = [Shell(self, command, each, first) for first in range(min(len(each), os.cpu_count() or 1))]
+        end = time.monotonic() + self.limit if self.limit else None
+        try:
+            with selectors.DefaultSelector() as selector:
+                for shell in shells:
+                    selector.register(shell.output, selectors.EVENT_READ, shell)
+                while selector.get_map():
+                    for key, _ in selector.select(end and max(0, end - time.monotonic())):
+                        yield from key.data.take(untold)
+                        if not key.data.waiting:
+                            selector.unregister(key.fileobj)
+                    if end and time.monotonic() > end:
+                        raise self.too_slow(command)
+        finally:
+            for shell in shells:
+                shell.stop()
+
+
+class Shell:
+    """A shell that runs a command for every n-th of several words, one after another."""
+
+    LOOP = 'while read -r words; do "$1" "$2" "$3" "$4" $words; echo "status $?"; done'
+    STATUS = b"\nstatus "
+
+    def __init__(self, mrt: Program, command: str, each: list[tuple[str, ...]], first: int) -> None:
+        step = min(len(each), os.cpu_count() or 1)
+        # (what was read begins with the end of a line, and has been looked through up to a place)
+        self.command, self.read, self.seen = command, b"\n", 0
+        self.waiting = deque(range(first, len(each), step))
+        with tempfile.TemporaryFile("w+") as given:
+            given.writelines(" ".join(each[place]) + "\n" for place in self.waiting)
+            given.seek(0)
+            words = ["sh", "-c", self.LOOP, "sh", mrt.path, command, mrt.database, mrt.profile]
+            self.process = subprocess.Popen(
+                words, stdin=given, stdout=subprocess.PIPE, stderr=subprocess.DEVNULL, start_new_session=True
+            )
+        assert self.process.stdout is not None
+        self.output: IO[bytes] = self.process.stdout
+
+    def take(self, untold: int) -> Iterator[tuple[int, bytes | None]]:
+        """What has come whole."""
+        part = os.read(self.output.fileno(), 1 << 18)
+        if not part:
+            raise ToolFault(f"mrt {self.command} was cut off", REFUSED)
+        self.read += part
+        while (at := self.read.find(self.STATUS, self.seen)) >= 0 and (end := self.read.find(b"\n", at + 1)) >= 0:
+            text, status = self.read[1 : at + 1], int(self.read[at + len(self.STATUS) : end])
+            self.read, self.seen = self.read[end:], 0
+            if status not in (0, untold):
+                raise ToolFault(f"mrt {self.command} ended with status {status}", status)
+            yield self.waiting.popleft(), None if status else text
+        self.seen = max(0, len(self.read) - 2 * len(self.STATUS))
+
+    def stop(self) -> None:
+        """Ends it, with what it runs."""
+        if self.process.poll() is None:
+            os.killpg(self.process.pid, signal.SIGKILL)
+        self.process.wait()
+        self.output.close()

@@ -7,19 +7,20 @@ import subprocess
 import tempfile
 import unittest
 from collections import defaultdict
+from ipaddress import IPv4Network
 from random import Random
 from typing import Iterator, NamedTuple
 
-from mrttools import area, failing, frr, installing, kernel, lsas, nexthops
+from mrttools import area, failing, frr, kernel, lsas, nexthops
 from mrttools.area import Bond, Node
-from mrttools.ending import ToolFault
 from mrttools.failing import Failure
-from mrttools.kernel import TABLES, Interfaces
+from mrttools.kernel import TABLES, Entry, Interfaces
 from mrttools.network import Plan, Wire, link, owner, router_id
-from mrttools.nexthops import Ways
+from mrttools.nexthops import Unfit, Ways
+from mrttools.owners import Daemon, is_prefix
 from mrttools.paths import Graph
 from mrttools.plans import PLANS
-from mrttools.prefixes import Prefixes, is_prefix
+from mrttools.prefixes import Prefixes
 from mrttools.program import Program
 from tests.making import DATA, MRT, TOOLS, network_lsa, router_lsa
 
@@ -68,6 +69,11 @@ def random_plan(random: Random, lans: int) -> Plan:
 # kernels
 
 
+def entries_of(ways: Ways) -> list[Entry]:
+    """What a router has for the host prefixes of the others."""
+    return Prefixes(ways, Daemon(None, Interfaces(None)), False).entries()
+
+
 class Route(NamedTuple):
     metric: int
     gateway: str
@@ -84,8 +90,8 @@ class Kernels:
         for router in plan.routers:
             if router not in plan.maintenance:
                 ways = Ways(mrt, found, lsas.address(router_id(router)))
-                for entry in installing.entries(ways):
-                    for text in kernel.routes_of(entry, Interfaces(None), daemon is not None):
+                for entry in entries_of(ways):
+                    for text in kernel.routes_of(entry, Interfaces(None), daemon is not None, 0):
                         self.put(router, text)
                 if daemon:
                     self.put_one_of_several(router, ways, daemon)
@@ -191,13 +197,14 @@ class Customer:
         self.colored: dict[tuple[int, int], str] = {}
         self.told: set[str] = set()
         for router in plan.routers:
-            whole = Prefixes(Ways(mrt, found, lsas.address(router_id(router))))
-            attached = {CUSTOMER: 1} if router in owners else {}
+            ways = Ways(mrt, found, lsas.address(router_id(router)))
+            whole = Prefixes(ways, Daemon(None, Interfaces(None)), True)
+            attached = {1: IPv4Network(CUSTOMER)} if router in owners else {}
             for entry in whole.entries():
                 if entry.prefix == CUSTOMER:
-                    for text in kernel.routes_of(entry, Interfaces(None, attached), False):
+                    for text in kernel.routes_of(entry, Interfaces(None, attached), False, 0):
                         self.put(router, text)
-            self.told |= {line for line in whole.told if line.startswith(CUSTOMER)}
+            self.told |= {whole.told[CUSTOMER]} if CUSTOMER in whole.told else set()
 
     def put(self, router: int, text: str) -> None:
         words = text.split()
@@ -360,8 +367,8 @@ class Sample(unittest.TestCase):
             self.ways = Ways(Stand(), list(lsas.split(file.read())), lsas.address("10.255.1.4"))
 
     def routes(self, daemon: bool, names: dict[int, str] | None = None) -> list[str]:
-        found = installing.entries(self.ways)
-        return [text for entry in found for text in kernel.routes_of(entry, Interfaces(names), daemon)]
+        found = entries_of(self.ways)
+        return [text for entry in found for text in kernel.routes_of(entry, Interfaces(names), daemon, 0)]
 
     def test_next_hops_are_addresses(self) -> None:
         self.assertEqual(
@@ -384,17 +391,16 @@ class Sample(unittest.TestCase):
         self.assertIn("10.255.1.5/32 via 192.0.2.14 dev eth1 metric 20 proto 78", self.routes(False, names))
         inside = Interfaces(names | {1: "customer"}).of(self.ways.own_addresses())
         self.assertIn('iifname != { "eth1", "lan0" }', kernel.marking((3, 7), inside))
-        with self.assertRaises(ToolFault):
+        with self.assertRaises(Unfit):
             self.routes(False, {})
 
     def test_names_that_a_script_would_read_otherwise(self) -> None:
-        for name in ("a b", "a;b", "$(x)", '"', "a\nb", "'", ""):
-            with self.assertRaises(ToolFault):
-                Interfaces({1: name})
-
-    def test_prefixes_that_several_routers_have_are_left_out(self) -> None:
-        one, other = area.node_of("1.1.1.1"), area.node_of("2.2.2.2")
-        self.assertEqual(installing.of_one_router({one: [1, 2], other: [2, 3]}), {one: [1], other: [3]})
+        """Such an interface is as one that is not there; the others are."""
+        for name in ("a b", "a;b", "$(x)", '"', "a\nb", "'", "", "\udcff", "sixteen_letters_"):
+            found = Interfaces({1: name, 2: "eth0"})
+            self.assertEqual((found.names, found.odd), ({2: "eth0"}, [name]))
+            with self.assertRaises(Unfit):
+                found.device(1)
 
 
 class Maintenance(unittest.TestCase):
@@ -415,9 +421,11 @@ class TheTool(unittest.TestCase):
             (),
             ("a", "b"),
             ("--remove", "a", "b", "1.1.1.1"),
-            ("--dscp", "3", "3", "a", "b", "1.1.1.1"),
-            ("--dscp", "1", "3", "a", "b", "1.1.1.1"),
-            ("--dscp", "3", "67", "a", "b", "1.1.1.1"),
+            ("--dscp", "3,3", "a", "b", "1.1.1.1"),
+            ("--dscp", "1,3", "a", "b", "1.1.1.1"),
+            ("--dscp", "3,67", "a", "b", "1.1.1.1"),
+            ("--dscp", "3,7,11", "a", "b", "1.1.1.1"),
+            ("--dscp", "", "a", "b", "1.1.1.1"),
             ("a", "b", "1.1.1"),
         ):
             self.assertEqual(self.run_fib(*words).returncode, 2, words)
@@ -429,17 +437,27 @@ class TheTool(unittest.TestCase):
 
     @unittest.skipUnless(os.path.exists(MRT), "the program is not built")
     def test_links_without_addresses(self) -> None:
-        done = self.run_fib("--mrt", MRT, f"{DATA}/triangle.lsas", "-", "2.2.2.2")
-        self.assertEqual((done.returncode, done.stdout), (1, ""))
-        self.assertIn("links without addresses are not taken", done.stderr)
+        """What needs such a link is left out, and told; what does not stays."""
+        plan, loopback = PLANS["lab"], "10.255.0.8/32"
+        without = {router_id(8): [(router_id(8), "255.255.255.255", 3, 0), (router_id(5), "0.0.0.7", 1, 10)]}
+        with tempfile.NamedTemporaryFile() as file:
+            for record in lsas.split(lsas_of(plan)):
+                spoken = without.get(lsas.spelled(record.router))
+                file.write(router_lsa(router_id(8), spoken) if spoken else record.record)
+            file.flush()
+            done = self.run_fib("--mrt", MRT, file.name, "-", "10.255.0.5")
+        self.assertEqual(done.returncode, 0, done.stderr)
+        self.assertIn(f"fib: {loopback}: left out, the link of 10.255.0.5 and 10.255.0.8 has no address at", done.stderr)
+        self.assertNotIn(loopback, done.stdout)
+        self.assertIn("10.255.0.1/32 via", done.stdout)
 
     @unittest.skipUnless(os.path.exists(MRT), "the program is not built")
     def test_the_script(self) -> None:
         sample = [f"{DATA}/lan.lsas", f"{DATA}/lan.profile"]
-        done = self.run_fib("--mrt", MRT, "--dscp", "11", "15", *sample, "10.255.1.4")
+        done = self.run_fib("--mrt", MRT, "--dscp", "11,15", *sample, "10.255.1.4")
         self.assertEqual(done.returncode, 0, done.stderr)
         for words in (
-            "ip dscp 11 meta mark set 7811",
+            "ip dscp 11 meta mark set meta mark & 0xe0ffffff | 0x1000000",
             "rt classid & 0xffff == 102 counter ip dscp set 15",
             "lookup 7812",
         ):
@@ -473,16 +491,16 @@ class TheTool(unittest.TestCase):
     def test_frr_with_another_daemon(self) -> None:
         """The primaries are the daemon's, and those that are after it come beside."""
         hop, row = (nexthops.Hop(number, lsas.address(f"192.0.2.{number}")) for number in (1, 2))
-        entry = kernel.Entry("10.0.0.1/32", hop, 20, [(30, 1, row)], [None, row])
-        names = Interfaces({1: "dev0", 2: "b", 3: "c"}, {"10.0.0.1/32": 3})
+        entry = kernel.Entry("10.0.0.0/24", hop, 20, [(30, 1, row)], [None, row])
+        names = Interfaces({1: "dev0", 2: "b", 3: "c"}, {3: IPv4Network("10.0.0.0/24")})
         wanted = [
-            "ip route 10.0.0.1/32 192.0.2.1 dev0",
-            "ip route 10.0.0.1/32 c table 7811",
-            "ip route 10.0.0.1/32 192.0.2.2 b table 7812",
+            "ip route 10.0.0.0/24 192.0.2.1 dev0",
+            "ip route 10.0.0.0/24 c table 7817",
+            "ip route 10.0.0.0/24 192.0.2.2 b table 7818",
         ]
-        self.assertEqual(frr.configuration([entry], names, False).splitlines()[:3], wanted)
-        self.assertEqual(frr.configuration([entry], names, True).splitlines()[:2], wanted[1:])
-        self.assertEqual([len(frr.beside([entry], names, daemon)) for daemon in (False, True)], [1, 2])
+        self.assertEqual(frr.configuration([entry], names, False, 3).splitlines()[:3], wanted)
+        self.assertEqual(frr.configuration([entry], names, True, 3).splitlines()[:2], wanted[1:])
+        self.assertEqual([len(frr.beside([entry], names, daemon, 3)) for daemon in (False, True)], [1, 2])
 
     @unittest.skipUnless(os.path.exists(MRT), "the program is not built")
     def test_addresses(self) -> None:

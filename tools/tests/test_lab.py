@@ -210,8 +210,8 @@ class Changes(unittest.TestCase):
 
     def test_what_a_change_cost(self) -> None:
         counted, bare = Counted({(1, 2): 3, (2, 1): 4}, 9, 9, 9, 5), Counted({(1, 2): 8}, 9, 9, 9, 8)
-        row = agents.Row("one goes", 9, 485, 2, 14.4, counted, bare)
-        self.assertEqual(row.cells, ("one goes", "9", "485", "2", "14", "7", "8"))
+        row = agents.Row("one goes", 9, 485, 0.34, 1.26, 0.92, counted, bare)
+        self.assertEqual(row.cells, ("one goes", "9", "485", "0.3", "1.3", "0.9", "7", "8"))
         told = "agent: with agents 7 pings were lost, and 5 packets circled; without them 8 and 8"
         self.assertEqual(agents.circled([row]), told)
 

@@ -5,7 +5,7 @@ import subprocess
 import time
 import unittest
 
-from mrttools import kernel
+from mrttools import kernel, lsas
 from mrttools.agents import Inside
 from tests.making import found
 
@@ -42,8 +42,8 @@ class Marks(unittest.TestCase):
             self.ip(name, "link", "set", "lo", "up")
             self.ip(name, "address", "add", f"{own}/32", "dev", "lo")
             self.ip(name, "route", "add", "default", "via", f"{net}.2")
-        self.inside("r", "sh", text=kernel.SETTINGS)
-        self.inside("r", "nft", "-f", "-", text=kernel.marking((3, 7), set()))
+        self.inside("r", "sh", text=kernel.settings(map(lsas.address, ("192.0.2.2", "198.51.100.2"))))
+        self.inside("r", "nft", "-f", "-", text=kernel.marking(kernel.POOL, set()))
 
     def end(self, name: str) -> None:
         subprocess.run(["ip", "netns", "del", self.space(name)], stderr=subprocess.DEVNULL, check=False)

@@ -6,6 +6,7 @@ import struct
 import subprocess
 import tempfile
 import unittest
+from itertools import permutations
 from random import Random
 from xml.etree import ElementTree
 
@@ -57,7 +58,18 @@ class Certificates(unittest.TestCase):
         with open(f"{DATA}/lan.cert", "rb") as file:
             data = file.read()
         self.assertLess(len(in_version_two(data)), len(data))
-        self.assertEqual(certificate.read(in_version_two(data)), certificate.read(data))
+        short, whole = certificate.read(in_version_two(data)), certificate.read(data)
+        self.assertEqual(short[:-1], whole[:-1])
+        for color in (0, 1):
+            for source, target in permutations(range(len(whole.nodes)), 2):
+                self.assertEqual(short.link(color, source, target), whole.link(color, source, target))
+
+    def test_rows_that_lack(self) -> None:
+        with open(f"{DATA}/lan.cert", "rb") as file:
+            data = file.read()
+        for bad in (data[: -certificate.ROW], data + bytes(certificate.ROW), in_version_two(data)[: -certificate.ROW]):
+            with self.assertRaises(ToolFault):
+                certificate.read(bad)
 
 
 class Areas(unittest.TestCase):

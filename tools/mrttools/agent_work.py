@@ -1,0 +1,86 @@
+"""What tools/agent does by its words: it keeps tables until a signal comes, says how one does, or takes away what one has
+left."""
+from __future__ import annotations
+
+import argparse
+import json
+import os
+
+from . import batch, exposure, hearing, kernel, listing, locking, lsas, ospfapi, status
+from .around import Around, Source
+from .batch import NOTHING, Linux
+from .ending import REFUSED, ToolFault
+from .here import Here
+from .hearing import Heard
+from .keeping import Agent, tell
+from .lsas import Lsa
+from .settings import Settings
+from .sources import Ears, Word
+from .waiting import Waiting, notify
+
+SETTINGS = "settings.json"
+
+
+def kept(folder: str) -> list[Lsa]:
+    """The LSAs of the table before, if there was one."""
+    try:
+        with open(os.path.join(folder, "area.lsas"), "rb") as file:
+            return list(lsas.split(file.read()))
+    except OSError:
+        return []
+
+
+def source_of(said: argparse.Namespace) -> Source:
+    """Where LSAs come from."""
+    client, source = listing.Client(said.daemon, said.socket, said.area), hearing.ears()
+
+    def ears(known: list[Lsa]) -> Ears:
+        return Ears(client, source, Heard(said.area, said.router, known or kept(said.folder)))
+
+    return Word(said.area, ears, said.open_api, tell) if said.daemon == "frr" else ears([])
+
+
+def refuse_exposed(said: argparse.Namespace) -> None:
+    """Does not start beside an OSPF API that others can reach: who speaks to it can put LSAs into the area."""
+    exposed = exposure.open_to_others(ospfapi.PORT) if said.daemon == "frr" and not said.open_api else None
+    if exposed:
+        raise ToolFault(f"{exposed}: close it, or say --open-api", REFUSED)
+
+
+def keep(said: argparse.Namespace) -> int:
+    """Keeps the router's tables."""
+    waiting = Waiting()
+    refuse_exposed(said)
+    with locking.lock_folder(said.folder), locking.lock_namespace():
+        tell(f"the program is {said.mrt}")
+        settings = Settings(os.path.join(said.folder, SETTINGS))
+        agent = Agent(said, Around(Here(said.daemon), source_of(said), settings, waiting.wait))
+        notify("READY=1")
+        keep_until_end(agent, said)
+    return 0
+
+
+def keep_until_end(agent: Agent, said: argparse.Namespace) -> None:
+    """Works until a signal comes; with --strict no table is left then."""
+    try:
+        agent.work()
+    finally:
+        notify("STOPPING=1")
+        if said.strict and not said.dry_run:
+            agent.take_away()
+
+
+def print_status(folder: str, as_json: bool) -> int:
+    facts = status.read(folder)
+    print(json.dumps(facts, indent=1) if as_json else "\n".join(status.lines_of(facts)))
+    return 0
+
+
+def remove(folder: str) -> int:
+    """Takes away the routes, rules and marks, and puts the settings back."""
+    with locking.lock_folder(folder), locking.lock_namespace():
+        here = Linux()
+        batch.put(here, NOTHING)
+        here.mark(kernel.NO_MARKING)
+        Settings(os.path.join(folder, SETTINGS)).put_back()
+    return 0

@@ -1,0 +1,151 @@
+"""What the agent sees: the area's LSAs, the profile, the interfaces and the daemon's routes."""
+from __future__ import annotations
+
+import argparse
+import os
+from typing import NamedTuple
+
+from . import lsas, table
+from .around import Router, Source
+from .ending import system_line
+from .here import NUMBERS
+from .kernel import Interfaces
+from .lsas import HEADER, POINT_TO_POINT, ROUTER, TRANSIT, Key, Lsa
+from .netlink import News
+from .nexthops import LEAST_ADDRESS
+from .owners import Daemon
+from .settling import Settling
+from .sources import SILENT, Told, usable
+
+# Seconds between two looks at the profile; those for which a route of the daemon counts after it has gone, as it does
+# while the daemon finds new ways; and those for which an interface may lack that the daemon still tells of.
+PROFILE_EVERY, ROUTE_KEPT, SOFT = 0.3, 10.0, 2.0
+
+
+class Content(NamedTuple):
+    """What a table is made of but for the daemon's routes. A new instance of an LSA that says the same changes
+    nothing."""
+
+    bodies: frozenset[tuple[Key, bytes]]
+    profile: bytes
+    interfaces: Interfaces
+
+
+class Sight:
+    """What there is, and what of it has changed."""
+
+    def __init__(self, said: argparse.Namespace, kernel: Router, source: Source, settling: Settling) -> None:
+        self.said, self.kernel, self.source, self.settling = said, kernel, source, settling
+        self.protocol = NUMBERS[said.daemon]
+        self.interfaces = Interfaces({})
+        self.told: Told | None = None
+        self.found: list[Lsa] = []
+        self.left: list[str] = []
+        self.bodies: dict[Key, bytes] = {}
+        self.profile, self.unread, self.profile_next = b"", "not read yet" if said.profile != "-" else "", 0.0
+        self.stamp: tuple[int, int, int] | None = None
+        # The prefixes to which the daemon has routes, and when others had none any more.
+        self.routes: frozenset[str] = frozenset()
+        self.went: dict[str, float] = {}
+        self.soft_since: float | None = None
+
+    def look(self, news: News, now: float) -> None:
+        """Takes what has come, and notes what has changed."""
+        if news.interfaces or self.told is None:
+            found = table.interfaces_of(self.kernel.addresses(), "the kernel")
+            if found != self.interfaces:
+                self.interfaces = found
+                self.settling.note(now)
+        if self.protocol in news.protocols:
+            self.settling.note(now)
+        told = self.source.look(now, self.interfaces)
+        if told is not self.told:
+            self.take(told, now)
+        if now >= self.profile_next:
+            self.profile_next = now + PROFILE_EVERY
+            self.read_profile(now)
+        self.forget_routes(now)
+
+    def take(self, told: Told, now: float) -> None:
+        """Takes the LSAs, and says which routers tell something else now."""
+        if self.told is None or bool(told.lacks) != bool(self.told.lacks):
+            self.settling.note(now)
+        self.told = told
+        if told.lacks:
+            return
+        self.found, self.left = usable(told.found)
+        bodies = {lsa.key: lsa.record[HEADER:] for lsa in self.found}
+        changed = {key for key in bodies.keys() | self.bodies.keys() if bodies.get(key) != self.bodies.get(key)}
+        self.bodies = bodies
+        if changed:
+            self.settling.note(now, {key.router for key in changed})
+
+    def read_profile(self, now: float) -> None:
+        """Reads the profile where its file is another one."""
+        if self.said.profile == "-":
+            return
+        try:
+            found = os.stat(self.said.profile)
+            stamp = found.st_ino, found.st_mtime_ns, found.st_size
+            if stamp == self.stamp and not self.unread:
+                return
+            with open(self.said.profile, "rb") as file:
+                data = file.read()
+        except OSError as fault:
+            self.unread = system_line(fault)
+            return
+        if data != self.profile or self.unread:
+            self.settling.note(now)
+        self.profile, self.unread, self.stamp = data, "", stamp
+
+    # what is made of it
+
+    def lacks(self) -> list[str]:
+        """What is not there, so that there can be no table."""
+        if self.told is None or self.told.lacks:
+            return list(self.told.lacks) if self.told else [SILENT]
+        if self.unread:
+            return [self.unread]
+        return [] if self.own() else [f"no router-LSA of {lsas.spelled(self.said.router)}"]
+
+    def own(self) -> Lsa | None:
+        return next((lsa for lsa in self.found if lsa.kind == ROUTER and lsa.number == self.said.router), None)
+
+    def own_links(self) -> set[tuple[int, int]]:
+        """The router's links to others, by far end and link data."""
+        own = self.own()
+        links = lsas.links_of(own.record) if own else []
+        return {(link.far, link.data) for link in links if link.kind in (POINT_TO_POINT, TRANSIT)}
+
+    def soft_lacks(self, now: float) -> bool:
+        """Whether the daemon tells of an address that no interface has: it will soon tell otherwise, so that this waits,
+        but no longer than a while."""
+        addresses = {data for _, data in self.own_links() if data >= LEAST_ADDRESS}
+        if addresses <= set(self.interfaces.names or {}):
+            self.soft_since = None
+            return False
+        self.soft_since = now if self.soft_since is None else self.soft_since
+        return now - self.soft_since < SOFT
+
+    def content(self) -> Content:
+        return Content(frozenset(self.bodies.items()), self.profile, self.interfaces)
+
+    def daemon(self, now: float) -> Daemon:
+        """The prefixes to which the daemon has routes, or had until a while ago."""
+        there = self.kernel.daemon_routes()
+        self.went |= dict.fromkeys(self.routes - there, now)
+        self.routes = there
+        self.went = {prefix: at for prefix, at in self.went.items() if prefix not in there}
+        return Daemon(there | frozenset(self.went), self.interfaces)
+
+    def next(self, now: float) -> float:
+        """When to look again, whatever comes."""
+        kept = min(self.went.values(), default=now + ROUTE_KEPT) + ROUTE_KEPT
+        return min(self.source.next(now), self.profile_next if self.said.profile != "-" else kept, kept)
+
+    def forget_routes(self, now: float) -> None:
+        """Notes that a route which the daemon has no more does not count any longer."""
+        kept = {prefix: at for prefix, at in self.went.items() if now - at < ROUTE_KEPT}
+        if kept != self.went:
+            self.went = kept
+            self.settling.note(now)
