@@ -105,7 +105,7 @@ class Packets:
                 best = max(best, way)
             if ends and holds:
                 return best
-        last = Way.DROPPED if chain.hook and chain.policy == "drop" else Way.GOES_ON
+        last = Way.DROPPED if chain.policy == "drop" else Way.GOES_ON
         return max(best, last)
 
     def verdict(self, place: Place, rule: Rule, depth: int) -> tuple[Way | None, bool]:

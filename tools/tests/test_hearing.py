@@ -193,6 +193,13 @@ class Hearing(unittest.TestCase):
         self.take(came(update([other])), listed=look(one, newer))
         self.assertEqual((self.heard.others, self.heard.size), ({}, 0))
 
+    def test_what_was_listed_before_goes(self) -> None:
+        other = pair()[1]
+        newer = router_lsa("2.2.2.2", [("1.1.1.1", "10.0.0.2", 1, 9)], sequence=0x80000002)
+        self.take(came(update([other])), listed=look(other))
+        self.assertEqual(self.take(came(update([newer])), listed=look(newer)), ([newer], []))
+        self.assertEqual((len(self.heard.listed), self.heard.others), (1, {}))
+
     def test_a_daemon_that_begins_anew(self) -> None:
         """What it does not list for a while is here when it lists it again."""
         one, other = pair()
@@ -481,6 +488,20 @@ class Ears(unittest.TestCase):
         for hops in (1, 255):
             self.send(1, "10.0.0.1", "10.0.0.2", update(pair()), hops)
         self.assertEqual(self.caught(), [("core", False, "10.0.0.1")] * 2)
+
+    def test_what_goes_to_another_host(self) -> None:
+        """It is no packet of the router, also where its interface hears all."""
+        subprocess.run(["ip", "-n", self.spaces[0], "link", "set", "core", "promisc", "on"], check=True)
+        place = ["10.0.0.9", "lladdr", "02:00:00:00:00:09", "dev", "core-far"]
+        subprocess.run(["ip", "-n", self.spaces[1], "neighbor", "replace", *place], check=True)
+        with inside(self.spaces[0]):
+            every = socket.socket(socket.AF_PACKET, socket.SOCK_DGRAM, socket.htons(0x0800))
+        self.addCleanup(every.close)
+        every.settimeout(5)
+        self.send(1, "10.0.0.1", "10.0.0.9", update(pair()))
+        to_another = 3
+        self.assertEqual(every.recvfrom(65535)[1][2], to_another)
+        self.assertEqual(self.caught(), [])
 
     def test_they_are_taken_as_they_come(self) -> None:
         self.send(1, "192.0.2.1", "192.0.2.2", update(pair()))

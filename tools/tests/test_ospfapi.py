@@ -469,6 +469,17 @@ class Floods(Case):
         self.assertGreater(sent, 1 << 20)
         self.assertEqual(len(api.found), 2)
 
+    def test_what_a_call_takes_at_most(self) -> None:
+        """The rest waits, and is told by select."""
+        api, text, chunk = self.whole(*pair()), told(pair()[0]), 1 << 12
+        self.daemon.events.setblocking(False)
+        self.assertGreater(self.daemon.events.send(text * (4 * chunk // len(text))), 3 * chunk)
+        with mock.patch.object(ospfapi, "CHUNK", chunk), mock.patch.object(ospfapi, "AT_ONCE", chunk):
+            with mock.patch.object(api.copy, "update", return_value=False) as update:
+                api.read()
+        self.assertLessEqual(update.call_count, chunk // len(text))
+        self.assertEqual(select.select([api], [], [], 0)[0], [api])
+
     def test_messages_of_no_body(self) -> None:
         api = self.whole()
         for _ in range(20):
