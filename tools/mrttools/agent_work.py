@@ -37,7 +37,9 @@ def source_of(said: argparse.Namespace) -> Source:
     def ears(known: list[Lsa]) -> Ears:
         return Ears(client, source, Heard(said.area, said.router, known or kept(said.folder)))
 
-    return Word(said.area, ears, said.open_api, tell) if said.daemon == "frr" else ears([])
+    if said.daemon == "frr":
+        return Word(said.area, ears, said.open_api, tell)
+    return ears([])
 
 
 def refuse_exposed(said: argparse.Namespace) -> None:

@@ -6,7 +6,7 @@ import json
 import os
 import subprocess
 import time
-from typing import Callable, NamedTuple
+from typing import Any, Callable, NamedTuple
 
 from . import batch, kernel, lsas, status
 from .batch import NOTHING, Linux, State
@@ -54,6 +54,8 @@ class Agents:
     def __init__(self, lab: Lab, mrt: str, folder: str) -> None:
         self.lab, self.mrt, self.folder, self.network = lab, mrt, folder, lab.spaces
         self.running: dict[int, subprocess.Popen[bytes]] = {}
+        # What all agents are told besides.
+        self.options: list[str] = []
         os.makedirs(folder, exist_ok=True)
         self.profile = self.name("profile")
 
@@ -63,7 +65,7 @@ class Agents:
     def start(self, router: int) -> None:
         """Starts an agent before its daemon."""
         # (FRR's API listens on all addresses, and nobody else is in the namespace)
-        options = ["--mrt", self.mrt, "--linger", str(LINGER), "--open-api"]
+        options = ["--mrt", self.mrt, "--linger", str(LINGER), "--open-api", *self.options]
         options += ["--strict"] if router == STRICT else []
         options += ["--socket", self.lab.daemon.socket(os.path.join(self.lab.folder, f"r{router}"))]
         given = [self.lab.daemon.name.lower(), self.profile, router_id(router), self.name(f"r{router}")]
@@ -86,7 +88,7 @@ class Agents:
     def state(self, router: int) -> State:
         return Inside(self.network.of(router)).state()
 
-    def facts(self, router: int) -> dict[str, object]:
+    def facts(self, router: int) -> dict[str, Any]:
         """What an agent says of itself."""
         return status.read(self.name(f"r{router}"))
 
@@ -96,7 +98,7 @@ class Agents:
         for name, told in ((addresses, here.addresses()), (routes, here.told("route", "show"))):
             with open(name, "w", encoding="utf-8") as file:
                 json.dump(told, file)
-        words = ["--mrt", self.mrt, "--daemon", "--addresses", addresses, "--routes", routes]
+        words = ["--mrt", self.mrt, "--daemon", "--addresses", addresses, "--routes", routes, *self.options]
         words += [database, self.profile, router_id(router)]
         fib = [os.path.join(ROOT, "tools", "fib"), *words]
         done = subprocess.run(fib, stdout=subprocess.PIPE, stderr=subprocess.DEVNULL, text=True, check=True)
@@ -236,10 +238,10 @@ def tried(agents: Agents, change: Change, without: Counted) -> Row:
     return Row(change.name, sum(map(bool, lines.values())), sum(lines.values()), word, tables, beyond, counted, without)
 
 
-def times_of(facts: dict[str, object]) -> tuple[float, float]:
+def times_of(facts: dict[str, Any]) -> tuple[float, float]:
     """When the last word of a change came to an agent, and when its table was in the kernel."""
-    times = facts["times"]
-    return (float(times[0]), float(times[1])) if isinstance(times, list) else (0.0, 0.0)
+    heard, put = facts["times"] or (0.0, 0.0)
+    return float(heard), float(put)
 
 
 def silent_as_asked(agents: Agents, before: State) -> bool:
@@ -308,7 +310,6 @@ def run(agents: Agents, bare: list[Counted], say: Callable[[str], None]) -> bool
         if STRICT in change.out:
             agreed = silent_as_asked(agents, before) and agreed
     say(circled(rows))
-    agents.stop()
     return agreed
 
 

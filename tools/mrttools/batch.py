@@ -5,7 +5,7 @@ from __future__ import annotations
 import json
 import subprocess
 import tempfile
-from typing import Iterable, Protocol
+from typing import Any, Iterable, Protocol
 
 from . import kernel
 from .ending import REFUSED, ToolFault
@@ -144,15 +144,16 @@ class Linux:
             raise Refusal(f"{' '.join(words)}: status {done.returncode}: {why}")
         return done.stdout
 
-    def told(self, *words: str) -> list[dict[str, object]]:
+    def told(self, *words: str) -> list[dict[str, Any]]:
         """What ip says, with numbers for what has names too."""
-        return json.loads(self.run("ip", "-N", "-j", "-4", *words) or "[]")
+        said: list[dict[str, Any]] = json.loads(self.run("ip", "-N", "-j", "-4", *words) or "[]")
+        return said
 
-    def routes(self, protocol: int) -> list[dict[str, object]]:
+    def routes(self, protocol: int) -> list[dict[str, Any]]:
         """All routes of a protocol, in all tables."""
         return self.told("route", "show", "table", "all", "proto", str(protocol))
 
-    def rules(self) -> list[dict[str, object]]:
+    def rules(self) -> list[dict[str, Any]]:
         return self.told("rule", "show")
 
     def state(self) -> State:
@@ -179,9 +180,9 @@ class Linux:
             return ""
 
 
-def route_of(found: dict[str, object]) -> str:
+def route_of(found: dict[str, Any]) -> str:
     """A route of `ip -j`, in the words of `kernel.routes_of`."""
-    kind, prefix = KINDS.get(found.get("type"), "unicast"), str(found["dst"])
+    kind, prefix = KINDS.get(str(found.get("type")), "unicast"), str(found["dst"])
     if prefix == "default" and kind == "unicast":
         prefix = "0.0.0.0/0"
     if "/" not in prefix and prefix != "default":
@@ -197,7 +198,7 @@ def route_of(found: dict[str, object]) -> str:
     return " ".join(map(str, [*words, "proto", PROTOCOL]))
 
 
-def number_of(rule: dict[str, object]) -> int | None:
+def number_of(rule: dict[str, Any]) -> int | None:
     """Which color's rule one of `ip -j` is, if it is one."""
     said = rule.get("priority"), rule.get("fwmark"), rule.get("fwmask"), rule.get("table")
     return next(

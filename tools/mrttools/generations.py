@@ -16,7 +16,7 @@ from .kernel import REALMS, TABLES
 
 # Seconds in which other routers, too, have taken away what fits no new rows; and those after which a router turns its
 # repairs that has itself lost a link: it needs the old ones, and by then the others have the new rows.
-PAUSE, TURN = 3.0, 1.0
+PAUSE, TURN = 3.0, 0.5
 # How often the time that old rows stay has to be over until another certificate may have their generation at once.
 FORGOTTEN = 2
 
@@ -137,6 +137,11 @@ class Generations:
         """When all of the newest routes are in the kernel."""
         mine = [until for (of, _), until in self.held.items() if self.made and of == self.made.generation]
         return max([now, self.turn, *mine])
+
+    def clear(self, now: float) -> None:
+        """The kernel has nothing any more; other routers may."""
+        self.made, self.old, self.held, self.turn = None, {}, {}, 0.0
+        self.gone = {each: min(self.gone.get(each, now + self.linger), now + self.linger) for each in self.digests}
 
     def forget_old(self) -> None:
         """Nothing lingers any more, as the kernel refuses it."""

@@ -2,6 +2,8 @@
 itself."""
 from __future__ import annotations
 
+from typing import Any
+
 from . import netlink, owners
 from .batch import Linux
 from .kernel import PROTOCOL
@@ -23,10 +25,10 @@ class Here(Linux):
     def news(self) -> News:
         return self.watch.take(frozenset({PROTOCOL, self.number}))
 
-    def routes(self, protocol: int) -> list[dict[str, object]]:
+    def routes(self, protocol: int) -> list[dict[str, Any]]:
         return netlink.routes(protocol)
 
-    def rules(self) -> list[dict[str, object]]:
+    def rules(self) -> list[dict[str, Any]]:
         return netlink.rules()
 
     def addresses(self) -> object:

@@ -59,7 +59,7 @@ class Agent:
         self.fault, self.retry = "", 0.0
         self.kept, self.keep_next = self.sight.found, 0.0
         self.told = ""
-        self.done = self.gone = False
+        self.done = self.gone = self.begun = False
 
     def name(self, kind: str, stem: str = "area") -> str:
         return os.path.join(self.said.folder, f"{stem}.{kind}")
@@ -72,14 +72,14 @@ class Agent:
 
     # the kernel
 
-    def begin(self) -> None:
+    def begin(self, now: float) -> None:
         """Has the kernel end packets on colors that have no table yet, from the first moment on."""
-        now = self.around.clock()
         self.state = self.kernel.state()
         self.generations.begin(self.state, generations.read(self.name("json", "generations")), now)
         if not self.said.dry_run:
             self.mark(self.kernel.marks() or kernel.marking(self.said.dscp, set()))
             self.put(now)
+        self.begun = True
 
     def put(self, now: float) -> int:
         """Brings the kernel to what it is to have by now; how many lines that were."""
@@ -220,7 +220,7 @@ class Agent:
         batch.put(self.kernel, NOTHING)
         self.kernel.mark(kernel.NO_MARKING)
         self.around.settings.put_back()
-        self.generations = Generations(self.said.linger)
+        self.generations.clear(self.around.clock())
         self.state, self.nft, self.marks, self.devices = NOTHING, "", "", set()
         self.ways, self.gone = None, True
         self.status.bare()
@@ -294,6 +294,8 @@ class Agent:
 
     def look(self, now: float) -> None:
         """Looks once, and does what is due."""
+        if not self.begun:
+            self.begin(now)
         news = self.kernel.news()
         self.sight.look(news, now)
         if self.fault and now >= self.retry:
@@ -311,7 +313,7 @@ class Agent:
 
     def next(self, now: float) -> float:
         """When something is to be done, whatever comes."""
-        times = [self.kernel_next, self.sight.next(now), self.settling.due(), self.generations.next(now)]
+        times = [max(self.kernel_next, now + KERNEL_LEAST * (not self.begun)), self.sight.next(now), self.settling.due(), self.generations.next(now)]
         if self.sight.lacks():
             # (then nothing is made of what changes, however it is due)
             times[2] = now + 1
@@ -319,7 +321,6 @@ class Agent:
 
     def work(self) -> None:
         """Until a signal comes; with --dry-run until there is a table."""
-        self.begin()
         while not self.done:
             until = self.step()
             if not self.done:

@@ -134,9 +134,9 @@ def routes_of(entry: Entry, interfaces: Interfaces, daemon: bool, generation: in
         yield f"{entry.prefix} {words_of(hop, interfaces)} metric {metric} realm {realm} proto {PROTOCOL}"
     for color, row in enumerate(entry.rows):
         # Where no interface has the prefix, a packet on this color ends here, and never goes on by a primary.
-        hop = row or interfaces.attached(entry.prefix)
-        if hop is not None:
-            yield f"{entry.prefix} {words_of(hop, interfaces)} table {TABLES[first + color]} proto {PROTOCOL}"
+        way = row or interfaces.attached(entry.prefix)
+        if way is not None:
+            yield f"{entry.prefix} {words_of(way, interfaces)} table {TABLES[first + color]} proto {PROTOCOL}"
 
 
 def last_routes() -> list[str]:

@@ -5,7 +5,7 @@ from __future__ import annotations
 
 import socket
 import struct
-from typing import Iterator, NamedTuple
+from typing import Any, Iterator, NamedTuple
 
 REQUEST, DUMP, INTERRUPTED = 1, 0x300, 0x10
 ERROR, DONE = 2, 3
@@ -16,12 +16,14 @@ OPTIONS, MEMBERSHIP, STRICT = 270, 1, 12
 GROUPS, NFT_GROUP = (1, 5, 7, 8, 24), 7
 NETFILTER = 12
 UP, MAIN = 1, 254
+# The room for news, which is more than a router has by itself: its own batches are news too.
+ROOM, ROOM_BY_FORCE = 1 << 25, 33
 # Seconds for an answer of the kernel, how often an answer that was cut into is asked for again, and the bytes taken of
 # news at once.
 PATIENCE, TRIES, AT_ONCE = 10, 5, 1 << 20
 
 Attributes = dict[int, bytes]
-Said = dict[str, object]
+Said = dict[str, Any]
 
 
 class Message(NamedTuple):
@@ -169,6 +171,10 @@ class Watch:
         self.filter = socket.socket(socket.AF_NETLINK, socket.SOCK_RAW, NETFILTER)
         for source, groups in ((self.routing, GROUPS), (self.filter, (NFT_GROUP,))):
             source.setblocking(False)
+            try:
+                source.setsockopt(socket.SOL_SOCKET, ROOM_BY_FORCE, ROOM)
+            except PermissionError:
+                source.setsockopt(socket.SOL_SOCKET, socket.SO_RCVBUF, ROOM)
             source.bind((0, 0))
             for group in groups:
                 source.setsockopt(OPTIONS, MEMBERSHIP, group)

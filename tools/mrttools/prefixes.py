@@ -30,7 +30,8 @@ class Proxied:
     def __init__(self, ways: Ways, text: bytes, hops: dict[Node, list[Element]]) -> None:
         self.ways = ways
         # (the rows of all nodes, each to be read when it is met: there are many, and many prefixes)
-        self.lines = dict(line.split(b" ", 1) for line in text.split(b"\n")[1:-1])
+        parts = (line.partition(b" ") for line in text.split(b"\n")[1:-1])
+        self.lines = {node: rest for node, _, rest in parts}
         self.unfit: Unfit | None = None
         self.hops: list[Hop | None] = []
         try:
@@ -150,6 +151,8 @@ class Prefixes:
         found = []
         for prefix, owners in wanted.items():
             try:
+                if prefix in pairs and pairs[prefix] not in proxied:
+                    raise LeftOut("mrt proxy took too long")
                 entry, said = self.entry(prefix, owners, proxied[pairs[prefix]] if prefix in pairs else None)
                 entry.look_at(self.daemon.interfaces)
                 found.append(entry)

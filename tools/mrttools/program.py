@@ -11,7 +11,7 @@ import sys
 import tempfile
 import time
 from collections import deque
-from typing import IO, Iterator
+from typing import IO, Iterator, Sequence
 
 from .ending import READ_FAULT, REFUSED, ToolFault
 
@@ -79,22 +79,21 @@ class Program:
             raise ToolFault(f"{self.path} {command} ended with status 0 and has written nothing", REFUSED)
         return found
 
-    def many(self, command: str, each: list[tuple[str, ...]], untold: int) -> Iterator[tuple[int, bytes | None]]:
+    def many(self, command: str, each: Sequence[tuple[str, ...]], untold: int) -> Iterator[tuple[int, bytes | None]]:
         """What a command writes for each of several words, by their place, as it comes; none where it refuses with the
-        one status. A shell for each processor runs it again and again: to start it is most of what it takes."""
+        one status. A shell for each processor runs it again and again: to start it is most of what it takes. Where a limit
+        is given, what is not there by then is left out."""
         shells = [Shell(self, command, each, first) for first in range(min(len(each), os.cpu_count() or 1))]
         end = time.monotonic() + self.limit if self.limit else None
         try:
             with selectors.DefaultSelector() as selector:
                 for shell in shells:
                     selector.register(shell.output, selectors.EVENT_READ, shell)
-                while selector.get_map():
+                while selector.get_map() and not (end and time.monotonic() > end):
                     for key, _ in selector.select(end and max(0, end - time.monotonic())):
                         yield from key.data.take(untold)
                         if not key.data.waiting:
                             selector.unregister(key.fileobj)
-                    if end and time.monotonic() > end:
-                        raise self.too_slow(command)
         finally:
             for shell in shells:
                 shell.stop()
@@ -106,7 +105,7 @@ class Shell:
     LOOP = 'while read -r words; do "$1" "$2" "$3" "$4" $words; echo "status $?"; done'
     STATUS = b"\nstatus "
 
-    def __init__(self, mrt: Program, command: str, each: list[tuple[str, ...]], first: int) -> None:
+    def __init__(self, mrt: Program, command: str, each: Sequence[tuple[str, ...]], first: int) -> None:
         step = min(len(each), os.cpu_count() or 1)
         # (what was read begins with the end of a line, and has been looked through up to a place)
         self.command, self.read, self.seen = command, b"\n", 0

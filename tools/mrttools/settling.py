@@ -48,8 +48,8 @@ class Settling:
         (self.slow if found and found == dampened else self.quick).note(now)
 
     def is_dampened(self, router: int, now: float) -> bool:
-        times = self.times.get(router, ())
-        return len(times) == OFTEN and now - times[0] < WITHIN
+        times = self.times.get(router)
+        return times is not None and len(times) == OFTEN and now - times[0] < WITHIN
 
     def dampened(self, now: float) -> list[int]:
         return sorted(router for router in self.times if self.is_dampened(router, now))

@@ -5,6 +5,7 @@ import json
 import os
 import time
 from datetime import datetime, timezone
+from typing import Any
 
 from . import files
 from .ending import NOT_THERE, READ_FAULT, ToolFault
@@ -23,7 +24,7 @@ class Status:
 
     def __init__(self, name: str, router: str, daemon: str) -> None:
         self.name = name
-        self.facts: dict[str, object] = {
+        self.facts: dict[str, Any] = {
             **FORMAT,
             "router": router,
             "daemon": daemon,
@@ -65,7 +66,7 @@ class Status:
         files.replace(self.name, json.dumps(self.facts, indent=1).encode("ascii"))
 
 
-def read(folder: str) -> dict[str, object]:
+def read(folder: str) -> dict[str, Any]:
     """The facts of the agent of a folder; of one that runs they are those of now."""
     name = os.path.join(folder, "agent.status")
     if not os.path.exists(name):
@@ -80,9 +81,9 @@ def read(folder: str) -> dict[str, object]:
     return dict(facts) | ({"at": clock()} if is_locked(folder) else {"state": "stopped"})
 
 
-def lines_of(facts: dict[str, object]) -> list[str]:
+def lines_of(facts: dict[str, Any]) -> list[str]:
     """The same for one who reads it."""
-    took, left = facts.get("took"), facts.get("left_out")
+    took = facts["took"]
     lines = [
         f"router {facts['router']} beside {facts['daemon']}: {facts['state']}, started {facts['started']}",
         f"LSAs by {facts.get('source', 'none yet')}",
@@ -90,13 +91,10 @@ def lines_of(facts: dict[str, object]) -> list[str]:
     if facts["certificate"]:
         lines.append(f"certificate {facts['certificate']}, generation {facts['generation']}, since {facts['since']}")
         lines.append(f"{facts['prefixes']} prefixes, {facts['repairs']} of them with a repair")
-    if isinstance(took, dict):
+    if took:
         lines.append(f"last changed {facts['changed']}, {took['seconds']} s after the first word of it, {took['work']} s of work")
     if facts.get("waits"):
         lines.append(f"waits: {facts['waits']}")
-    dampened = facts.get("dampened")
-    if isinstance(dampened, list) and dampened:
-        lines.append("change too often, and are waited for: " + ", ".join(map(str, dampened)))
-    if isinstance(left, list):
-        lines += [f"left out: {each['what']}: {each['why']}" for each in left]
-    return lines
+    if facts.get("dampened"):
+        lines.append("change too often, and are waited for: " + ", ".join(facts["dampened"]))
+    return lines + [f"left out: {each['what']}: {each['why']}" for each in facts["left_out"]]

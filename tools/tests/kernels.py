@@ -1,6 +1,8 @@
 """A kernel that stands in for a router's, and the network that the agent's tests have."""
 from __future__ import annotations
 
+from typing import Any
+
 from mrttools import batch, kernel
 from mrttools.batch import Refusal, State
 from mrttools.netlink import News
@@ -54,7 +56,7 @@ class ModelKernel:
     def marks(self) -> str:
         return self.nft
 
-    def addresses(self) -> object:
+    def addresses(self) -> list[dict[str, Any]]:
         """Those of router 1."""
         return [
             {"ifname": each.name, "addr_info": [{"local": each.address, "prefixlen": 24}]}

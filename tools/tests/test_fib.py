@@ -57,7 +57,8 @@ def random_plan(random: Random, lans: int) -> Plan:
     """Up to seven routers that hang together, with parallel links and less than so many LANs."""
     routers = list(range(1, random.randint(4, 8)))
     ends = [(router, random.randint(1, router - 1)) for router in routers[1:]]
-    ends += [tuple(random.sample(routers, 2)) for _ in range(random.randint(2, 6))]
+    more = (random.sample(routers, 2) for _ in range(random.randint(2, 6)))
+    ends += [(one, other) for one, other in more]
     wires = [link(one, other, random.randint(1, 4), f"10.1.{number}") for number, (one, other) in enumerate(ends)]
     for number in range(random.randrange(lans)):
         attached = random.sample(routers, random.randint(2, 4))
@@ -105,7 +106,9 @@ class Kernels:
             self.main[router, line.to.text].append(Route(0, gateway, None))
 
     def put(self, router: int, text: str) -> None:
-        prefix, gateway, metric, realm, table = ROUTE.fullmatch(text).groups()
+        whole = ROUTE.fullmatch(text)
+        assert whole, text
+        prefix, gateway, metric, realm, table = whole.groups()
         if table:
             self.colored[router, TABLES.index(int(table)), prefix] = gateway
         else:
@@ -338,10 +341,11 @@ class Letters(unittest.TestCase):
             self.assertEqual(nexthops.repairs(letters), colors, letters)
 
 
-class Stand:
+class Stand(Program):
     """A stand-in for the program over the sample with a LAN."""
 
-    database, profile, path = f"{DATA}/lan.lsas", f"{DATA}/lan.profile", ""
+    def __init__(self) -> None:
+        super().__init__("sh", f"{DATA}/lan.lsas", f"{DATA}/lan.profile")
 
     def run(self, command: str, *_: str) -> bytes:
         with open(f"{DATA}/lan.cert", "rb") as file:
@@ -363,7 +367,7 @@ class Sample(unittest.TestCase):
     """The routes of 10.255.1.4 in the sample, with a link that the profile keeps out of the island."""
 
     def setUp(self) -> None:
-        with open(Stand.database, "rb") as file:
+        with open(f"{DATA}/lan.lsas", "rb") as file:
             self.ways = Ways(Stand(), list(lsas.split(file.read())), lsas.address("10.255.1.4"))
 
     def routes(self, daemon: bool, names: dict[int, str] | None = None) -> list[str]:

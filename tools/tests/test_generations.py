@@ -49,7 +49,7 @@ def course(old: Made, new: Made, lost_link: bool) -> list[list[State]]:
     held = Generations(LINGER)
     held.take(old, NOTHING, False, 0)
     router = ModelKernel(held.state(0))
-    states = [[router.state()], []]
+    states: list[list[State]] = [[router.state()], []]
     held.take(new, router.state(), lost_link, 100)
     for after in (0, TURN, PAUSE, LINGER + 1):
         # (a pause is over for all routers at once, as far as this is promised)

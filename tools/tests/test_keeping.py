@@ -9,10 +9,10 @@ import subprocess
 import sys
 import tempfile
 import unittest
-from typing import Iterable
+from typing import Callable, Iterable
 from unittest import mock
 
-from mrttools import agent_work, batch, generations, kernel, keeping, locking, lsas, sight, status, table
+from mrttools import agent_work, batch, exposure, generations, kernel, keeping, locking, lsas, sight, status, table
 from mrttools.around import Around
 from mrttools.batch import NOTHING, State
 from mrttools.ending import ToolFault
@@ -76,6 +76,11 @@ class Place:
         return found
 
 
+def told_links(lsa: Lsa) -> list[tuple[str, str, int, int]]:
+    """The links of a router-LSA, as `router_lsa` takes them."""
+    return [(lsas.spelled(each.far), lsas.spelled(each.data), each.kind, each.metric) for each in lsas.links_of(lsa.record)]
+
+
 class WithAgent(unittest.TestCase):
     """The agent of router 1 in a square with both diagonals."""
 
@@ -114,17 +119,21 @@ class WithAgent(unittest.TestCase):
         settings = Settings(self.place.kept, self.place.root)
         around = Around(self.router, self.source, settings, lambda sources, seconds: None, lambda: self.now)
         agent = Agent(argparse.Namespace(**said | more), around)
-        self.quietly(agent.begin)
+        self.quietly(lambda: agent.begin(self.now))
         return agent
 
-    def quietly(self, work: object) -> list[str]:
+    def quietly(self, work: Callable[[], object]) -> list[str]:
         """The lines of some work on standard output. What goes to standard error is kept."""
-        out, err = io.StringIO(), io.TextIOWrapper(io.BytesIO(), write_through=True)
-        with contextlib.redirect_stdout(out), contextlib.redirect_stderr(err):
+        out, err = io.StringIO(), io.BytesIO()
+        with contextlib.redirect_stdout(out), contextlib.redirect_stderr(io.TextIOWrapper(err, write_through=True)):
             work()
-        self.told += err.buffer.getvalue().decode().splitlines()
+            self.told += err.getvalue().decode().splitlines()
         self.out += out.getvalue().splitlines()
         return out.getvalue().splitlines()
+
+    def stands(self, name: str, value: object) -> None:
+        """Has something stand in for a call of the kernel."""
+        self.enterContext(mock.patch.object(self.router, name, value))
 
     def step(self, agent: Agent, *after: float) -> list[str]:
         """Looks now, and after so many seconds each."""
@@ -169,6 +178,18 @@ class WithAgent(unittest.TestCase):
 
 @unittest.skipUnless(os.path.exists(MRT), "the program is not built")
 class Changes(WithAgent):
+    def test_a_kernel_that_is_not_ready(self) -> None:
+        """It is tried again."""
+        agent = self.agent()
+        agent.begun = False
+        with mock.patch.object(self.router, "mark", side_effect=batch.Refusal("nft: no")):
+            self.router.nft = agent.marks = ""
+            self.step(agent, 5)
+        self.assertIn("nft: no", agent.fault)
+        self.settle(agent)
+        self.step(agent, RETRY + 1, 0.3)
+        self.assertEqual((agent.fault, self.router.state()), ("", self.by_fib()))
+
     def test_from_its_first_start_no_color_falls_through(self) -> None:
         """Before there is any table each of the sixteen marks leads to a table of its own, which ends."""
         self.agent()
@@ -254,15 +275,16 @@ class Changes(WithAgent):
             self.assertEqual((self.colors(), len(self.repairs())), ({5}, 3))
 
     def test_a_generation_that_lingers_is_not_taken_at_once(self) -> None:
-        with mock.patch.object(table, "generation_of", lambda *_: self.next):
-            self.next, agent = 1, self.agent()
+        coming = [1]
+        with mock.patch.object(table, "generation_of", lambda *_: coming[0]):
+            agent = self.agent()
             self.settle(agent)
             self.without_link(2, 3)
-            self.next = 2
+            coming[0] = 2
             self.settle(agent)
             before = self.repairs()
             self.without_link(3, 4)
-            self.next = 1
+            coming[0] = 1
             self.settle(agent)
             self.assertEqual((self.colors(), self.repairs()), ({2}, before))
             self.step(agent, PAUSE + 0.1)
@@ -270,7 +292,7 @@ class Changes(WithAgent):
             self.assertFalse(self.repairs().items() & before.items())
             # The digests of what is in the kernel stand in a file, for an agent that is started again.
             self.assertEqual(len(generations.read(self.name("generations.json"))), 2)
-            self.next, agent = 2, self.agent()
+            coming[0], agent = 2, self.agent()
             self.without_link(1, 3)
             self.settle(agent)
             self.assertNotIn(2, self.colors())
@@ -375,8 +397,8 @@ class Routes(WithAgent):
         stubs = [(number, masks[length], 3, 1) for number, length in (each.split("/") for each in bad[:-1])]
         records = list(split(lsas_of(PLAN, {2: stubs})))
         # 8.8.8.8 is a router by 10.255.0.4, and has no stub network.
-        links = [*lsas.links_of(next(each for each in records if each.router == address("10.255.0.4")).record)]
-        told = [tuple(map(lsas.spelled, each[:2])) + each[2:] for each in links] + [("8.8.8.8", "10.8.8.1", 1, 1)]
+        told = told_links(next(each for each in records if each.router == address("10.255.0.4")))
+        told.append(("8.8.8.8", "10.8.8.1", 1, 1))
         records = [each for each in records if each.router != address("10.255.0.4")]
         records.append(lsa_of(router_lsa("10.255.0.4", told)))
         records.append(lsa_of(router_lsa("8.8.8.8", [("10.255.0.4", "10.8.8.2", 1, 1)])))
@@ -399,8 +421,7 @@ class Faults(WithAgent):
     def test_a_link_with_metric_0(self) -> None:
         """That router's LSA is left out, and told; the others have their repairs."""
         records = list(split(lsas_of(PLAN)))
-        links = lsas.links_of(records[3].record)
-        told = [(*map(lsas.spelled, each[:2]), each.kind, 0 if each.kind == 1 else each.metric) for each in links]
+        told = [(far, data, kind, 0 if kind == 1 else metric) for far, data, kind, metric in told_links(records[3])]
         records[3] = lsa_of(router_lsa("10.255.0.4", told))
         self.put(records)
         self.write_profile(2)
@@ -479,8 +500,8 @@ class Faults(WithAgent):
 
     def test_an_interface_that_is_not_there(self) -> None:
         """For a while the daemon may soon tell otherwise; then what goes over it is left out, and the rest stays."""
-        addresses = self.router.addresses
-        self.router.addresses = lambda: [{}, *addresses()[1:]]
+        addresses = self.router.addresses()
+        self.stands("addresses", lambda: [{}, *addresses[1:]])
         agent = self.agent()
         self.step(agent, 0.3, 0.3)
         self.assertEqual(self.router.state(), batch.bare())
@@ -493,7 +514,7 @@ class Faults(WithAgent):
     def test_an_odd_name_outside_the_area(self) -> None:
         addresses = self.router.addresses()
         odd = {"ifname": "a b;c", "addr_info": [{"local": "192.0.2.1", "prefixlen": 24}]}
-        self.router.addresses = lambda: [*addresses, odd]
+        self.stands("addresses", lambda: [*addresses, odd])
         agent = self.agent()
         self.settle(agent)
         self.assertEqual((len(self.repairs()), self.router.state()), (3, self.by_fib()))
@@ -501,13 +522,10 @@ class Faults(WithAgent):
 
     def test_a_neighbor_off_the_subnet(self) -> None:
         """The kernel would refuse the batch."""
-        records = [
-            lsa_of(router_lsa(lsas.spelled(each.router), [
-                (lsas.spelled(link.far), lsas.spelled(link.data).replace("10.0.12.2", "10.99.99.2"), link.kind, link.metric)
-                for link in lsas.links_of(each.record)
-            ]))
-            for each in split(lsas_of(PLAN))
-        ]
+        records = []
+        for each in split(lsas_of(PLAN)):
+            told = [(far, data.replace("10.0.12.2", "10.99.99.2"), kind, metric) for far, data, kind, metric in told_links(each)]
+            records.append(lsa_of(router_lsa(lsas.spelled(each.router), told)))
         self.put(records)
         agent = self.agent()
         self.settle(agent)
@@ -532,11 +550,9 @@ class Faults(WithAgent):
         self.settle(agent)
         before = self.router.state()
         self.without_link(2, 3)
-        put = self.router.batch
-        self.router.batch = mock.Mock(side_effect=batch.Refusal("ip: no"))
-        self.settle(agent)
+        with mock.patch.object(self.router, "batch", side_effect=batch.Refusal("ip: no")):
+            self.settle(agent)
         self.assertTrue(agent.fault)
-        self.router.batch = put
         self.assertEqual(self.router.state(), before)
         self.step(agent, RETRY + 1, 0.3, LINGER + 1)
         self.assertEqual(self.router.state(), self.by_fib())
@@ -592,7 +608,7 @@ class PutBack(WithAgent):
 
     def test_a_kernel_that_lists_a_route_in_other_words(self) -> None:
         agent, state = self.agent(), self.router.state
-        self.router.state = lambda: frozenset(line.replace("10.255.0.3/32", "10.255.0.3") for line in state())
+        self.stands("state", lambda: frozenset(line.replace("10.255.0.3/32", "10.255.0.3") for line in state()))
         self.assertTrue(self.settle(agent))
         self.assertEqual(self.step(agent, KERNEL_EVERY + 1), [])
 
@@ -705,6 +721,16 @@ class Locks(unittest.TestCase):
                 with self.assertRaises(ToolFault):
                     locking.lock_namespace()
             locking.lock_namespace().close()
+
+
+class Exposed(unittest.TestCase):
+    def test_an_api_that_others_reach(self) -> None:
+        """The agent does not start beside it, unless told."""
+        with mock.patch.object(exposure, "open_to_others", side_effect=lambda port: f"port {port} is open"):
+            for daemon, told in (("frr", True), ("bird", False)):
+                agent_work.refuse_exposed(argparse.Namespace(daemon=daemon, open_api=told))
+            with self.assertRaisesRegex(ToolFault, "port 2607 is open"):
+                agent_work.refuse_exposed(argparse.Namespace(daemon="frr", open_api=False))
 
 
 @unittest.skipUnless(os.path.exists(MRT), "the program is not built")

@@ -4,10 +4,12 @@ from functools import partial
 from unittest import mock
 from xml.etree import ElementTree
 
-from mrttools import agents, bars, comparing, failing, forwarding, network, pinging, statics
+from mrttools import agents, bars, comparing, failing, forwarding, hostile, lsas, network, pinging, statics, updates
 from mrttools.daemons import Bird, Frr, Running
 from mrttools.pinging import Counted
+from mrttools.lsas import lsa_of
 from mrttools.plans import PLANS, SHARED_BY
+from tests.making import router_lsa
 
 NOTHING = Running([], "")
 
@@ -221,6 +223,30 @@ class Changes(unittest.TestCase):
             pinging.Pinging(spaces, [(1, 2), (1, 3)], 5)
         words = begun.call_args.args[0]
         self.assertGreater(int(words[words.index("-t") + 1]), int(words[words.index("-p") + 1]))
+
+
+class Harm(unittest.TestCase):
+    """The router that tells what is made to harm."""
+
+    def test_its_configuration(self) -> None:
+        lines = hostile.Hostile().configuration(network.PLAN, hostile.ROUTER_NUMBER).splitlines()
+        self.assertEqual(lines[0], "router id 8.8.8.8;")
+        area = lines.index("    area 0 {")
+        stubs = [f"        stubnet {each};" for each in hostile.NETWORKS]
+        self.assertEqual(lines[area + 1 : area + 1 + len(stubs)], stubs)
+        self.assertEqual(len([line for line in lines if "stubnet" in line]), len(stubs))
+        self.assertFalse(any("protocol kernel" in line for line in lines))
+        self.assertEqual(sum("interface" in line for line in lines), 1)
+
+    def test_what_it_sends(self) -> None:
+        """An update that a router takes, with a newer instance that mrt does not take."""
+        before = lsa_of(router_lsa("8.8.8.8", [("1.1.1.1", "10.0.0.1", 1, 7), ("10.9.0.0", "255.255.0.0", 3, 5)]))
+        packet = updates.packet_of(hostile.update(hostile.with_zero(before)))
+        (after,) = updates.records_of(packet)
+        self.assertEqual((packet.kind, lsas.spelled(packet.router)), (updates.UPDATE, "8.8.8.8"))
+        self.assertIsNone(lsas.damage(after))
+        self.assertEqual((after.key, after.sequence), (before.key, before.sequence + 1))
+        self.assertEqual([link.metric for link in lsas.links_of(after.record)], [0, 5])
 
 
 class Configurations(unittest.TestCase):

@@ -17,6 +17,41 @@ def run(*words: str, text: str = "") -> str:
     return done.stdout
 
 
+class SettingsOfTheScript(unittest.TestCase):
+    """What the script of tools/fib sets, in a namespace: on the area's interfaces alone, and what counted for the others
+    goes on counting."""
+
+    PROGRAM = """
+set -e
+ip link add name inside type veth peer name customer
+ip address add 192.0.2.1/24 dev inside
+cd /proc/sys/net/ipv4/conf
+for each in all/rp_filter all/send_redirects customer/send_redirects; do echo 1 > $each; done
+echo 0 > customer/rp_filter
+sh -e
+cd /proc/sys/net/ipv4/conf
+for each in all/rp_filter inside/rp_filter customer/rp_filter default/rp_filter all/send_redirects inside/send_redirects \\
+    customer/send_redirects inside/accept_local customer/accept_local inside/ignore_routes_with_linkdown; do
+    echo $each $(cat $each)
+done
+"""
+
+    def test_settings(self) -> None:
+        if os.geteuid() != 0 or not all(map(shutil.which, ("ip", "unshare"))):
+            self.skipTest("namespaces need root, ip and unshare")
+        words = ["unshare", "--net", "sh", "-c", self.PROGRAM]
+        given = kernel.settings([lsas.address("192.0.2.1"), lsas.address("198.51.100.1")])
+        done = subprocess.run(words, input=given, capture_output=True, text=True, check=False)
+        if "unshare failed" in done.stderr:
+            self.skipTest(done.stderr)
+        self.assertEqual(done.stderr, "")
+        found = dict(line.split() for line in done.stdout.splitlines())
+        wanted = {"all/rp_filter": "0", "inside/rp_filter": "0", "customer/rp_filter": "1", "default/rp_filter": "1"}
+        wanted |= {"all/send_redirects": "0", "inside/send_redirects": "0", "customer/send_redirects": "1"}
+        wanted |= {"inside/accept_local": "1", "customer/accept_local": "0", "inside/ignore_routes_with_linkdown": "1"}
+        self.assertEqual(found, wanted)
+
+
 class Marks(unittest.TestCase):
     """A packet from a to b, over r."""
 

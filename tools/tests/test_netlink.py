@@ -13,7 +13,7 @@ from tests.making import TOOLS
 
 # Run in a namespace of its own: what both readers have of it, and the news of a change.
 PROGRAM = """
-import json, subprocess
+import tempfile
 from mrttools import batch, kernel, netlink
 from mrttools.batch import Linux
 from mrttools.here import Here
@@ -41,6 +41,15 @@ wanted = batch.state_of(routes)
 batch.put(here, wanted)
 news = here.news()
 assert (news.protocols, news.rules, news.interfaces) == (frozenset({78}), True, False), news
+# A batch of thousands is no more than there is room for: none of it is lost, and so none taken for anything else.
+run("".join(f"route add 10.{n // 250}.{n % 250}.0/24 via 192.0.2.9 proto 188 table 5\\n" for n in range(6000)))
+news = here.news()
+while more := here.news().protocols:
+    assert more == {188}
+assert (news.protocols, news.rules, news.interfaces) == (frozenset({188}), False, False), news
+run("route flush table 5\\n")
+while here.news().protocols:
+    pass
 assert here.state() == ip.state() == wanted, here.state() ^ ip.state()
 ip.run("ip", "route", "add", "10.1.0.0/16", "via", "192.0.2.9", "proto", "188")
 ip.run("ip", "route", "add", "10.2.0.0/16", "via", "192.0.2.9", "proto", "188", "table", "5")
@@ -55,6 +64,16 @@ ip.run("ip", "link", "set", "dev", "b", "up")
 assert here.news().interfaces
 ip.run("nft", "add", "table", "ip", "other")
 assert here.news().marks and not here.news().marks
+
+# What an agent has left goes, with its settings.
+from mrttools import agent_work
+from mrttools.settings import ROOT, Settings
+folder, name = tempfile.mkdtemp(), f"{ROOT}/conf/a/accept_local"
+here.mark(kernel.marking(kernel.POOL, {"a"}))
+assert Settings(f"{folder}/settings.json").apply(["a"]) and open(name).read() == "1\\n"
+assert agent_work.remove(folder) == 0
+assert (here.state(), here.marks(), open(name).read()) == (batch.NOTHING, "", "0\\n")
+assert here.daemon_routes() == {"10.1.0.0/16"}
 print("the same")
 """
 

@@ -71,7 +71,8 @@ class TheDaemon(unittest.TestCase):
         self.assertEqual(owners.routes_in(json.loads(self.SAID), "x"), wanted)
 
     def test_what_is_none(self) -> None:
-        for said in (None, {}, [1], [{"protocol": "ospf"}], [{"protocol": "ospf", "dst": "x"}]):
+        none: list[object] = [None, {}, [1], [{"protocol": "ospf"}], [{"protocol": "ospf", "dst": "x"}]]
+        for said in none:
             with self.assertRaises(ToolFault):
                 owners.routes_in(said, "x")
 

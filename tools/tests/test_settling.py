@@ -4,13 +4,19 @@ import unittest
 from mrttools.settling import LATEST, OFTEN, QUIET, SLOW_LATEST, SLOW_QUIET, WITHIN, Settling
 
 
+def due(course: Settling) -> float:
+    found = course.due()
+    assert found is not None
+    return found
+
+
 class WhenDue(unittest.TestCase):
     def test_after_quiet(self) -> None:
         course = Settling()
         self.assertIsNone(course.due())
         course.note(10, {1})
         course.note(10.1, {2})
-        self.assertAlmostEqual(course.due(), 10.1 + QUIET)
+        self.assertAlmostEqual(due(course), 10.1 + QUIET)
         self.assertEqual(course.acted(10.3, {1, 2}), (10, 10.1))
         self.assertIsNone(course.due())
 
@@ -35,7 +41,7 @@ class WhenDue(unittest.TestCase):
         course.note(now, {1})
         self.assertEqual(course.due(), now + SLOW_QUIET)
         course.note(now + 1, {2})
-        self.assertAlmostEqual(course.due(), now + 1 + QUIET)
+        self.assertAlmostEqual(due(course), now + 1 + QUIET)
         # Another one's change makes tables of all that there is.
         course.acted(now + 2, {1, 2})
         self.assertIsNone(course.due())
@@ -52,8 +58,8 @@ class WhenDue(unittest.TestCase):
         now = self.flapping(course, 1)
         for number in range(300):
             course.note(now + number, {1})
-            self.assertGreaterEqual(course.due(), now + number)
-            if course.due() <= now + number + 1:
+            self.assertGreaterEqual(due(course), now + number)
+            if due(course) <= now + number + 1:
                 course.acted(now + number + 1, {1, 2})
         self.assertEqual(course.dampened(now + 300), [1])
 
@@ -69,7 +75,7 @@ class WhenDue(unittest.TestCase):
         course = Settling()
         for number in range(30):
             course.note(10 + number)
-            self.assertAlmostEqual(course.due(), 10 + number + QUIET)
+            self.assertAlmostEqual(due(course), 10 + number + QUIET)
             course.acted(10 + number)
 
     def test_it_calms_down_and_is_forgotten(self) -> None:

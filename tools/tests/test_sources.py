@@ -41,7 +41,7 @@ class StandIn:
         return {key: instance_of(lsa) for key, lsa in self.found.items()}
 
 
-class EarsThat:
+class EarsThat(Ears):
     """What is heard."""
 
     def __init__(self, known: list[Lsa]) -> None:
@@ -72,12 +72,8 @@ class TheWord(unittest.TestCase):
             self.apis.append(StandIn(area))
             return self.apis[-1]
 
-        for patch in (
-            mock.patch.object(sources, "Api", api),
-            mock.patch.object(exposure, "open_to_others", lambda port: self.exposed),
-        ):
-            patch.start()
-            self.addCleanup(patch.stop)
+        self.enterContext(mock.patch.object(sources, "Api", api))
+        self.enterContext(mock.patch.object(exposure, "open_to_others", mock.Mock(side_effect=lambda port: self.exposed)))
         self.word = Word(0, EarsThat, False, self.lines.append)
 
     def whole(self) -> StandIn:

@@ -1,0 +1,80 @@
+"""How the tools run mrt: once, or many times side by side, within a time."""
+import contextlib
+import os
+import tempfile
+import time
+import unittest
+
+from mrttools.ending import ToolFault
+from mrttools.program import Program
+
+STAND_IN = """#!/bin/sh
+case $5 in
+refuse*) exit 13 ;;
+fault) exit 3 ;;
+hang) echo $$ > "$0.pid"; exec sleep 60 ;;
+esac
+[ "$1" != hang ] || exec sleep 60
+echo "$1 $2 $3"
+seq 20000 | sed "s/^/$4 $5 /"
+"""
+
+
+class Running(unittest.TestCase):
+    def setUp(self) -> None:
+        place = tempfile.TemporaryDirectory()
+        self.addCleanup(place.cleanup)
+        self.path = os.path.join(place.name, "mrt")
+        with open(self.path, "w", encoding="ascii") as file:
+            file.write(STAND_IN)
+        os.chmod(self.path, 0o755)
+
+    def text(self, one: str, other: str) -> bytes:
+        lines = ["proxy db pf", *(f"{one} {other} {number}" for number in range(1, 20001))]
+        return "".join(f"{line}\n" for line in lines).encode()
+
+    def words_of(self, number: str) -> str:
+        """The words of a process, if it is there."""
+        try:
+            with open(f"/proc/{number}/cmdline", encoding="ascii") as file:
+                return file.read()
+        except OSError:
+            return ""
+
+    def test_many_at_once(self) -> None:
+        """Each has its own place, and of one status there is none."""
+        words = [("a", f"refuse{n}" if n % 3 == 0 else f"b{n}") for n in range(20)]
+        found = dict(Program(self.path, "db", "pf").many("proxy", words, untold=13))
+        self.assertEqual(found, {n: None if n % 3 == 0 else self.text(*each) for n, each in enumerate(words)})
+        self.assertEqual(list(Program(self.path, "db", "pf").many("proxy", [], untold=13)), [])
+
+    def test_another_status(self) -> None:
+        with self.assertRaises(ToolFault) as caught:
+            list(Program(self.path, "db", "pf").many("proxy", [("a", "fault")], untold=13))
+        self.assertEqual(caught.exception.status, 3)
+
+    def test_what_is_not_there_in_time_is_left_out(self) -> None:
+        """And nothing of it goes on."""
+        words, began = [("a", "b"), ("a", "hang")], time.monotonic()
+        found = dict(Program(self.path, "db", "pf", limit=1).many("proxy", words, untold=13))
+        self.assertEqual(found, {0: self.text("a", "b")})
+        self.assertLess(time.monotonic() - began, 20)
+        with open(f"{self.path}.pid", encoding="ascii") as file:
+            number = file.read().strip()
+        self.assertNotIn("sleep", self.words_of(number))
+
+    def test_a_run_that_takes_too_long(self) -> None:
+        with self.assertRaisesRegex(ToolFault, "hang took more than 0.5 seconds"):
+            Program(self.path, "db", "pf", limit=0.5).run("hang")
+
+    def test_what_a_refusal_says(self) -> None:
+        with open(self.path, "a", encoding="ascii") as file:
+            file.write("echo why >&2; exit 5\n")
+        with open(os.devnull, "w", encoding="ascii") as nowhere, contextlib.redirect_stderr(nowhere):
+            with self.assertRaises(ToolFault) as caught:
+                Program(self.path, "db", "pf").run("certify", "x", "y")
+        self.assertEqual((caught.exception.status, caught.exception.told, str(caught.exception)), (5, "why", ""))
+
+
+if __name__ == "__main__":
+    unittest.main()
