@@ -103,6 +103,8 @@ class Checkout(unittest.TestCase):
         for name in ("COMMANDS.md", "mrt.1"):
             shutil.copy(os.path.join(ROOT, "docs", name), self.at("docs"))
         write(self.path("bin", "rt"), RT, 0o755)
+        # Whatever this machine lacks, nothing is installed.
+        write(self.path("bin", "apt-get"), "#!/bin/sh\nexit 1\n", 0o755)
 
     def path(self, *names: str) -> str:
         return os.path.join(self.top, *names)
