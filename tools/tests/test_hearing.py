@@ -6,6 +6,7 @@ import signal
 import socket
 import struct
 import subprocess
+import tempfile
 import time
 import tracemalloc
 import unittest
@@ -13,8 +14,11 @@ from typing import ClassVar, Iterator
 from unittest import mock
 
 from mrttools import capture, hearing, listing, updates
+from mrttools.daemons import Bird, Frr
 from mrttools.hearing import AT_ONCE, COUNT, Caught, Heard, Look, Neighbor, instance_of
-from mrttools.lsas import Key, address, lsa_of, sealed
+from mrttools.lsas import Key, Lsa, address, lsa_of, sealed
+from mrttools.network import Network, Plan, Wire, link
+from mrttools.running import Lab
 from tests.making import datagram, fragments, network_lsa, ospf, pair, router_lsa, update
 from tests.spaces import inside, lacks, made
 
@@ -513,6 +517,48 @@ class Ears(unittest.TestCase):
         time.sleep(0.1)
         there, _ = Heard(0, ROUTER_ID, []).take(hearing.packets(self.ears), look(*pair()), MINE)
         return [each.record for each in there]
+
+
+PLAN = Plan("heard", [1, 2], [link(1, 2, 10, "10.0.12"), Wire("198.51.100", {1: 10, 2: 10}, 1)], joiner=2)
+
+
+class BesideDaemons(unittest.TestCase):
+    """A router that joins another one, over a link and a LAN."""
+
+    def joined(self, daemon: Frr | Bird) -> tuple[list[int], list[str]]:
+        """The kinds of LSAs that it hears, and what lacks, once its daemon lists three; else after a while."""
+        why = lacks(*daemon.needs)
+        if why:
+            self.skipTest(f"nothing is heard beside {daemon.name}: {why}")
+        folder = self.enterContext(tempfile.TemporaryDirectory(prefix="mrt-heard-"))
+        os.chmod(folder, 0o755)
+        network = self.enterContext(Network(PLAN))
+        lab = Lab(daemon, network, folder)
+        self.addCleanup(lab.stop)
+        with inside(network.of(2)):
+            source = hearing.ears()
+        self.addCleanup(source.close)
+        heard, own = Heard(0, address("10.255.0.2"), []), {
+            address(each.address): each.name for each in PLAN.interfaces(2)
+        }
+        for router in PLAN.routers:
+            lab.start(router)
+        lists = listing.Client(daemon.name.lower(), daemon.socket(lab.running[2].folder), 0)
+        there: list[Lsa] = []
+        lacking, end = ["no answer"], time.monotonic() + 40
+        while (len(there), lacking) != (3, []) and time.monotonic() < end:
+            lab.look_after()
+            found = lists.look()
+            if found is not None:
+                there, lacking = heard.take(hearing.packets(source), found, own)
+            time.sleep(0.2)
+        return sorted(each.kind for each in there), lacking
+
+    def test_frr(self) -> None:
+        self.assertEqual(self.joined(Frr()), ([1, 1, 2], []))
+
+    def test_bird(self) -> None:
+        self.assertEqual(self.joined(Bird()), ([1, 1, 2], []))
 
 
 if __name__ == "__main__":
