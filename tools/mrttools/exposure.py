@@ -197,7 +197,8 @@ def is_value(known: object, said: object) -> bool | None:
         if isinstance(low, int) and isinstance(high, int):
             return low <= known <= high if isinstance(known, int) else False
         return None
-    if isinstance(said, str) and said.startswith("@"):
+    # A named set; and what a rule before may have made of a packet.
+    if isinstance(said, str) and (said.startswith("@") or said == "untracked"):
         return None
     return known == said
 

@@ -62,6 +62,8 @@ OPEN = [
     base("tcp dport 2607 accept", "drop"),
     base('iifname "eth0" accept', "drop"),
     base("ct state { new, established } accept", "drop"),
+    base("ct state untracked accept", "drop"),
+    base("ct state vmap { established : accept, untracked : accept }", "drop"),
     base("ct state vmap { established : accept, new : accept }", "drop"),
     base("tcp flags syn accept", "drop"),
     base("jump mine; tcp dport 2607 drop", more="chain mine {; ip saddr 192.0.2.1 accept; };"),
