@@ -32,6 +32,7 @@ from . import gather, lsas, sockets
 from .ending import system_line
 from .hearing import Database, instance_of
 from .lsas import NETWORK, ROUTER, Key, Lsa
+from .sockets import End
 
 PORT, VERSION = 2607, 1
 REGISTER_EVENT, SYNC_LSDB, SYNC_ROUTER_ID = 3, 4, 19
@@ -274,9 +275,9 @@ class Api:
             except BlockingIOError:
                 return None
             end.setblocking(False)
-            if far[0] == self.server.host and self.is_trusted(end):
+            if far[0] == self.server.host and self.is_trusted(end, far):
                 # (who has the first one is known now: the daemon has taken it before it made the second)
-                if not self.is_trusted(requests.end):
+                if not self.is_trusted(requests.end, (self.server.host, self.server.port)):
                     end.close()
                     raise ApiFault(f"port {self.server.port} is neither FRR's, nor root's, nor one's own")
                 self.poll.unregister(self.listener)
@@ -287,9 +288,9 @@ class Api:
             self.strangers += 1
         raise ApiFault("others connect in place of the daemon")
 
-    def is_trusted(self, end: socket.socket) -> bool:
-        """Whether the other end of a connection is of somebody whose daemon is believed."""
-        found = sockets.users(end.getpeername()[:2], end.getsockname()[:2])
+    def is_trusted(self, end: socket.socket, far: End) -> bool:
+        """Whether the far end of a connection is of somebody whose daemon is believed."""
+        found = sockets.users(far, end.getsockname())
         return bool(found) and found <= self.server.users
 
     # what is asked for

@@ -612,6 +612,10 @@ class Strangers(Case):
         host, port = self.daemon.take_one()
         socket.create_connection((host, port + 1), 5).close()
         self.assertFalse(api.read())
+        # One that is reset as well.
+        with socket.create_connection((host, port + 1), 5) as stranger:
+            stranger.setsockopt(socket.SOL_SOCKET, socket.SO_LINGER, struct.pack("ii", 1, 0))
+        self.assertFalse(api.read())
         self.assertIsNone(api.events)
 
     def test_so_many_of_them(self) -> None:
