@@ -9,7 +9,7 @@ import time
 from typing import Any, Callable, NamedTuple
 
 from . import batch, kernel, lsas, status
-from .batch import NOTHING, Linux, State
+from .batch import Linux, State
 from .ending import ToolFault
 from .failing import FAILING, STANDING, failures, pairs
 from .forwarding import Batch, do_at_once, line_of, lost_by
@@ -235,7 +235,9 @@ def tried(agents: Agents, change: Change, without: Counted) -> Row:
     new = [(heard, put) for heard, put in times if put > began]
     word, tables = (max((each[place] for each in new), default=began) - began for place in (0, 1))
     beyond = max((put - heard for heard, put in new), default=0.0)
-    return Row(change.name, sum(map(bool, lines.values())), sum(lines.values()), word, tables, beyond, counted, without)
+    return Row(
+        change.name, sum(map(bool, lines.values())), sum(lines.values()), word, tables, beyond, counted, without
+    )
 
 
 def times_of(facts: dict[str, Any]) -> tuple[float, float]:
@@ -247,7 +249,7 @@ def times_of(facts: dict[str, Any]) -> tuple[float, float]:
 def silent_as_asked(agents: Agents, before: State) -> bool:
     """Where daemons died: one agent has left its table, the other one has taken it away, and both have said why."""
     told = [any(SILENT in line for line in agents.said(router, "err")[-2:]) for router in (LEFT, STRICT)]
-    return all(told) and agents.state(LEFT) == before and agents.state(STRICT) == NOTHING
+    return all(told) and agents.state(LEFT) == before and agents.state(STRICT) == batch.bare()
 
 
 def refused(agents: Agents, router: int) -> str:

@@ -44,8 +44,10 @@ class Rows:
     def of(self, source: int) -> dict[int, int]:
         """The places of a node's own rows, by destination."""
         if source not in self.places:
-            own = range(len(self.heads)) if self.every else sorted(
-                {self.heads[source], *self.below.get(source, []), *self.members[self.blocks[source]]}
+            own = (
+                range(len(self.heads))
+                if self.every
+                else sorted({self.heads[source], *self.below.get(source, []), *self.members[self.blocks[source]]})
             )
             others = (node for node in own if node != source)
             self.places[source] = {node: self.first[source] + place for place, node in enumerate(others)}

@@ -121,7 +121,9 @@ class Generations:
         if now < self.turn:
             wanted = {line for line in wanted if not (is_of_color(line) and prefix_of(line) in kept)}
             repaired -= kept
-        return frozenset(wanted | {line for line in self.old if not (is_of_color(line) and prefix_of(line) in repaired)})
+        return frozenset(
+            wanted | {line for line in self.old if not (is_of_color(line) and prefix_of(line) in repaired)}
+        )
 
     def waits(self, line: str) -> bool:
         """Whether a line of the newest routes is to come later."""

@@ -54,7 +54,9 @@ def routes_to(agents: Agents, router: int, protocol: str) -> set[str]:
     """The prefixes of a protocol's routes in the kernel of a router."""
     words = ["ip", "-n", agents.network.of(router), "-4", "route", "show", "table", "all", "proto", protocol]
     said = subprocess.run(words, stdout=subprocess.PIPE, text=True, check=True).stdout
-    found = (line.removeprefix("unreachable ").split()[0] for line in said.splitlines() if not line.startswith("unreach"))
+    found = (
+        line.removeprefix("unreachable ").split()[0] for line in said.splitlines() if not line.startswith("unreach")
+    )
     return {"0.0.0.0/0" if each == "default" else each if "/" in each else f"{each}/32" for each in found}
 
 
@@ -79,7 +81,9 @@ def told(agents: Agents, what: str, daemon: str) -> Told:
 def record_of(agents: Agents) -> Lsa:
     """The router's own LSA, as the agent of its neighbor has it."""
     with open(agents.name("r5/area.lsas"), "rb") as file:
-        found = [lsa for lsa in lsas.split(file.read()) if lsa.kind == ROUTER and lsas.spelled(lsa.router) == IDENTIFIER]
+        found = [
+            lsa for lsa in lsas.split(file.read()) if lsa.kind == ROUTER and lsas.spelled(lsa.router) == IDENTIFIER
+        ]
     if not found:
         raise LabFault(f"there is no router-LSA of {IDENTIFIER}")
     return found[0]
@@ -143,10 +147,14 @@ def run(agents: Agents, say: Callable[[str], None]) -> bool:
     daemon = agents.lab.daemon.name.lower().replace("frr", "ospf")
     rows = [told(agents, what, daemon) for what in (*NETWORKS, f"{IDENTIFIER}/32")]
     for row in rows:
-        say(f"hostile: {row.what}: {row.daemons} daemons have a route, {row.agents} agents, {row.left_out} left it out")
+        say(
+            f"hostile: {row.what}: {row.daemons} daemons have a route, {row.agents} agents, {row.left_out} left it out"
+        )
     send(agents, with_zero(record_of(agents)))
     until("a link with the metric 0", has_left(agents, f"router-LSA of {IDENTIFIER} "))
     agents.look_after()
     repairs = [agents.facts(router)["repairs"] for router in agents.running]
-    say(f"hostile: a link of {IDENTIFIER} with the metric 0: {len(repairs)} agents left out its LSA, with {sum(repairs)} repairs")
+    say(
+        f"hostile: a link of {IDENTIFIER} with the metric 0: {len(repairs)} agents left out its LSA, with {sum(repairs)} repairs"
+    )
     return all(repairs) and not any(row.agents for row in rows if row.what not in SHARED)

@@ -50,6 +50,7 @@ class Agent:
         self.status = Status(self.name("status", "agent"), lsas.spelled(said.router), said.daemon)
         # What the kernel listed after the last change, its marks, and what these were made of.
         self.state: State = NOTHING
+        self.news = News()
         self.nft, self.marks, self.devices = "", "", set[str]()
         # When it was looked at next and last, and when it was changed last.
         self.kernel_next = self.kernel_last = self.put_last = 0.0
@@ -59,7 +60,7 @@ class Agent:
         self.fault, self.retry = "", 0.0
         self.kept, self.keep_next = self.sight.found, 0.0
         self.told = ""
-        self.done = self.gone = self.begun = False
+        self.done = self.begun = False
 
     def name(self, kind: str, stem: str = "area") -> str:
         return os.path.join(self.said.folder, f"{stem}.{kind}")
@@ -77,7 +78,10 @@ class Agent:
         self.state = self.kernel.state()
         self.generations.begin(self.state, generations.read(self.name("json", "generations")), now)
         if not self.said.dry_run:
-            self.mark(self.kernel.marks() or kernel.marking(self.said.dscp, set()))
+            # (those of an agent before have the interfaces of the area, which are not known yet)
+            found = self.kernel.marks()
+            whole = found.count(" meta mark set ") == len(self.said.dscp)
+            self.mark(found if whole else kernel.marking(self.said.dscp, set()))
             self.put(now)
         self.begun = True
 
@@ -87,9 +91,11 @@ class Agent:
         lines = batch.put(self.kernel, wanted)
         for line in lines:
             print(line, flush=True)
+        # (what is told up to here of one's own routes is in the state that there is now)
+        self.news = self.news.and_then(self.kernel.news().without(kernel.PROTOCOL))
         self.state = self.kernel.state()
         self.kernel_last = self.put_last = now
-        self.kernel_next, self.gone = now + KERNEL_EVERY, False
+        self.kernel_next = now + KERNEL_EVERY
         if lines:
             self.generations.write(self.name("json", "generations"))
             tell(f"changed: {len(lines)}")
@@ -215,14 +221,18 @@ class Agent:
             self.kept, self.keep_next = self.sight.found, now + KEPT_EVERY
             files.replace(self.name("lsas"), b"".join(lsa.record for lsa in self.kept))
 
+    def take_back(self, now: float) -> None:
+        """Takes the table away. Packets on colors end here from then on: they never go on by primaries."""
+        self.generations.clear(now)
+        self.ways = None
+        self.status.bare()
+        self.put(now)
+
     def take_away(self) -> None:
         """Takes away all that the agent has put into the kernel, and puts the settings back."""
         batch.put(self.kernel, NOTHING)
         self.kernel.mark(kernel.NO_MARKING)
         self.around.settings.put_back()
-        self.generations.clear(self.around.clock())
-        self.state, self.nft, self.marks, self.devices = NOTHING, "", "", set()
-        self.ways, self.gone = None, True
         self.status.bare()
 
     # the work
@@ -246,19 +256,19 @@ class Agent:
     def failed(self, line: str, now: float) -> None:
         self.fault, self.retry = line, now + RETRY
         self.tell_once(f"{line}; the last table {'goes' if self.said.strict else 'stays'}, and it is tried again")
-        self.lose()
+        self.lose(now)
 
-    def lose(self) -> None:
+    def lose(self, now: float) -> None:
         """With --strict no table is left where something is wrong."""
-        if self.said.strict and not self.gone and not self.said.dry_run:
-            try:
-                self.take_away()
-            except (ToolFault, OSError) as fault:
-                self.tell_once(f"the table is not taken away: {fault}")
-        self.write_status(self.around.clock())
+        try:
+            if self.said.strict and self.generations.made:
+                self.take_back(now)
+            self.write_status(now)
+        except (ToolFault, OSError) as fault:
+            self.tell_once(f"{fault}: the table or the status is another one")
 
     def look_at_lacks(self, now: float) -> None:
-        """Tells what lacks, if that has been so for a while; with --strict the table goes where the daemon is silent."""
+        """Tells what lacks, if that has been so for a while; with --strict the table goes then."""
         lacks = self.sight.lacks()
         if not lacks:
             if self.lacking is not None:
@@ -270,7 +280,7 @@ class Agent:
             line = f"waits: {first}" + (f", and {len(others)} more" if others else "")
             if line != self.told:
                 self.tell_once(line)
-                self.lose()
+                self.lose(now)
 
     def write_status(self, now: float) -> None:
         lacks = self.sight.lacks()
@@ -296,7 +306,7 @@ class Agent:
         """Looks once, and does what is due."""
         if not self.begun:
             self.begin(now)
-        news = self.kernel.news()
+        news, self.news = self.news.and_then(self.kernel.news()), News()
         self.sight.look(news, now)
         if self.fault and now >= self.retry:
             self.retry = now + RETRY
@@ -305,18 +315,19 @@ class Agent:
         if due is not None and now >= due:
             self.act(now)
         following = self.generations.next(self.put_last)
-        if following is not None and now >= following and not self.gone:
+        if following is not None and now >= following:
             self.put_or_refuse(now)
-        if not self.said.dry_run and not self.gone:
+        if not self.said.dry_run:
             self.look_after(news, now)
             self.keep(now)
 
     def next(self, now: float) -> float:
         """When something is to be done, whatever comes."""
-        times = [max(self.kernel_next, now + KERNEL_LEAST * (not self.begun)), self.sight.next(now), self.settling.due(), self.generations.next(now)]
-        if self.sight.lacks():
-            # (then nothing is made of what changes, however it is due)
-            times[2] = now + 1
+        if not self.begun:
+            return now + 1
+        # (as long as something lacks nothing is made of what changes, however it is due)
+        due = now + 1 if self.sight.lacks() else self.settling.due()
+        times = [self.kernel_next, self.sight.next(now), due, self.generations.next(now)]
         return min(each for each in times if each is not None)
 
     def work(self) -> None:

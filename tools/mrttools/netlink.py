@@ -117,7 +117,9 @@ def routes(protocol: int) -> list[Said]:
     for message in dump(GET_ROUTE, struct.pack("=8BI", socket.AF_INET, 0, 0, 0, 0, protocol, 0, 0, 0)):
         length, table, told, scope, kind = struct.unpack_from("=xBxxBBBB", message.body)
         if message.kind == NEW_ROUTE and told == protocol:
-            found.append(route_of(attributes(message.body, 12), links, (length, table, scope, kind)) | {"protocol": str(told)})
+            found.append(
+                route_of(attributes(message.body, 12), links, (length, table, scope, kind)) | {"protocol": str(told)}
+            )
     return found
 
 
@@ -161,6 +163,19 @@ class News(NamedTuple):
     protocols: frozenset[int] = frozenset()
     rules: bool = False
     marks: bool = False
+
+    def and_then(self, more: News) -> News:
+        """These and later ones."""
+        return News(
+            self.interfaces or more.interfaces,
+            self.protocols | more.protocols,
+            self.rules or more.rules,
+            self.marks or more.marks,
+        )
+
+    def without(self, protocol: int) -> News:
+        """Those that do not come of one's own routes and rules."""
+        return self._replace(protocols=self.protocols - {protocol}, rules=False)
 
 
 class Watch:

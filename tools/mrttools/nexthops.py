@@ -73,6 +73,7 @@ class Ways:
         self.certified = certified or mrt.run("certify", lsas.spelled(router))
         self.certificate = certificate.read(self.certified)
         self.place = {node: place for place, node in enumerate(self.certificate.nodes)}
+        self.names = {node.text.encode(): place for node, place in self.place.items()}
         self.found = list(area.speakers(found).values())
         self.area = area.area_of(found)
         self.graph = Graph(self.area)

@@ -25,13 +25,13 @@ ATTACHED = b"attached"
 
 class Proxied:
     """What a router has for a prefix that hangs on two routers: its next hop on each color, or none where the prefix
-    hangs on it; and, by which of the two its primary goes, the colors that repair it for word and for its own port."""
+    hangs on it; and, by which of the two its primary goes, the colors that repair it for word and for its own port.
+    """
 
     def __init__(self, ways: Ways, text: bytes, hops: dict[Node, list[Element]]) -> None:
         self.ways = ways
-        # (the rows of all nodes, each to be read when it is met: there are many, and many prefixes)
-        parts = (line.partition(b" ") for line in text.split(b"\n")[1:-1])
-        self.lines = {node: rest for node, _, rest in parts}
+        # (the rows of all nodes in the certificate's order, each to be read when it is met: there are many prefixes)
+        self.lines = text.split(b"\n")
         self.unfit: Unfit | None = None
         self.hops: list[Hop | None] = []
         try:
@@ -40,13 +40,14 @@ class Proxied:
             self.unfit = why
         self.met = [self.met_on(color) for color in (0, 1)]
         self.repairs = {to: (self.past(found[:1:-1]), self.past(found[1::-1])) for to, found in hops.items()}
-        self.lines, self.met = {}, []
+        self.lines, self.met = [], []
 
     def word(self, node: bytes, color: int) -> bytes:
         """What a row of the text says: a next hop and link data, or that the prefix hangs there."""
-        if node not in self.lines:
+        line = self.lines[1 + self.ways.names[node]].split(b" ")
+        if line[0] != node:
             raise ToolFault(f"mrt proxy has no row of {node.decode()}", REFUSED)
-        return self.lines[node].split(b" ")[1 + 2 * color]
+        return line[2 + 2 * color]
 
     def step(self, node: Node, color: int) -> Step:
         """The same as a node and its link data."""
@@ -137,7 +138,9 @@ class Prefixes:
         if source not in self.far:
             self.far[source] = self.ways.graph.distances(source)
         far = self.far[source]
-        return [node for _, node in sorted((far[node] + metric, node) for node, metric in owners.items() if node in far)]
+        return [
+            node for _, node in sorted((far[node] + metric, node) for node, metric in owners.items() if node in far)
+        ]
 
     def inside(self, owners: Owners) -> list[Node]:
         """The owners of the island. All routers have to take the same ones: those nearest to the root."""

@@ -24,7 +24,9 @@ class Settings:
         try:
             with open(kept, encoding="ascii") as file:
                 read = json.load(file)
-            self.before = {name: value for name, value in read.items() if self.is_name(name) and str(value).isdecimal()}
+            self.before = {
+                name: value for name, value in read.items() if self.is_name(name) and str(value).isdecimal()
+            }
         except (OSError, ValueError, AttributeError):
             pass
 

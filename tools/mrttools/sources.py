@@ -74,7 +74,9 @@ class Ears:
 class Word:
     """FRR's own word on its database, by its OSPF API; as long as that is not there, what is heard."""
 
-    def __init__(self, area: int, ears: Callable[[list[Lsa]], Ears], open_api: bool, tell: Callable[[str], None]) -> None:
+    def __init__(
+        self, area: int, ears: Callable[[list[Lsa]], Ears], open_api: bool, tell: Callable[[str], None]
+    ) -> None:
         self.area, self.make_ears, self.open_api, self.tell = area, ears, open_api, tell
         self.ears = ears([])
         self.api: Api | None = None
@@ -139,7 +141,9 @@ class Word:
         differs = dict(listed.items() ^ api.instances.items())
         self.compared = now + (ON_ITS_WAY if differs else COMPARED)
         if differs and differs == self.differs:
-            self.lose(f"it tells other LSAs than the daemon lists, as {lsas.key_text(min(differs))}", now + DISTRUSTED)
+            self.lose(
+                f"it tells other LSAs than the daemon lists, as {lsas.key_text(min(differs))}", now + DISTRUSTED
+            )
         self.differs = differs
 
     def next(self, now: float) -> float:

@@ -38,7 +38,14 @@ class Status:
 
     def bare(self) -> None:
         """There is no table."""
-        self.facts |= {"certificate": None, "generation": None, "since": None, "prefixes": 0, "repairs": 0, "left_out": []}
+        self.facts |= {
+            "certificate": None,
+            "generation": None,
+            "since": None,
+            "prefixes": 0,
+            "repairs": 0,
+            "left_out": [],
+        }
 
     def installed(self, made: Table, digest: str, is_other: bool, left: dict[str, str]) -> None:
         """A table is in the kernel."""
@@ -92,7 +99,9 @@ def lines_of(facts: dict[str, Any]) -> list[str]:
         lines.append(f"certificate {facts['certificate']}, generation {facts['generation']}, since {facts['since']}")
         lines.append(f"{facts['prefixes']} prefixes, {facts['repairs']} of them with a repair")
     if took:
-        lines.append(f"last changed {facts['changed']}, {took['seconds']} s after the first word of it, {took['work']} s of work")
+        lines.append(
+            f"last changed {facts['changed']}, {took['seconds']} s after the first word of it, {took['work']} s of work"
+        )
     if facts.get("waits"):
         lines.append(f"waits: {facts['waits']}")
     if facts.get("dampened"):

@@ -56,7 +56,9 @@ def interfaces_of(said: object, source: str) -> Interfaces:
         names = {lsas.address(one["local"]): str(device) for device, one in found}
         networks = {
             # (of a link of two with no network of its own, the far end)
-            lsas.address(one["local"]): IPv4Network(f"{one.get('address', one['local'])}/{one['prefixlen']}", strict=False)
+            lsas.address(one["local"]): IPv4Network(
+                f"{one.get('address', one['local'])}/{one['prefixlen']}", strict=False
+            )
             for _, one in found
             if "prefixlen" in one
         }

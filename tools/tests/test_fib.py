@@ -451,7 +451,9 @@ class TheTool(unittest.TestCase):
             file.flush()
             done = self.run_fib("--mrt", MRT, file.name, "-", "10.255.0.5")
         self.assertEqual(done.returncode, 0, done.stderr)
-        self.assertIn(f"fib: {loopback}: left out, the link of 10.255.0.5 and 10.255.0.8 has no address at", done.stderr)
+        self.assertIn(
+            f"fib: {loopback}: left out, the link of 10.255.0.5 and 10.255.0.8 has no address at", done.stderr
+        )
         self.assertNotIn(loopback, done.stdout)
         self.assertIn("10.255.0.1/32 via", done.stdout)
 

@@ -36,7 +36,9 @@ def made_of(plan: Plan, stubs: Stubs, profile: str, router: int) -> Made:
     with tempfile.NamedTemporaryFile() as file:
         file.write(lsas_of(plan, stubs))
         file.flush()
-        ways = Ways(Program(MRT, file.name, profile), list(lsas.split(lsas_of(plan, stubs))), lsas.address(router_id(router)))
+        ways = Ways(
+            Program(MRT, file.name, profile), list(lsas.split(lsas_of(plan, stubs))), lsas.address(router_id(router))
+        )
         attached = {1: IPv4Network(CUSTOMER)} if router in stubs else {}
         found = table.table_of(ways, Daemon(None, Interfaces(None, attached)), Wanted(True, True, True, kernel.POOL))
     owners = {entry.prefix: entry.owners for entry in found.entries}
@@ -171,7 +173,9 @@ class WhileRoutersDiffer(unittest.TestCase):
     def test_without_generations_packets_circle(self) -> None:
         """So this sees circles where there are some."""
         random, circles = Random(81), 0
-        with mock.patch.object(table, "generation_of", lambda *_: 3), mock.patch.object(Generations, "clashes", lambda *_: False):
+        with mock.patch.object(table, "generation_of", lambda *_: 3), mock.patch.object(
+            Generations, "clashes", lambda *_: False
+        ):
             for _ in range(8):
                 circles += self.mixtures(*self.pair(random), random)[0]
         self.assertGreater(circles, 0)

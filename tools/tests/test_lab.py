@@ -155,7 +155,10 @@ class Failures(unittest.TestCase):
         """Those whose next hop is gone, of the primaries alone, in the words of FRR."""
         lab = mock.Mock(running={3: Running([], "/r3"), 4: Running([], "/r4")})
         installed = statics.Static(mock.Mock(plan=network.PLAN), mock.Mock(), "", [], lab)
-        primary, row = "ip route 10.255.0.7/32 198.51.100.7 to-lan", "ip route 10.255.0.7/32 198.51.100.7 to-lan table 7811"
+        primary, row = (
+            "ip route 10.255.0.7/32 198.51.100.7 to-lan",
+            "ip route 10.255.0.7/32 198.51.100.7 to-lan table 7811",
+        )
         other = "ip route 10.255.0.2/32 198.51.100.70 to-lan"
         installed.configurations = {3: f"{primary}\n{row}\n{other}\n", 4: f"{other}\n"}
         gone = installed.primaries_by(["198.51.100.7"])
@@ -167,7 +170,9 @@ class Failures(unittest.TestCase):
             self.assertEqual(installed.ready("replace", gone)[0].text, f"configure terminal\n{primary}\n")
         # Word takes a while, and on a link of two routers there is none.
         port = next(failure for failure in failing.failures(network.PLAN) if failure.gone)
-        self.assertEqual([installed.in_flight(each) for each in (port, port._replace(gone=[]))], [statics.UNTIL_WORD, 1])
+        self.assertEqual(
+            [installed.in_flight(each) for each in (port, port._replace(gone=[]))], [statics.UNTIL_WORD, 1]
+        )
 
     def test_the_picture(self) -> None:
         picture = bars.svg("<lab>", [bars.Bar("link r1-r2", 0, 1500, 0), bars.Bar("router r5", 9, 10, 4)])
@@ -187,7 +192,6 @@ class Changes(unittest.TestCase):
         self.assertEqual(sorted(ports), ["p2-4", "p2-5", "p3-5", "p3-6", "p4-1", "p4-6"])
         self.assertEqual(batch.call_args.args[1], ["link set group 99 down"])
         self.assertEqual(spaces.group.call_args_list[1].args, (ports, 0))
-
 
     def test_pings_while_something_changes(self) -> None:
         """All pairs are pinged from before the change until all have settled, but those of routers that are away."""

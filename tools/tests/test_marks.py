@@ -48,7 +48,11 @@ done
         found = dict(line.split() for line in done.stdout.splitlines())
         wanted = {"all/rp_filter": "0", "inside/rp_filter": "0", "customer/rp_filter": "1", "default/rp_filter": "1"}
         wanted |= {"all/send_redirects": "0", "inside/send_redirects": "0", "customer/send_redirects": "1"}
-        wanted |= {"inside/accept_local": "1", "customer/accept_local": "0", "inside/ignore_routes_with_linkdown": "1"}
+        wanted |= {
+            "inside/accept_local": "1",
+            "customer/accept_local": "0",
+            "inside/ignore_routes_with_linkdown": "1",
+        }
         self.assertEqual(found, wanted)
 
 

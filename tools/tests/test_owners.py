@@ -101,7 +101,11 @@ class InTheLab(unittest.TestCase):
             file.write(b"".join([*records, *more]))
         with open(self.database, "rb") as file:
             found = list(lsas.split(file.read()))
-        whole = Prefixes(Ways(Program(MRT, self.database, "-"), found, address("10.255.0.1")), Daemon(None, Interfaces(None)), every)
+        whole = Prefixes(
+            Ways(Program(MRT, self.database, "-"), found, address("10.255.0.1")),
+            Daemon(None, Interfaces(None)),
+            every,
+        )
         self.entries = {entry.prefix: entry for entry in whole.entries()}
         return whole
 
@@ -127,7 +131,9 @@ class InTheLab(unittest.TestCase):
             stubs[2] = [("10.9.0.0", "255.255.0.0", 3, metric)]
             with open(self.database, "wb") as file:
                 file.write(lsas_of(PLAN, stubs))
-            ways = Ways(Program(MRT, self.database, "-"), list(lsas.split(lsas_of(PLAN, stubs))), address("10.255.0.1"))
+            ways = Ways(
+                Program(MRT, self.database, "-"), list(lsas.split(lsas_of(PLAN, stubs))), address("10.255.0.1")
+            )
             whole = Prefixes(ways, Daemon(None, Interfaces(None)), True)
             found = whole.nearest(node_of("10.255.0.1"), whole.owners[prefix_of("10.9.0.0/16")])
             self.assertEqual(found[0].text, near)
@@ -136,7 +142,11 @@ class InTheLab(unittest.TestCase):
         """One that two routers have has nothing, and it is told; nor has one that a network has too."""
         stub = ("10.255.0.3", HOST, 3, 0)
         records = [each for each in lsas.split(lsas_of(PLAN, {4: [stub]}))]
-        self.made(*[each.record for each in records if lsas.spelled(each.router) == "10.255.0.4"], without="10.255.0.4", every=False)
+        self.made(
+            *[each.record for each in records if lsas.spelled(each.router) == "10.255.0.4"],
+            without="10.255.0.4",
+            every=False,
+        )
         self.assertNotIn("10.255.0.3/32", self.entries)
         whole = self.made(self.with_network(), without="10.255.0.8", every=False)
         self.assertNotIn("10.255.0.9/32", self.entries)
@@ -156,11 +166,16 @@ class InTheLab(unittest.TestCase):
         words = [f"{TOOLS}/fib", "--mrt", MRT, "--routes", routes, self.database, "-", "10.255.0.1"]
         done = subprocess.run(words, capture_output=True, text=True, check=True)
         self.assertIn("fib: 10.255.0.3/32: left out, the daemon has no route to it", done.stderr)
-        self.assertEqual({line.split()[2] for line in done.stdout.splitlines() if line.startswith("route replace 10.")}, {"10.255.0.2/32"})
+        self.assertEqual(
+            {line.split()[2] for line in done.stdout.splitlines() if line.startswith("route replace 10.")},
+            {"10.255.0.2/32"},
+        )
         with open(routes, "w", encoding="ascii") as file:
             file.write("{")
         done = subprocess.run(words, capture_output=True, text=True, check=False)
-        self.assertEqual((done.returncode, done.stderr), (8, f"fib: {routes}: it is not what `ip -j -4 route` says\n"))
+        self.assertEqual(
+            (done.returncode, done.stderr), (8, f"fib: {routes}: it is not what `ip -j -4 route` says\n")
+        )
 
 
 if __name__ == "__main__":

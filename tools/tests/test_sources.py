@@ -73,7 +73,9 @@ class TheWord(unittest.TestCase):
             return self.apis[-1]
 
         self.enterContext(mock.patch.object(sources, "Api", api))
-        self.enterContext(mock.patch.object(exposure, "open_to_others", mock.Mock(side_effect=lambda port: self.exposed)))
+        self.enterContext(
+            mock.patch.object(exposure, "open_to_others", mock.Mock(side_effect=lambda port: self.exposed))
+        )
         self.word = Word(0, EarsThat, False, self.lines.append)
 
     def whole(self) -> StandIn:

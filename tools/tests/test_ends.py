@@ -1,0 +1,163 @@
+"""The agent's settings of the kernel, its locks, what a signal does, and what it says of itself."""
+import argparse
+import json
+import os
+import signal
+import subprocess
+import sys
+import tempfile
+import unittest
+from unittest import mock
+
+from mrttools import agent_work, exposure, locking, status, table
+from mrttools.ending import ToolFault
+from mrttools.settings import Settings
+from tests.making import MRT, TOOLS
+from tests.standing import Place, WithAgent
+
+
+class KernelSettings(unittest.TestCase):
+    def setUp(self) -> None:
+        place = tempfile.TemporaryDirectory()
+        self.addCleanup(place.cleanup)
+        self.place = Place(place.name)
+
+    def test_on_the_interfaces_of_the_area_alone(self) -> None:
+        """A customer's interface keeps its filter, and so does one that comes later."""
+        settings, before = Settings(self.place.kept, self.place.root), self.place.read()
+        settings.apply(["to-r2", "to-r4"])
+        found = self.place.read()
+        for device in ("to-r2", "to-r4"):
+            self.assertEqual((found[f"conf/{device}/rp_filter"], found[f"conf/{device}/accept_local"]), ("0", "1"))
+            self.assertEqual(found[f"conf/{device}/ignore_routes_with_linkdown"], "1")
+        for device in ("customer", "default", "to-r3"):
+            own = {name: value for name, value in found.items() if f"/{device}/" in name}
+            self.assertEqual(own, {name: value for name, value in before.items() if f"/{device}/" in name})
+        self.assertEqual((found["conf/all/rp_filter"], found["ip_forward"]), ("0", "1"))
+        self.assertEqual(settings.apply(["to-r2", "to-r4"]), [])
+
+    def test_what_counted_by_all_counts_by_itself(self) -> None:
+        for device in ("customer", "default"):
+            self.place.write(f"conf/{device}/rp_filter", "0")
+        before, settings = self.place.read(), Settings(self.place.kept, self.place.root)
+        settings.apply(["to-r2"])
+        self.assertEqual(self.place.read()["conf/customer/rp_filter"], "1")
+        self.assertEqual(settings.apply(["to-r2"]), [])
+        settings.put_back()
+        self.assertEqual(self.place.read(), before)
+
+    def test_watched_and_put_back(self) -> None:
+        before, settings = self.place.read(), Settings(self.place.kept, self.place.root)
+        settings.apply(["to-r2", "to-r4"])
+        self.place.write("conf/to-r2/rp_filter", "2")
+        self.assertEqual(settings.apply(["to-r2", "to-r4"]), ["conf/to-r2/rp_filter"])
+        # An interface that is not of the area any more; and an agent that is started again knows what was.
+        settings = Settings(self.place.kept, self.place.root)
+        settings.apply(["to-r4"])
+        self.assertEqual(self.place.read()["conf/to-r2/rp_filter"], "1")
+        settings.put_back()
+        self.assertEqual(self.place.read(), before)
+
+    def test_a_file_that_names_no_settings(self) -> None:
+        with open(self.place.kept, "w", encoding="ascii") as file:
+            json.dump({"../../x": "1", "conf/a/b": "1", "conf/to-r2/rp_filter": "x", "ip_forward": "0"}, file)
+        self.assertEqual(Settings(self.place.kept, self.place.root).before, {"ip_forward": "0"})
+
+
+class Signals(unittest.TestCase):
+    """A signal ends the agent while it waits, and nowhere else."""
+
+    PROGRAM = """
+import os, signal, sys, time
+from mrttools.batch import Linux
+from mrttools.waiting import Waiting
+waiting = Waiting()
+print("begun", flush=True)
+time.sleep(0.5)
+print(Linux().run("sh", "-c", "kill -%d $$; echo child"), end="", flush=True)
+time.sleep(0.5)
+print("ended", flush=True)
+waiting.wait([], 9)
+print("not here", flush=True)
+"""
+
+    def test_not_in_the_middle_of_a_change(self) -> None:
+        for number in (signal.SIGTERM, signal.SIGINT, signal.SIGHUP):
+            words = [sys.executable, "-c", self.PROGRAM % number]
+            with subprocess.Popen(words, stdout=subprocess.PIPE, cwd=TOOLS, text=True) as process:
+                assert process.stdout
+                self.assertEqual(process.stdout.readline(), "begun\n")
+                process.send_signal(number)
+                self.assertEqual(process.stdout.read(), "child\nended\n")
+                self.assertEqual(process.wait(), 128 + number)
+
+    def test_one_that_comes_while_it_waits(self) -> None:
+        words = [
+            sys.executable,
+            "-c",
+            "from mrttools.waiting import Waiting; w = Waiting(); print(flush=True); w.wait([], 60)",
+        ]
+        with subprocess.Popen(words, stdout=subprocess.PIPE, cwd=TOOLS, text=True) as process:
+            assert process.stdout
+            process.stdout.readline()
+            process.send_signal(signal.SIGTERM)
+            self.assertEqual(process.wait(9), 143)
+
+
+class Locks(unittest.TestCase):
+    def test_one_agent_for_a_folder(self) -> None:
+        with tempfile.TemporaryDirectory() as folder:
+            with locking.lock_folder(folder):
+                self.assertTrue(locking.is_locked(folder))
+                with self.assertRaises(ToolFault):
+                    locking.lock_folder(folder)
+            self.assertFalse(locking.is_locked(folder))
+            locking.lock_folder(folder).close()
+
+    def test_one_agent_for_a_namespace(self) -> None:
+        with mock.patch.object(locking, "NAME", f"\0semborui/test/{os.getpid()}"):
+            with locking.lock_namespace():
+                with self.assertRaises(ToolFault):
+                    locking.lock_namespace()
+            locking.lock_namespace().close()
+
+
+class Exposed(unittest.TestCase):
+    def test_an_api_that_others_reach(self) -> None:
+        """The agent does not start beside it, unless told."""
+        with mock.patch.object(exposure, "open_to_others", side_effect=lambda port: f"port {port} is open"):
+            for daemon, told in (("frr", True), ("bird", False)):
+                agent_work.refuse_exposed(argparse.Namespace(daemon=daemon, open_api=told))
+            with self.assertRaisesRegex(ToolFault, "port 2607 is open"):
+                agent_work.refuse_exposed(argparse.Namespace(daemon="frr", open_api=False))
+
+
+@unittest.skipUnless(os.path.exists(MRT), "the program is not built")
+class OfItself(WithAgent):
+    def test_status(self) -> None:
+        self.settle(self.agent())
+        facts = status.read(self.folder)
+        with open(self.name("area.cert"), "rb") as file:
+            digest = table.digest_of(file.read())
+        self.assertEqual((facts["certificate"], facts["repairs"], facts["state"]), (digest, 3, "stopped"))
+        self.assertEqual(facts["generation"], int(digest, 16) % 8)
+        with locking.lock_folder(self.folder):
+            self.assertEqual(status.read(self.folder)["state"], "installed")
+            for words, first in (
+                (["--status"], "router 10.255.0.1 beside frr: installed"),
+                (["--status", "--json"], "{"),
+            ):
+                done = subprocess.run(
+                    [f"{TOOLS}/agent", *words, self.folder], capture_output=True, text=True, check=True
+                )
+                self.assertTrue(done.stdout.startswith(first), done.stdout)
+
+    def test_no_agent(self) -> None:
+        done = subprocess.run(
+            [f"{TOOLS}/agent", "--status", self.folder], capture_output=True, text=True, check=False
+        )
+        self.assertEqual((done.returncode, done.stderr), (7, f"agent: {self.folder}: no agent has been here\n"))
+
+
+if __name__ == "__main__":
+    unittest.main()
