@@ -172,6 +172,23 @@ class Pages(Case):
             found.of(page.anchor("link:10.255.1.3/192.0.2.17")),
         )
 
+    def test_what_is_not_repaired_though_there_is_a_way(self) -> None:
+        """Its table: why, how many pairs, how many of them are without it, and which; and the same at each failure."""
+        found = self.page(f"{DATA}/lan.lsas", f"{DATA}/lan.profile")
+        cells = '<td class="n" data-h="Pairs">12</td><td class="n" data-h="Repaired without it">6</td>'
+        table = self.source[self.source.index('id="gaps"') : self.source.index('id="points"')]
+        self.assertEqual(table.count("<tr><th scope"), 2)
+        self.assertIn(f'{cells}<td data-h="Of these">10.255.1.4 to 10.255.1.1, ', table)
+        self.assertIn("is kept out by the profile", table)
+        for element, told in (
+            ("link:10.255.1.4/198.51.100.4", "12 pairs could be repaired and are not, by choice; 4 of 16 pairs repaired"),
+            ("net:198.51.100.4", "6 pairs could be repaired and are not, by choice; 16 pairs parted; 4 of 26 pairs repaired"),
+        ):
+            place = page.anchor(element)
+            summary = self.source.split(f'id="{place}"')[0]
+            self.assertIn(told, " ".join(re.sub("<[^>]*>", " ", summary[summary.rindex("<summary>") :]).split()))
+            self.assertIn("Not repaired, though there is a way: 10.255.1.4 to 10.255.1.1, ", found.of(place))
+
     def test_the_style_has_what_it_should(self) -> None:
         style = page.file_text("report.css")
         for words in ("prefers-color-scheme: dark", "max-width: 600px", "@media print", ":focus-visible"):
