@@ -31,6 +31,10 @@ pub fn candidate_for(
 {
     match destination {
         Some(destination) => {
+            // (before any distance is read)
+            if way.bond == destination.bond {
+                return None;
+            }
             let out = known[source.get() as usize];
             let through = known[destination.primary.next.get() as usize];
             offer(way, destination, t, known[t], out, through)

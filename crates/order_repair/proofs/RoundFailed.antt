@@ -48,10 +48,10 @@ tests_of w s t a v under over = record {
 pub told : (w : Directions) (s t a v : ℕ) (IsUnder IsOver : Type 0) (x : OrderTests) → AreTests w s t a v IsUnder IsOver x
     → x ≡ tests_of w s t a v x.under x.over
 told w s t a v IsUnder IsOver x are = λ i. record {
-  source = are.source i;
-  to = are.to i;
-  from = are.from i;
-  onto = are.onto i;
+  source = are.numbers.source i;
+  to = are.numbers.to i;
+  from = are.numbers.from i;
+  onto = are.numbers.onto i;
   under = x.under;
   over = x.over;
 }

@@ -24,26 +24,29 @@ pub record LeadsTo (g : Topology) (w : Directions) (dir : Dir) (s x : ℕ) : Typ
   pub hop : Hop
   pub reached : IsHop g w dir s x (Some hop)
 
--- what each test means: these are the order numbers of s, of t, and of nodes u and v; and what has failed is under s, or
--- over s, exactly where this holds
-pub record AreTests (w : Directions) (s t u v : ℕ) (Under Over : Type 0) (x : OrderTests) : Type 0 where
+-- these are the order numbers of s, of t, and of nodes u and v
+pub record AreNumbers (w : Directions) (s t u v : ℕ) (x : OrderTests) : Type 0 where
   pub source : x.source ≡ w.order s
   pub to : x.to ≡ w.order t
   pub from : x.from ≡ w.order u
   pub onto : x.onto ≡ w.order v
+
+-- what each test means: these numbers; and what has failed is under s, or over s, exactly where this holds
+pub record AreTests (w : Directions) (s t u v : ℕ) (Under Over : Type 0) (x : OrderTests) : Type 0 where
+  pub numbers : AreNumbers w s t u v x
   pub under : Decides x.under Under
   pub over : Decides x.over Over
 
--- a node f is under s where it is the head of their block or a path leads down to it; over s where one leads up. They are
--- asked where s is no head, and so the head of the block is that of s
+-- a node f is under s where it is the head of s or a path leads down to it; over s where one leads up. The table looks at them
+-- only where s is no head; the head of the block is then that of s
 abbrev pub IsUnderNode : Topology → Directions → ℕ → ℕ → Type 0
 IsUnderNode g w s f = (f ≡ w.head s) ⊎ LeadsTo g w Down s f
 
 abbrev pub AreNodeTests : Topology → Directions → ℕ → ℕ → ℕ → OrderTests → Type 0
 AreNodeTests g w s t f x = AreTests w s t f f (IsUnderNode g w s f) (LeadsTo g w Up s f) x
 
--- a plain link from u to v is under s where v is s or a path leads down to v; over s where u is s, or a node of the block,
--- and no head, to which a path leads up
+-- a plain link from u to v is under s where v is s or a path leads down to v; over s where u is s, or a member of the block to
+-- which a path leads up
 abbrev pub IsUnderLink : Topology → Directions → ℕ → ℕ → Type 0
 IsUnderLink g w s v = (v ≡ s) ⊎ LeadsTo g w Down s v
 

@@ -6,16 +6,17 @@ ghost use Rattle.link_direction.specs.Directions.{Directions};
 ghost use Rattle.inc_dec_spf.specs.HasDirections.{HasDirections};
 ghost use Rattle.mrt_rows.specs.{CertOf.IsCertOf, DirectedFrom.IsDirectedFrom};
 ghost use Rattle.order_repair.specs.{Source.AreHops, Source.AreHopsIn, Source.IsSourceIn, OrderChoice.IsOrderChoice, OrderChoice.LinkLine};
+ghost use Rattle.order_repair.specs.{ColorTable.node_color, ColorTable.plain_color, OrderChoice.AreLinkTests, OrderChoice.AreNodeTests, OrderChoice.ByTests};
 ghost use Rattle.order_repair.specs.{Failed.IsBetween, Failed.IsWithin, Tagging.IsPair};
 
-use crate::arrow::arrow_of;
+use crate::arrow::{Arrow, arrow_of};
 use crate::color_table::{closing_color, node_color, plain_color};
-use crate::order_tests::{link_tests, node_tests};
+use crate::order_tests::{link_tests, node_tests, numbers};
 use crate::pair::Pair;
 use crate::source_view::SourceView;
 use crate::tagging::tag_for;
 use inc_dec_spf::Reach;
-use mrt_graph::{Color, Directed, Element, Graph, LinkNo, NodeNo, Role};
+use mrt_graph::{Color, Directed, Element, Graph, LinkNo, NodeNo, Role, Tag};
 
 /// The color of `source` for `to` where an element of their common block has failed: a node of it other than the two, its
 /// head included, or a link of it. The block has more than one link, and `up` and `down` are the hops of `source`. Where
@@ -76,8 +77,43 @@ pub fn color_for(view: &SourceView, pair: &Pair, failed: Element) -> Color
         → IsOrderChoice view.now.graph.now root w pair.now.source pair.now.to failed result }
 {
     match failed {
-        Element::Node(failed) => node_color(pair.tag, &node_tests(view, pair, failed)),
+        Element::Node(failed) => color_for_node(view, pair, failed),
         Element::Link(failed) => link_color(view, pair, failed),
+    }
+}
+
+/// The color for a pair where a node of their block has failed.
+fn color_for_node(view: &SourceView, pair: &Pair, failed: NodeNo) -> Color
+    requires source { IsSourceIn view.now pair.now.source }
+    requires to { pair.now.to < length view.now.graph.now.ids }
+    requires failed { failed < length view.now.graph.now.ids }
+    ensures { (root : ℕ) (w : Directions) → AreHopsIn view.now root w pair.now.source
+        → ByTests (AreNodeTests view.now.graph.now w pair.now.source pair.now.to failed) (node_color pair.now.tag) result }
+{
+    match pair.tag {
+        Tag::Unordered => node_color(pair.tag, &node_tests(view, pair, failed)),
+        _ => {
+            let both = Arrow {
+                from: failed,
+                to: failed,
+            };
+            node_color(pair.tag, &numbers(view, pair, both))
+        }
+    }
+}
+
+/// The color for a pair where a plain link of their block has failed.
+fn color_for_plain(view: &SourceView, pair: &Pair, failed: Arrow) -> Color
+    requires source { IsSourceIn view.now pair.now.source }
+    requires to { pair.now.to < length view.now.graph.now.ids }
+    requires from { failed.from < length view.now.graph.now.ids }
+    requires onto { failed.to < length view.now.graph.now.ids }
+    ensures { (root : ℕ) (w : Directions) → AreHopsIn view.now root w pair.now.source
+        → ByTests (AreLinkTests view.now.graph.now w pair.now.source pair.now.to failed.from failed.to) (plain_color pair.now.tag) result }
+{
+    match pair.tag {
+        Tag::Unordered => plain_color(pair.tag, &link_tests(view, pair, failed)),
+        _ => plain_color(pair.tag, &numbers(view, pair, failed)),
     }
 }
 
@@ -94,7 +130,7 @@ fn link_color(view: &SourceView, pair: &Pair, failed: LinkNo) -> Color
         Role::Closing => closing_color(pair.tag),
         _ => {
             let arrow = arrow_of(view.graph.link(failed), mark.way);
-            plain_color(pair.tag, &link_tests(view, pair, arrow))
+            color_for_plain(view, pair, arrow)
         }
     }
 }

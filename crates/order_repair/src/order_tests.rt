@@ -3,7 +3,7 @@
 ghost use Rattle.std.specs.Prelude.{◌≡◌, ◌<◌, ℕ, length};
 ghost use Rattle.std.specs.Bool.{Decides};
 ghost use Rattle.link_direction.specs.Directions.{Directions};
-ghost use Rattle.order_repair.specs.{OrderChoice.AreLinkTests, OrderChoice.AreNodeTests, OrderChoice.IsOverLink, OrderChoice.IsUnderLink, OrderChoice.IsUnderNode};
+ghost use Rattle.order_repair.specs.{OrderChoice.AreLinkTests, OrderChoice.AreNodeTests, OrderChoice.AreNumbers, OrderChoice.IsOverLink, OrderChoice.IsUnderLink, OrderChoice.IsUnderNode};
 ghost use Rattle.order_repair.specs.{Source.AreHopsIn, Source.IsSourceIn};
 
 use crate::arrow::Arrow;
@@ -23,6 +23,26 @@ pub struct OrderTests {
     pub onto: u16,
     pub under: bool,
     pub over: bool,
+}
+
+/// The order numbers alone, of a pair and of two nodes. They tell the color unless the tag is Unordered, so nothing else is looked
+/// up then.
+pub fn numbers(view: &SourceView, pair: &Pair, failed: Arrow) -> OrderTests
+    requires source { IsSourceIn view.now pair.now.source }
+    requires to { pair.now.to < length view.now.graph.now.ids }
+    requires from { failed.from < length view.now.graph.now.ids }
+    requires onto { failed.to < length view.now.graph.now.ids }
+    ensures { (root : ℕ) (w : Directions) → AreHopsIn view.now root w pair.now.source
+        → AreNumbers w pair.now.source pair.now.to failed.from failed.to result }
+{
+    OrderTests {
+        source: view.directed.order(pair.source),
+        to: view.directed.order(pair.to),
+        from: view.directed.order(failed.from),
+        onto: view.directed.order(failed.to),
+        under: false,
+        over: false,
+    }
 }
 
 /// The tests of a node that failed.

@@ -5,8 +5,8 @@ use Rattle.order_repair.proofs.choice.color_for.Goals as goal
 pub returns-in-Node : goal.returns-in-Node
 returns-in-Node c = λ root w k h hops pair between.
     let of_node = rw c.in-Node.is at between in
-    rw c.in-Node.is (chosen c.args.view.now.graph.now root w c.args.pair.now.source c.args.pair.now.to c.args.pair.now.tag k h _ c.node_color.result pair of_node
-    (record { tests = c.node_tests.result; mean = c.node_tests.ensures root w hops; color_is = c.node_color.ensures }))
+    rw c.in-Node.is (chosen c.args.view.now.graph.now root w c.args.pair.now.source c.args.pair.now.to c.args.pair.now.tag k h _ c.color_for_node.result pair of_node
+    (c.color_for_node.ensures root w hops))
 
 pub returns-in-Link : goal.returns-in-Link
 returns-in-Link c = λ root w k h hops pair between.
