@@ -17,8 +17,6 @@ from .kernel import REALMS, TABLES
 # Seconds in which other routers, too, have taken away what fits no new rows; and those after which a router turns its
 # repairs that has itself lost a link: it needs the old ones, and by then the others have the new rows.
 PAUSE, TURN = 3.0, 0.5
-# How often the time that old rows stay has to be over until another certificate may have their generation at once.
-FORGOTTEN = 2
 
 
 def color_of(line: str) -> int | None:
@@ -106,7 +104,7 @@ class Generations:
         """Whether the generation had another certificate whose rows other routers may have."""
         known = self.digests.get(made.generation, made.digest)
         current = self.made is not None and self.made.generation == made.generation
-        return known != made.digest and (current or now < self.gone.get(made.generation, 0) + FORGOTTEN * self.linger)
+        return known != made.digest and (current or now < self.gone.get(made.generation, 0) + PAUSE)
 
     # what there is to be
 

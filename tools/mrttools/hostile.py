@@ -78,15 +78,11 @@ def told(agents: Agents, what: str, daemon: str) -> Told:
 # what is sent
 
 
-def record_of(agents: Agents) -> Lsa:
-    """The router's own LSA, as the agent of its neighbor has it."""
+def record_of(agents: Agents) -> Lsa | None:
+    """The router's own LSA, if the agent of its neighbor uses it."""
     with open(agents.name("r5/area.lsas"), "rb") as file:
-        found = [
-            lsa for lsa in lsas.split(file.read()) if lsa.kind == ROUTER and lsas.spelled(lsa.router) == IDENTIFIER
-        ]
-    if not found:
-        raise LabFault(f"there is no router-LSA of {IDENTIFIER}")
-    return found[0]
+        records = list(lsas.split(file.read()))
+    return next((lsa for lsa in records if lsa.kind == ROUTER and lsas.spelled(lsa.router) == IDENTIFIER), None)
 
 
 def with_zero(lsa: Lsa) -> bytes:
@@ -124,6 +120,16 @@ def has_left(agents: Agents, words: str) -> Callable[[], bool]:
     return lambda: all(words in left_by(agents, router) for router in agents.running)
 
 
+def has_zero(agents: Agents) -> bool:
+    """Whether all agents say that they left out the LSA with the metric 0. It is sent as long as there is an instance
+    without it: the router may have made a newer one."""
+    found = record_of(agents)
+    if found:
+        send(agents, with_zero(found))
+        time.sleep(1)
+    return has_left(agents, f"router-LSA of {IDENTIFIER} ")()
+
+
 def begin(agents: Agents) -> None:
     """Starts the agents anew, with all prefixes, and puts the other daemon in the place of the router's."""
     agents.stop()
@@ -150,8 +156,7 @@ def run(agents: Agents, say: Callable[[str], None]) -> bool:
         say(
             f"hostile: {row.what}: {row.daemons} daemons have a route, {row.agents} agents, {row.left_out} left it out"
         )
-    send(agents, with_zero(record_of(agents)))
-    until("a link with the metric 0", has_left(agents, f"router-LSA of {IDENTIFIER} "))
+    until("a link with the metric 0", lambda: has_zero(agents))
     agents.look_after()
     repairs = [agents.facts(router)["repairs"] for router in agents.running]
     say(

@@ -166,7 +166,8 @@ class Prefixes:
 
     def is_wanted(self, prefix: Prefix, owners: Owners) -> bool:
         """Whether a prefix is one of those that are asked for, and may have something. What may not is told."""
-        if not self.every and (prefix.mask != HOST or self.ways.router in owners):
+        own = owners.keys() == {self.ways.router} if self.every else self.ways.router in owners
+        if (prefix.mask == HOST and own) or (prefix.mask != HOST and not self.every):
             return False
         why = self.daemon.why_not(prefix.text, self.has(prefix, owners))
         if not self.every and len(owners) > 1:

@@ -7,7 +7,7 @@ import socket
 from typing import Callable, NamedTuple
 
 from . import exposure, hearing, lsas, ospfapi
-from .hearing import Database, Heard
+from .hearing import Database, Heard, Neighbor
 from .kernel import Interfaces
 from .listing import Client
 from .lsas import Lsa
@@ -42,6 +42,7 @@ class Ears:
         self.told = Told([], (SILENT,))
         self.asked = 0.0
         self.waiting = self.answers = False
+        self.neighbors: frozenset[Neighbor] = frozenset()
 
     def name(self) -> str:
         return "packets that are heard, by the daemon's list"
@@ -57,7 +58,9 @@ class Ears:
             self.answers = look is not None
             made = Told([], (SILENT,))
             if look is not None:
-                found, lacks = self.heard.take(hearing.packets(self.source), look, interfaces.names or {})
+                # (what waits may have come from a neighbor that has gone since)
+                both, self.neighbors = look._replace(neighbors=look.neighbors | self.neighbors), look.neighbors
+                found, lacks = self.heard.take(hearing.packets(self.source), both, interfaces.names or {})
                 made = Told(found, tuple(lacks))
                 self.waiting = self.has_more()
             if made.text != self.told.text:

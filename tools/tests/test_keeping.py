@@ -139,6 +139,18 @@ class Changes(WithAgent):
             self.settle(agent)
             self.assertNotIn(2, self.colors())
 
+    def test_a_generation_that_has_gone_is_taken_at_once(self) -> None:
+        coming = [1]
+        with mock.patch.object(table, "generation_of", lambda *_: coming[0]):
+            agent = self.agent()
+            self.settle(agent)
+            for coming[0], link in ((2, (2, 3)), (1, (3, 4))):
+                self.step(agent, LINGER + 1, PAUSE)
+                self.without_link(*link)
+                self.settle(agent)
+                self.assertEqual(self.colors(), {1, 2})
+            self.assertNotIn("another certificate", " ".join(self.told))
+
     def test_a_prefix_comes(self) -> None:
         """The certificate is the same, so that its rows stay."""
         agent = self.agent()

@@ -15,7 +15,7 @@ ROOT = os.path.dirname(TOOLS)
 DATA = os.path.join("crates", "mrt", "data")
 WORDS = {"README.md": 2500, "docs/AUDIT.md": 2000}
 NARROW = ["README.md", "docs/COMMANDS.md", "docs/AUDIT.md", "docs/DECISIONS.md"]
-ALL_WORDS = 33000
+ALL_WORDS = 33500
 MADE = {"docs/CLAUSES.md", "docs/DEFINITIONS.md"}
 
 

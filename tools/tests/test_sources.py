@@ -1,4 +1,5 @@
 """Where the agent has LSAs from: FRR's own word, and what is heard as long as that is not there."""
+import select
 import socket
 import unittest
 from typing import Iterator
@@ -158,7 +159,8 @@ class TheEars(unittest.TestCase):
             self.addCleanup(end.close)
 
         def packets(source: socket.socket) -> Iterator[Caught]:
-            yield Caught("a", False, datagram(source.recv(65535), ends=("10.0.0.2", "224.0.0.5")))
+            while select.select([source], [], [], 0)[0]:
+                yield Caught("a", False, datagram(source.recv(65535), ends=("10.0.0.2", "224.0.0.5")))
 
         def look() -> Look | None:
             self.asked += 1
@@ -184,6 +186,21 @@ class TheEars(unittest.TestCase):
         told = self.ears.look(10 + AGAIN, NAMES)
         self.assertEqual(([lsa.record for lsa in told.found], told.lacks), (pair(), ()))
         self.assertEqual(self.ears.filenos(), [self.here.fileno()])
+
+    def test_a_neighbor_that_has_gone_since(self) -> None:
+        """Its last packet waits, and the daemon has taken it; what comes later does not count."""
+        self.answers()
+        self.ears.look(10, NAMES)
+        self.there.send(update(pair()))
+        assert self.daemon
+        self.daemon = self.daemon._replace(neighbors=frozenset())
+        told = self.ears.look(20, NAMES)
+        self.assertEqual(([lsa.record for lsa in told.found], told.lacks), (pair(), ()))
+        newer = router_lsa("2.2.2.2", [("1.1.1.1", "10.0.0.2", 1, 9)], sequence=0x80000002)
+        lsa = lsa_of(newer)
+        self.daemon.database[lsa.key] = instance_of(lsa)
+        self.there.send(update([newer]))
+        self.assertEqual(self.ears.look(30, NAMES).lacks, ("not heard: router-LSA of 2.2.2.2",))
 
     def test_soon_after_a_packet(self) -> None:
         self.answers()
