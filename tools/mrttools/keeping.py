@@ -25,7 +25,7 @@ from .table import Table, Wanted
 # Seconds between two looks at the kernel, whatever it tells, and at the least; those after which something is tried
 # again that failed; those after which it is told what lacks, and with --strict the table goes; and those that a run of
 # mrt may take.
-KERNEL_EVERY, KERNEL_LEAST, RETRY, LACKING, LIMIT = 5.0, 0.5, 60.0, 10.0, 60.0
+KERNEL_EVERY, KERNEL_LEAST, RETRY, LACKING, LIMIT = 5.0, 0.5, 60.0, 10.0, 30.0
 # Seconds between two writes of newer instances that say the same.
 KEPT_EVERY = 2.0
 # How many records at most are left out because mrt says so, and how often a table is tried without what is refused.
