@@ -16,9 +16,9 @@ from .ospfapi import Api, ApiFault
 SILENT = "the daemon does not answer"
 # Seconds between two questions for the daemon's list while packets come, and while none do.
 SOON, LATER = 0.25, 2.0
-# Seconds until the daemon's own word is asked for again after it failed, or was not what the daemon lists; those between
-# two looks at that; and those for which a look may find a change on its way.
-AGAIN, DISTRUSTED, COMPARED, ON_ITS_WAY = 1.0, 600.0, 30.0, 2.0
+# Seconds until the daemon's own word is asked for again after it failed, was not to be had, or was not what the daemon
+# lists; those between two looks at that; and those for which a look may find a change on its way.
+AGAIN, REFUSED, DISTRUSTED, COMPARED, ON_ITS_WAY = 1.0, 10.0, 600.0, 30.0, 2.0
 
 
 class Told(NamedTuple):
@@ -86,6 +86,7 @@ class Word:
         self.told = self.ears.told
         self.again = self.compared = 0.0
         self.differs: Database = {}
+        self.last = ""
 
     def name(self) -> str:
         return "FRR's OSPF API" if self.is_whole() else self.ears.name()
@@ -110,7 +111,7 @@ class Word:
                 if self.api.whole and now >= self.compared:
                     self.compare(self.api, now)
             except ApiFault as fault:
-                self.lose(str(fault), now + AGAIN)
+                self.lose(str(fault), now + (AGAIN if self.is_whole() else REFUSED))
         return self.told
 
     def connect(self, now: float) -> None:
@@ -123,15 +124,18 @@ class Word:
         try:
             self.api = Api(self.area)
         except ApiFault as fault:
-            self.lose(str(fault), now + AGAIN)
+            self.lose(str(fault), now + REFUSED)
 
     def lose(self, why: str, again: float) -> None:
-        """Goes back to what is heard, with what there was."""
+        """Goes back to what is heard, with what there was. The same reason is told once."""
         if self.api is not None:
             self.api.close()
         whole, self.api, self.again = self.is_whole(), None, again
-        self.tell(f"FRR's OSPF API: {why}")
+        if why != self.last:
+            self.tell(f"FRR's OSPF API: {why}")
+        self.last = why
         if whole:
+            self.last = ""
             self.ears = self.make_ears(self.told.found)
 
     def compare(self, api: Api, now: float) -> None:

@@ -125,6 +125,19 @@ class TheWord(unittest.TestCase):
         self.word.look(3 + AGAIN, NAMES)
         self.assertEqual(len(self.apis), 2)
 
+    def test_an_api_that_is_not_there(self) -> None:
+        """It is told once, and asked for now and then."""
+        self.word.ears.answers = True
+        refuse = mock.Mock(side_effect=ApiFault("port 2607: Connection refused"))
+        with mock.patch.object(sources, "Api", refuse):
+            for now in range(1, 60):
+                self.word.look(now, NAMES)
+        self.assertEqual(self.lines, ["FRR's OSPF API: port 2607: Connection refused"])
+        self.assertEqual(refuse.call_count, 6)
+        self.assertEqual(len(self.apis), 0)
+        self.word.look(99, NAMES)
+        self.assertEqual(len(self.apis), 1)
+
     def test_an_open_port(self) -> None:
         self.exposed, self.word.ears.answers = "TCP port 2607 is open", True
         for now in (1, 5, 100):
