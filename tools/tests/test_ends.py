@@ -3,13 +3,15 @@ import argparse
 import json
 import os
 import signal
+import socket
 import subprocess
 import sys
 import tempfile
+import time
 import unittest
 from unittest import mock
 
-from mrttools import agent_work, exposure, locking, status, table
+from mrttools import agent_work, batch, exposure, keeping, locking, status, table, waiting
 from mrttools.ending import ToolFault
 from mrttools.settings import Settings
 from tests.making import MRT, TOOLS
@@ -102,6 +104,33 @@ print("not here", flush=True)
             process.stdout.readline()
             process.send_signal(signal.SIGTERM)
             self.assertEqual(process.wait(9), 143)
+
+
+class Limits(unittest.TestCase):
+    """What bounds the agent, and what it starts."""
+
+    def test_no_program_takes_for_ever(self) -> None:
+        began = time.monotonic()
+        with mock.patch.object(batch, "LIMIT", 0.3), self.assertRaisesRegex(batch.Refusal, "more than 0.3 seconds"):
+            batch.Linux().run("sleep", "30")
+        self.assertLess(time.monotonic() - began, 10)
+
+    def test_systemd_is_told(self) -> None:
+        with tempfile.TemporaryDirectory() as folder, socket.socket(socket.AF_UNIX, socket.SOCK_DGRAM) as told:
+            told.bind(os.path.join(folder, "notify"))
+            told.settimeout(9)
+            with mock.patch.dict(os.environ, NOTIFY_SOCKET=os.path.join(folder, "notify")):
+                waiting.notify("READY=1")
+                waiting.alive()
+            self.assertEqual([told.recv(99), told.recv(99)], [b"READY=1", b"WATCHDOG=1"])
+        waiting.notify("READY=1")
+
+    def test_the_unit(self) -> None:
+        """Its watchdog is more patient than all that the agent waits for in one step."""
+        with open(os.path.join(TOOLS, "mrt-agent@.service"), encoding="ascii") as file:
+            lines = dict(line.strip().split("=", 1) for line in file if "=" in line and not line.startswith("#"))
+        self.assertEqual((lines["Type"], lines["MemoryMax"]), ("notify", "1G"))
+        self.assertGreater(int(lines["WatchdogSec"]), 5 * keeping.LIMIT + 3 * batch.LIMIT)
 
 
 class Locks(unittest.TestCase):

@@ -123,6 +123,24 @@ class Faults(WithAgent):
         reasons = {each["why"] for each in agent.status.facts["left_out"]}
         self.assertIn("no interface has the address 10.0.12.1", reasons)
 
+    def test_a_neighbor_without_an_address(self) -> None:
+        """What goes over that link is left out."""
+        records = []
+        for each in split(lsas_of(PLAN)):
+            told = [
+                (far, "0.0.0.7" if data.startswith("10.0.12.") and kind == 1 else data, kind, metric)
+                for far, data, kind, metric in told_links(each)
+            ]
+            records.append(lsa_of(router_lsa(lsas.spelled(each.router), told)))
+        self.put(records)
+        agent = self.agent()
+        self.settle(agent)
+        self.assertEqual(self.router.state(), self.by_fib())
+        self.assertIn("10.255.0.4/32", self.repairs())
+        self.assertNotIn("10.0.12.", " ".join(self.router.state()))
+        reasons = " ".join(each["why"] for each in agent.status.facts["left_out"])
+        self.assertIn("links without addresses are not taken", reasons)
+
     def test_an_odd_name_outside_the_area(self) -> None:
         addresses = self.router.addresses()
         odd = {"ifname": "a b;c", "addr_info": [{"local": "192.0.2.1", "prefixlen": 24}]}
