@@ -95,7 +95,7 @@ class Refusal(ToolFault):
 
 def put(router: Kernel, wanted: State) -> list[str]:
     """Brings a kernel to what is wanted; the lines of what changed. Where the batch fails in its middle the kernel gets
-    back what it had, and where it does not take that, nothing of it is left."""
+    back what it had, and where it does not take that, no repair is left, and packets on colors end."""
     have = router.state()
     lines = changes(have, wanted)
     if not lines:
@@ -109,7 +109,8 @@ def put(router: Kernel, wanted: State) -> list[str]:
 
 def taken_back(router: Kernel, had: State) -> str:
     """Undoes the half of a batch; what is told of it."""
-    for state, told in ((had, "the routes are as they were before"), (NOTHING, "all routes are taken away")):
+    ends = (bare(), "all repairs are taken away"), (NOTHING, "all routes are taken away")
+    for state, told in ((had, "the routes are as they were before"), *ends):
         try:
             router.batch(changes(router.state(), state))
         except Refusal:

@@ -3,9 +3,11 @@ fault is told, and costs what hangs on it."""
 from __future__ import annotations
 
 import argparse
+import contextlib
 import os
 import sys
 import traceback
+from typing import TextIO
 
 from . import batch, files, generations, kernel, lsas, table
 from .around import Around
@@ -35,7 +37,13 @@ BAD_DATABASE = 3
 
 
 def tell(line: str) -> None:
-    print(f"agent: {line}", file=sys.stderr, flush=True)
+    say(f"agent: {line}", sys.stderr)
+
+
+def say(line: str, to: TextIO) -> None:
+    """Writes a line, if there is room for it and somebody who reads: that nobody does ends no agent."""
+    with contextlib.suppress(OSError):
+        print(line, file=to, flush=True)
 
 
 class Agent:
@@ -90,7 +98,7 @@ class Agent:
         wanted = self.refused.without(self.generations.state(now))
         lines = batch.put(self.kernel, wanted)
         for line in lines:
-            print(line, flush=True)
+            say(line, sys.stdout)
         # (what is told up to here of one's own routes is in the state that there is now)
         self.news = self.news.and_then(self.kernel.news().without(kernel.PROTOCOL))
         self.state = self.kernel.state()
@@ -121,7 +129,7 @@ class Agent:
             return False
         if nft != self.kernel.marks():
             self.kernel.mark(nft)
-            print("nft table ip mrt", flush=True)
+            say("nft table ip mrt", sys.stdout)
         self.nft, self.marks = nft, self.kernel.marks()
         return True
 
@@ -144,7 +152,7 @@ class Agent:
         """Keeps the settings on the interfaces of the area."""
         if self.devices:
             for name in self.around.settings.apply(self.devices):
-                print(f"setting {name}", flush=True)
+                say(f"setting {name}", sys.stdout)
 
     # tables
 
@@ -314,10 +322,10 @@ class Agent:
         due = self.settling.due()
         if due is not None and now >= due:
             self.act(now)
-        following = self.generations.next(self.put_last)
-        if following is not None and now >= following:
-            self.put_or_refuse(now)
         if not self.said.dry_run:
+            following = self.generations.next(self.put_last)
+            if following is not None and now >= following:
+                self.put_or_refuse(now)
             self.look_after(news, now)
             self.keep(now)
 

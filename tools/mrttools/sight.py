@@ -20,6 +20,8 @@ from .sources import SILENT, Told, usable
 # Seconds between two looks at the profile; those for which a route of the daemon counts after it has gone, as it does
 # while the daemon finds new ways; and those for which an interface may lack that the daemon still tells of.
 PROFILE_EVERY, ROUTE_KEPT, SOFT = 0.3, 10.0, 2.0
+# Seconds between two looks at the daemon's routes while it changes them.
+ROUTES_EVERY = 0.2
 
 
 class Content(NamedTuple):
@@ -46,6 +48,7 @@ class Sight:
         self.stamp: tuple[int, int, int] | None = None
         # The prefixes to which the daemon has routes, and when others had none any more.
         self.routes: frozenset[str] = frozenset()
+        self.routes_told, self.routes_next = False, 0.0
         self.went: dict[str, float] = {}
         self.soft_since: float | None = None
 
@@ -56,8 +59,9 @@ class Sight:
             if found != self.interfaces:
                 self.interfaces = found
                 self.settling.note(now)
-        if self.protocol in news.protocols:
-            self.settling.note(now)
+        self.routes_told = self.routes_told or self.protocol in news.protocols
+        if self.routes_told and now >= self.routes_next:
+            self.look_at_routes(now)
         told = self.source.look(now, self.interfaces)
         if told is not self.told:
             self.take(told, now)
@@ -65,6 +69,13 @@ class Sight:
             self.profile_next = now + PROFILE_EVERY
             self.read_profile(now)
         self.forget_routes(now)
+
+    def look_at_routes(self, now: float) -> None:
+        """Notes that the daemon has routes to other prefixes. By other ways to the same ones nothing is another table, and
+        a router that flaps changes these each time: it would never be waited for."""
+        self.routes_told, self.routes_next = False, now + ROUTES_EVERY
+        if self.kernel.daemon_routes() != self.routes:
+            self.settling.note(now)
 
     def take(self, told: Told, now: float) -> None:
         """Takes the LSAs, and says which routers tell something else now."""
@@ -141,7 +152,8 @@ class Sight:
     def next(self, now: float) -> float:
         """When to look again, whatever comes."""
         kept = min(self.went.values(), default=now + ROUTE_KEPT) + ROUTE_KEPT
-        return min(self.source.next(now), self.profile_next if self.said.profile != "-" else kept, kept)
+        profile = self.profile_next if self.said.profile != "-" else kept
+        return min(self.source.next(now), profile, kept, self.routes_next if self.routes_told else kept)
 
     def forget_routes(self, now: float) -> None:
         """Notes that a route which the daemon has no more does not count any longer."""

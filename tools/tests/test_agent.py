@@ -95,6 +95,26 @@ class Batches(unittest.TestCase):
                 ],
             )
 
+    def test_an_interface_that_goes_before_the_batch(self) -> None:
+        """What was there cannot come back then. Packets on colors end: they never go on by primaries."""
+
+        class Gone(ModelKernel):
+            def batch(self, lines: list[str]) -> None:
+                self.lines = {place: line for place, line in self.lines.items() if " dev b " not in line}
+                for line in lines:
+                    if " replace " in line and " dev b " in line:
+                        raise Refusal("ip: Network is down")
+                    if " del " in line and line.replace(" del ", " ") not in self.lines:
+                        raise Refusal("ip: No such process")
+                    super().batch([line])
+
+        have = batch.state_of(ROUTES + kernel.last_routes())
+        router = Gone(have)
+        with self.assertRaises(Refusal) as caught:
+            batch.put(router, batch.state_of(ROUTES[:1] + kernel.last_routes()))
+        self.assertEqual(router.state(), batch.bare())
+        self.assertIn("all repairs are taken away", str(caught.exception))
+
     def test_a_kernel_that_takes_nothing_is_told(self) -> None:
         router = ModelKernel(batch.state_of(ROUTES))
         router.left, router.mends = 2, False

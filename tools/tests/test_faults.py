@@ -1,4 +1,5 @@
 """What faults cost, and that the agent goes on; and that it puts back what others take out of the kernel."""
+import contextlib
 import os
 import unittest
 from unittest import mock
@@ -188,6 +189,21 @@ class Faults(WithAgent):
         self.assertTrue(agent.fault)
         self.assertEqual(self.router.state(), before)
         self.step(agent, RETRY + 1, 0.3, LINGER + 1)
+        self.assertEqual(self.router.state(), self.by_fib())
+
+    def test_nobody_reads_what_it_says(self) -> None:
+        """A full disk, or a pipe that is closed, at both outputs."""
+        agent = self.agent()
+        with open("/dev/full", "w", encoding="ascii") as full:
+            with contextlib.redirect_stdout(full), contextlib.redirect_stderr(full):
+                for seconds in (0, 0.25):
+                    self.now += seconds
+                    agent.step()
+                with mock.patch.object(agent.sight, "look", side_effect=OSError("a fault")):
+                    agent.step()
+            with contextlib.suppress(OSError):
+                full.close()
+        self.assertTrue(self.repairs())
         self.assertEqual(self.router.state(), self.by_fib())
 
     def test_a_signal_and_strict(self) -> None:

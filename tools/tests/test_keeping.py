@@ -11,7 +11,8 @@ from mrttools.keeping import RETRY
 from mrttools.lsas import address, lsa_of, sealed, split
 from mrttools.netlink import News
 from mrttools.network import router_id
-from mrttools.sight import ROUTE_KEPT
+from mrttools.sight import ROUTE_KEPT, ROUTES_EVERY
+from mrttools.sources import SILENT, Told
 from tests.kernels import PLAN
 from tests.making import MRT, router_lsa
 from tests.standing import LINGER, WithAgent, told_links
@@ -85,7 +86,7 @@ class Changes(WithAgent):
         self.router.told = News(rules=True)
         self.step(agent, TURN - 0.1)
         self.router.told = News(rules=True)
-        self.step(agent, 0.2)
+        self.step(agent, ROUTES_EVERY)
         self.assertEqual(self.repairs().items() & before.items(), set())
         self.assertLess(self.by_fib(), self.router.state())
 
@@ -209,6 +210,16 @@ class Changes(WithAgent):
         self.assertEqual((self.router.state(), self.router.nft), (NOTHING, ""))
         self.assertTrue(agent.done and set(lines) > {f"rule add {kernel.rule_of(0)}"})
 
+    def test_a_dry_run_that_waits(self) -> None:
+        """It changes nothing either, however long, of what an agent before has left."""
+        self.settle(self.agent())
+        state = self.router.state()
+        self.source.told = Told([], (SILENT,))
+        agent = self.agent(dry_run=True, strict=True)
+        self.step(agent, 1, LINGER, LINGER)
+        self.assertFalse(agent.done)
+        self.assertEqual(self.router.state(), state)
+
     def test_a_new_start(self) -> None:
         """What is in the kernel stays, where it is right."""
         self.settle(self.agent())
@@ -245,6 +256,26 @@ class Routes(WithAgent):
         self.assertIn("10.255.0.3/32", self.repairs())
         self.step(agent, ROUTE_KEPT + 0.1, 0.3)
         self.assertNotIn("10.255.0.3/32", self.repairs())
+
+    def test_a_router_that_flaps_and_moves_the_daemons_routes(self) -> None:
+        """Other ways to the same prefixes make no other table, so that it is waited for as if there were none."""
+        agent = self.agent()
+        self.settle(agent)
+        self.now += 500
+        for _ in range(5):
+            self.router.told = News(protocols=frozenset({188}))
+            self.step(agent)
+            self.assertIsNone(agent.settling.due())
+            self.now += 1
+        # A prefix that is seen while others are on their way is not forgotten.
+        self.router.told = News(protocols=frozenset({188}))
+        self.step(agent)
+        self.router.daemon -= {"10.255.0.3/32"}
+        self.router.told = News(protocols=frozenset({188}))
+        self.step(agent)
+        self.assertLessEqual(agent.next(self.now), self.now + ROUTES_EVERY)
+        self.step(agent, ROUTES_EVERY)
+        self.assertIsNotNone(agent.settling.due())
 
     def test_hostile_records(self) -> None:
         """A router ID is no prefix, and neither are these networks, whatever the daemon has."""
