@@ -13,6 +13,20 @@ ROOT = "/proc/sys/net/ipv4"
 # keep the greater of both.
 OWN = {"ignore_routes_with_linkdown": "1", "accept_local": "1"}
 SHARED = {"rp_filter": "0", "send_redirects": "0"}
+# When the machine was started: then all settings began anew.
+BOOT = "/proc/sys/kernel/random/boot_id"
+
+
+def boot() -> str:
+    try:
+        with open(BOOT, encoding="ascii") as file:
+            return file.read().strip()
+    except OSError:
+        return ""
+
+
+def is_all(name: str) -> bool:
+    return name.startswith("conf/all/")
 
 
 class Settings:
@@ -24,9 +38,10 @@ class Settings:
         try:
             with open(kept, encoding="ascii") as file:
                 read = json.load(file)
-            self.before = {
-                name: value for name, value in read.items() if self.is_name(name) and str(value).isdecimal()
-            }
+            if read.get("boot", boot()) == boot():
+                self.before = {
+                    name: value for name, value in read.items() if self.is_name(name) and str(value).isdecimal()
+                }
         except (OSError, ValueError, AttributeError):
             pass
 
@@ -46,6 +61,13 @@ class Settings:
         with open(os.path.join(self.root, name), "w", encoding="ascii") as file:
             file.write(value)
 
+    def was(self, name: str, *ours: str) -> str | None:
+        """The value before the agent's own. One that is none of these is somebody else's, and counts from then on."""
+        now = self.read(name)
+        if now not in ours:
+            self.before.pop(name, None)
+        return self.before.get(name, now)
+
     def wanted(self, devices: Iterable[str]) -> dict[str, str]:
         """The values that there are to be."""
         found = {"ip_forward": "1"}
@@ -53,12 +75,13 @@ class Settings:
         every = [os.path.relpath(each, self.root) for each in glob.glob(os.path.join(self.root, "conf", "*"))]
         for name, value in SHARED.items():
             # (what `all` was before counts for the others as long as it is changed)
-            all_before = self.before.get(f"conf/all/{name}") or self.read(f"conf/all/{name}") or "0"
+            all_before = self.was(f"conf/all/{name}", value) or "0"
             for each in every:
-                own = self.before.get(f"{each}/{name}") or self.read(f"{each}/{name}")
                 if each == "conf/all" or each in area:
                     found[f"{each}/{name}"] = value
-                elif own is not None and int(own) < int(all_before):
+                    continue
+                own = self.was(f"{each}/{name}", value, all_before)
+                if own is not None and int(own) < int(all_before):
                     found[f"{each}/{name}"] = all_before
         return found | {f"{each}/{name}": value for each in area & set(every) for name, value in OWN.items()}
 
@@ -74,8 +97,9 @@ class Settings:
             changed.append(name)
         if changed:
             # (the values before stand in the file before they are gone)
-            files.replace(self.kept, json.dumps(self.before).encode("ascii"))
-        for name in changed:
+            files.replace(self.kept, json.dumps(self.before | {"boot": boot()}).encode("ascii"))
+        # (`all` comes last, and first where it comes back: no other interface is without its own meanwhile)
+        for name in sorted(changed, key=is_all):
             self.put(name, wanted[name] if name in wanted else self.before.pop(name))
         return changed
 
@@ -86,7 +110,7 @@ class Settings:
 
     def put_back(self) -> None:
         """All as it was before."""
-        for name, value in sorted(self.before.items(), key=lambda each: each[0].startswith("conf/all/")):
-            self.put(name, value)
+        for name in sorted(self.before, key=is_all, reverse=True):
+            self.put(name, self.before[name])
         self.before = {}
         files.replace(self.kept, b"{}")

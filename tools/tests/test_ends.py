@@ -60,6 +60,46 @@ class KernelSettings(unittest.TestCase):
         settings.put_back()
         self.assertEqual(self.place.read(), before)
 
+    def test_what_others_set_meanwhile(self) -> None:
+        """On other interfaces and on `all` it counts, and stays."""
+        self.place.write("conf/customer/rp_filter", "0")
+        settings = Settings(self.place.kept, self.place.root)
+        settings.apply(["to-r2"])
+        self.place.write("conf/customer/rp_filter", "2")
+        self.assertEqual(settings.apply(["to-r2"]), [])
+        self.place.write("conf/all/rp_filter", "2")
+        settings.apply(["to-r2"])
+        found = self.place.read()
+        self.assertEqual((found["conf/all/rp_filter"], found["conf/to-r3/rp_filter"]), ("0", "2"))
+        settings.put_back()
+        found = self.place.read()
+        read = [found[f"conf/{device}/rp_filter"] for device in ("all", "customer", "to-r2", "to-r3")]
+        self.assertEqual(read, ["2", "2", "1", "1"])
+
+    def test_a_machine_that_was_started_anew(self) -> None:
+        """Its settings began anew: what they were before that is no more."""
+        settings = Settings(self.place.kept, self.place.root)
+        settings.apply(["to-r2"])
+        self.assertEqual(Settings(self.place.kept, self.place.root).before, settings.before)
+        with mock.patch("mrttools.settings.boot", return_value="another"):
+            self.assertEqual(Settings(self.place.kept, self.place.root).before, {})
+
+    def test_no_interface_is_without_its_filter(self) -> None:
+        """Not for a moment: of `all` and its own the greater counts."""
+        self.place.write("conf/customer/rp_filter", "0")
+        settings = Settings(self.place.kept, self.place.root)
+        write, least = settings.write, []
+
+        def watched(name: str, value: str) -> None:
+            write(name, value)
+            found = self.place.read()
+            least.append(max(found["conf/all/rp_filter"], found["conf/customer/rp_filter"]))
+
+        with mock.patch.object(settings, "write", watched):
+            settings.apply(["to-r2"])
+            settings.put_back()
+        self.assertEqual(set(least), {"1"})
+
     def test_a_file_that_names_no_settings(self) -> None:
         with open(self.place.kept, "w", encoding="ascii") as file:
             json.dump({"../../x": "1", "conf/a/b": "1", "conf/to-r2/rp_filter": "x", "ip_forward": "0"}, file)
