@@ -10,6 +10,7 @@ from typing import Any, Iterable, Protocol
 from . import kernel
 from .ending import REFUSED, ToolFault
 from .kernel import MARK, MASK, PROTOCOL, TABLES
+from .waiting import alive
 
 # Lines of `ip -batch` without their verb, as `route 10.0.0.1/32 via ..` and `rule pref ..`.
 State = frozenset[str]
@@ -125,6 +126,7 @@ class Linux:
 
     def run(self, *words: str, text: str = "") -> str:
         """What a program prints. It is given a file, which it reads to its end even where this process is gone."""
+        alive()
         with tempfile.TemporaryFile("w+") as given:
             given.write(text)
             given.seek(0)

@@ -14,6 +14,7 @@ from collections import deque
 from typing import IO, Iterator, Sequence
 
 from .ending import READ_FAULT, REFUSED, ToolFault
+from .waiting import alive
 
 ROOT = os.path.dirname(os.path.dirname(os.path.dirname(os.path.realpath(__file__))))
 MRT = os.path.join(ROOT, "mrt")
@@ -53,6 +54,8 @@ class Program:
     def run(self, command: str, *words: str) -> bytes:
         """What a command writes. Where it refuses, its line is told, and the tool ends with the status."""
         words = (self.database, *words) if command == "lfa" else (self.database, self.profile, *words)
+        # (of several runs one after another the watchdog waits for each alone)
+        alive()
         try:
             done = subprocess.run(
                 [self.path, command, *words],
@@ -85,6 +88,7 @@ class Program:
         is given, what is not there by then is left out."""
         shells = [Shell(self, command, each, first) for first in range(min(len(each), os.cpu_count() or 1))]
         end = time.monotonic() + self.limit if self.limit else None
+        alive()
         try:
             with selectors.DefaultSelector() as selector:
                 for shell in shells:

@@ -1,10 +1,13 @@
 """How the tools run mrt: once, or many times side by side, within a time."""
 import contextlib
 import os
+import socket
 import tempfile
 import time
 import unittest
+from unittest import mock
 
+from mrttools.batch import Linux
 from mrttools.ending import ToolFault
 from mrttools.program import Program
 
@@ -66,6 +69,21 @@ class Running(unittest.TestCase):
     def test_a_run_that_takes_too_long(self) -> None:
         with self.assertRaisesRegex(ToolFault, "hang took more than 0.5 seconds"):
             Program(self.path, "db", "pf", limit=0.5).run("hang")
+
+    def test_the_watchdog_waits_for_each_run_alone(self) -> None:
+        name = os.path.join(os.path.dirname(self.path), "notify")
+        told = self.enterContext(contextlib.closing(socket.socket(socket.AF_UNIX, socket.SOCK_DGRAM)))
+        told.bind(name)
+        told.settimeout(5)
+        self.enterContext(mock.patch.dict(os.environ, {"NOTIFY_SOCKET": name}))
+        mrt = Program(self.path, "db", "pf")
+        for work in (
+            lambda: mrt.run("certify", "x"),
+            lambda: list(mrt.many("proxy", [("a", "b")], untold=13)),
+            lambda: Linux().run("true"),
+        ):
+            work()
+            self.assertEqual(told.recv(100), b"WATCHDOG=1")
 
     def test_what_a_refusal_says(self) -> None:
         with open(self.path, "a", encoding="ascii") as file:
