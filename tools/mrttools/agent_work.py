@@ -85,4 +85,5 @@ def remove(folder: str) -> int:
         batch.put(here, NOTHING)
         here.mark(kernel.NO_MARKING)
         Settings(os.path.join(folder, SETTINGS)).put_back()
+        status.taken_away(folder)
     return 0

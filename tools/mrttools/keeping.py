@@ -92,6 +92,9 @@ class Agent:
             self.mark(found if whole else kernel.marking(self.said.dscp, set()))
             self.put(now)
         self.begun = True
+        if not self.said.dry_run:
+            # (what an agent before has said is so no more)
+            self.write_status(now)
 
     def put(self, now: float) -> int:
         """Brings the kernel to what it is to have by now; how many lines that were."""
@@ -242,6 +245,8 @@ class Agent:
         self.kernel.mark(kernel.NO_MARKING)
         self.around.settings.put_back()
         self.status.bare()
+        with contextlib.suppress(OSError):
+            self.write_status(self.around.clock())
 
     # the work
 

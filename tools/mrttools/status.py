@@ -13,6 +13,9 @@ from .locking import is_locked
 from .table import Table
 
 FORMAT = {"format": "semborui-agent", "version": 1}
+NAME = "agent.status"
+# What there is where there is no table.
+NO_TABLE: dict[str, Any] = {"certificate": None, "generation": None, "since": None, "prefixes": 0, "repairs": 0, "left_out": []}
 
 
 def clock() -> str:
@@ -38,14 +41,7 @@ class Status:
 
     def bare(self) -> None:
         """There is no table."""
-        self.facts |= {
-            "certificate": None,
-            "generation": None,
-            "since": None,
-            "prefixes": 0,
-            "repairs": 0,
-            "left_out": [],
-        }
+        self.facts |= NO_TABLE
 
     def installed(self, made: Table, digest: str, is_other: bool, left: dict[str, str]) -> None:
         """A table is in the kernel."""
@@ -75,7 +71,7 @@ class Status:
 
 def read(folder: str) -> dict[str, Any]:
     """The facts of the agent of a folder; of one that runs they are those of now."""
-    name = os.path.join(folder, "agent.status")
+    name = os.path.join(folder, NAME)
     if not os.path.exists(name):
         raise ToolFault(f"{folder}: no agent has been here", NOT_THERE)
     try:
@@ -86,6 +82,13 @@ def read(folder: str) -> dict[str, Any]:
     except (ValueError, KeyError, TypeError) as fault:
         raise ToolFault(f"{name}: it is not what an agent writes", READ_FAULT) from fault
     return dict(facts) | ({"at": clock()} if is_locked(folder) else {"state": "stopped"})
+
+
+def taken_away(folder: str) -> None:
+    """Writes down that the table of an agent that has ended is gone."""
+    name = os.path.join(folder, NAME)
+    if os.path.exists(name):
+        files.replace(name, json.dumps(read(folder) | NO_TABLE, indent=1).encode("ascii"))
 
 
 def lines_of(facts: dict[str, Any]) -> list[str]:

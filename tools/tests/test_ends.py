@@ -221,6 +221,25 @@ class OfItself(WithAgent):
                 )
                 self.assertTrue(done.stdout.startswith(first), done.stdout)
 
+    def test_a_table_that_is_gone(self) -> None:
+        """At the end with --strict, after --remove, and before an agent that is started anew has made one."""
+        for strict in (True, False):
+            agent = self.agent(strict=strict)
+            self.settle(agent)
+            if strict:
+                self.quietly(agent.take_away)
+            else:
+                settings = agent.around.settings
+                with mock.patch.multiple(agent_work, Linux=lambda: self.router, Settings=lambda name: settings):
+                    agent_work.remove(self.folder)
+            self.assertEqual(self.repairs(), {})
+            facts = status.read(self.folder)
+            self.assertEqual((facts["certificate"], facts["repairs"], facts["state"]), (None, 0, "stopped"))
+        self.settle(self.agent())
+        self.assertTrue(status.read(self.folder)["certificate"])
+        self.agent()
+        self.assertIsNone(status.read(self.folder)["certificate"])
+
     def test_no_agent(self) -> None:
         done = subprocess.run(
             [f"{TOOLS}/agent", "--status", self.folder], capture_output=True, text=True, check=False
