@@ -7,7 +7,8 @@ import time
 import unittest
 from unittest import mock
 
-from mrttools.batch import Linux
+from mrttools import batch
+from mrttools.batch import Linux, Refusal
 from mrttools.ending import ToolFault
 from mrttools.program import Program
 
@@ -69,6 +70,12 @@ class Running(unittest.TestCase):
     def test_a_run_that_takes_too_long(self) -> None:
         with self.assertRaisesRegex(ToolFault, "hang took more than 0.5 seconds"):
             Program(self.path, "db", "pf", limit=0.5).run("hang")
+
+    def test_a_program_of_the_system_that_hangs(self) -> None:
+        began = time.monotonic()
+        with mock.patch.object(batch, "LIMIT", 0.5), self.assertRaisesRegex(Refusal, "it took more than 0.5 seconds"):
+            Linux().run("sleep", "20")
+        self.assertLess(time.monotonic() - began, 15)
 
     def test_the_watchdog_waits_for_each_run_alone(self) -> None:
         name = os.path.join(os.path.dirname(self.path), "notify")

@@ -368,6 +368,9 @@ class Installing(Checkout):
             f"CapabilityBoundingSet={rights}",
             f"AmbientCapabilities={rights}",
             "User=%i",
+            "Type=notify",
+            "WatchdogSec=240",
+            "MemoryMax=1G",
         ):
             self.assertIn(line, lines)
         if shutil.which("systemd-analyze"):
