@@ -48,7 +48,7 @@ def read(folder: str) -> tuple[dict[Node, Said], list[str]]:
             node = area.node_of(said["router"])
             if said["format"] != FORMAT or node.kind != ROUTER:
                 raise ValueError(name)
-        except (ValueError, KeyError, TypeError, AttributeError, OSError):
+        except (ValueError, KeyError, TypeError, AttributeError, OSError, RecursionError):
             bad.append(name)
             continue
         if node not in found or str(said.get("at")) > str(found[node].get("at")):

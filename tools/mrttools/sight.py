@@ -3,6 +3,7 @@ from __future__ import annotations
 
 import argparse
 import os
+import time
 from typing import NamedTuple
 
 from . import lsas, table
@@ -20,8 +21,9 @@ from .sources import SILENT, Told, usable
 # Seconds between two looks at the profile; those for which a route of the daemon counts after it has gone, as it does
 # while the daemon finds new ways; and those for which an interface may lack that the daemon still tells of.
 PROFILE_EVERY, ROUTE_KEPT, SOFT = 0.3, 10.0, 2.0
-# Seconds between two looks at the daemon's routes while it changes them.
-ROUTES_EVERY = 0.2
+# Seconds between two looks at the daemon's routes while it changes them, and how often the time of a look at the least:
+# beside BIRD these may be those of the Internet.
+ROUTES_EVERY, ROUTES_SHARE = 0.2, 10
 
 
 class Content(NamedTuple):
@@ -73,9 +75,11 @@ class Sight:
     def look_at_routes(self, now: float) -> None:
         """Notes that the daemon has routes to other prefixes. By other ways to the same ones nothing is another table, and
         a router that flaps changes these each time: it would never be waited for."""
-        self.routes_told, self.routes_next = False, now + ROUTES_EVERY
+        began = time.monotonic()
         if self.kernel.daemon_routes() != self.routes:
             self.settling.note(now)
+        took = time.monotonic() - began
+        self.routes_told, self.routes_next = False, now + max(ROUTES_EVERY, ROUTES_SHARE * took)
 
     def take(self, told: Told, now: float) -> None:
         """Takes the LSAs, and says which routers tell something else now."""

@@ -1,6 +1,7 @@
 """What the agent makes of changes, with a kernel, a source of LSAs and a clock that stand in."""
 import json
 import os
+import time
 import unittest
 from unittest import mock
 
@@ -276,6 +277,22 @@ class Routes(WithAgent):
         self.assertLessEqual(agent.next(self.now), self.now + ROUTES_EVERY)
         self.step(agent, ROUTES_EVERY)
         self.assertIsNotNone(agent.settling.due())
+
+    def test_a_daemon_with_the_routes_of_the_internet(self) -> None:
+        """A look at them takes long, and is a small part of the time."""
+        agent = self.agent()
+        self.settle(agent)
+
+        def slow() -> frozenset[str]:
+            time.sleep(0.1)
+            return self.router.daemon
+
+        with mock.patch.object(self.router, "daemon_routes", side_effect=slow) as looked:
+            for _ in range(10):
+                self.router.told = News(protocols=frozenset({188}))
+                self.step(agent)
+                self.now += 0.2
+        self.assertIn(looked.call_count, (1, 2))
 
     def test_hostile_records(self) -> None:
         """A router ID is no prefix, and neither are these networks, whatever the daemon has."""

@@ -133,6 +133,7 @@ class Installed(Folder):
         self.say("9.9.9.9", self.right)
         self.write("other.json", "{}")
         self.write("list.json", "[1]")
+        self.write("deep.json", "[" * 200000)
         found = self.values("--installed", self.folder)
         states = {each["router"]: each["installed"] for each in found["installed"]["routers"]}
         self.assertEqual(
@@ -141,7 +142,7 @@ class Installed(Folder):
         self.assertEqual(found["verdict"], "not")
         self.assertEqual(
             (found["installed"]["others"], found["installed"]["bad_files"]),
-            (["9.9.9.9"], ["list.json", "other.json"]),
+            (["9.9.9.9"], ["deep.json", "list.json", "other.json"]),
         )
 
     def test_the_newest_of_two_counts(self) -> None:
@@ -160,11 +161,18 @@ class Installed(Folder):
 class InstalledPages(Case):
     def test_the_first_line(self) -> None:
         right = origin.digest(Program(MRT, LAN[0], LAN[1]).run("certify", ROUTERS[0]))
+        whole: dict[str, Any] = {"left_out": []}
         for router in ROUTERS:
-            self.say(statement(router, right))
+            self.say(statement(router, right) | whole)
         found = self.page("--installed", self.folder, *LAN)
         self.assertTrue(found.of("verdict").startswith("\u2714 Protected now: all "), found.of("verdict"))
-        self.say(statement(ROUTERS[3], "00") | {"waits": "<b>hostile</b>"})
+        self.say(statement(ROUTERS[2], right) | {"left_out": [{"what": "10.255.0.9/32", "why": "no <i>route</i>"}]})
+        found = self.page("--installed", self.folder, *LAN)
+        self.assertTrue(found.of("verdict").startswith("\u2714 Protected: all "), found.of("verdict"))
+        self.assertIn("1 of 6 routers leaves something out.", found.of("verdict"))
+        self.assertIn("no &lt;i&gt;route&lt;/i&gt;", self.source)
+        self.say(statement(ROUTERS[2], right) | whole)
+        self.say(statement(ROUTERS[3], "00") | whole | {"waits": "<b>hostile</b>"})
         found = self.page("--installed", self.folder, *LAN)
         wanted = f"\u2716 Not protected now: 1 of 6 routers is not known to have the certificate of this area ( {ROUTERS[3]} )."
         self.assertTrue(
