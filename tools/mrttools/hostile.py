@@ -162,4 +162,4 @@ def run(agents: Agents, say: Callable[[str], None]) -> bool:
     say(
         f"hostile: a link of {IDENTIFIER} with the metric 0: {len(repairs)} agents left out its LSA, with {sum(repairs)} repairs"
     )
-    return all(repairs) and not any(row.agents for row in rows if row.what not in SHARED)
+    return all(repairs) and not any(row.agents for row in rows if row.what != SHARED)

@@ -5,23 +5,29 @@ import errno
 import fcntl
 import os
 import socket
+import time
 from typing import IO
 
 from .ending import REFUSED, ToolFault
 
 # An abstract name, of which each network namespace has its own.
 NAME = "\0semborui/agent"
+# How often a folder's lock is tried, and seconds between.
+TRIES, PAUSE = 5, 0.1
 
 
 def lock_folder(folder: str) -> IO[bytes]:
     """Held as long as the file is open."""
     file = open(os.path.join(folder, "lock"), "wb")
-    try:
-        fcntl.flock(file, fcntl.LOCK_EX | fcntl.LOCK_NB)
-    except BlockingIOError:
-        file.close()
-        raise ToolFault(f"{folder}: another agent has its files here", REFUSED) from None
-    return file
+    # (who asks for the status has it for a moment)
+    for _ in range(TRIES):
+        try:
+            fcntl.flock(file, fcntl.LOCK_EX | fcntl.LOCK_NB)
+            return file
+        except BlockingIOError:
+            time.sleep(PAUSE)
+    file.close()
+    raise ToolFault(f"{folder}: another agent has its files here", REFUSED)
 
 
 def is_locked(folder: str) -> bool:

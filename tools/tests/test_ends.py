@@ -1,5 +1,6 @@
 """The agent's settings of the kernel, its locks, what a signal does, and what it says of itself."""
 import argparse
+import fcntl
 import json
 import os
 import signal
@@ -7,6 +8,7 @@ import socket
 import subprocess
 import sys
 import tempfile
+import threading
 import time
 import unittest
 from unittest import mock
@@ -182,6 +184,16 @@ class Locks(unittest.TestCase):
                     locking.lock_folder(folder)
             self.assertFalse(locking.is_locked(folder))
             locking.lock_folder(folder).close()
+
+    def test_who_asks_keeps_no_agent_away(self) -> None:
+        with tempfile.TemporaryDirectory() as folder:
+            locking.lock_folder(folder).close()
+            asked = open(os.path.join(folder, "lock"), "rb")
+            fcntl.flock(asked, fcntl.LOCK_SH)
+            later = threading.Timer(0.15, asked.close)
+            later.start()
+            locking.lock_folder(folder).close()
+            later.join()
 
     def test_one_agent_for_a_namespace(self) -> None:
         with mock.patch.object(locking, "NAME", f"\0semborui/test/{os.getpid()}"):

@@ -370,6 +370,7 @@ class Installing(Checkout):
             "User=%i",
             "Type=notify",
             "WatchdogSec=240",
+            "TimeoutStopSec=300",
             "MemoryMax=1G",
         ):
             self.assertIn(line, lines)
