@@ -23,8 +23,8 @@ class Router(batch.Kernel, Protocol):
     def addresses(self) -> object:
         """What `ip -j -4 address show up` says."""
 
-    def daemon_routes(self) -> frozenset[str]:
-        """The prefixes to which the daemon has routes in the main table."""
+    def daemon_routes(self, wanted: frozenset[str]) -> frozenset[str]:
+        """The prefixes of those wanted to which the daemon has routes in the main table."""
 
     def news(self) -> News:
         """What has changed since this was asked last."""

@@ -34,6 +34,7 @@ class Here(Linux):
     def addresses(self) -> object:
         return netlink.addresses()
 
-    def daemon_routes(self) -> frozenset[str]:
-        """The prefixes to which the daemon has routes in the main table."""
-        return owners.routes_in([each for each in self.routes(self.number) if "table" not in each], "the kernel")
+    def daemon_routes(self, wanted: frozenset[str]) -> frozenset[str]:
+        """The prefixes of those wanted to which the daemon has routes in the main table."""
+        found = netlink.routes(self.number, wanted)
+        return owners.routes_in([each for each in found if "table" not in each], "the kernel")

@@ -15,7 +15,7 @@ from .lsas import ROUTER
 from .program import Program
 
 FORMAT = "semborui-agent"
-# Seconds after which what an agent said is old.
+# Seconds after which what an agent said is old; so is what it said that long in the future.
 OLD = 300
 # What is told of a router, the worst first: it has no certificate, another one, has said nothing, has said so long ago or
 # its agent has stopped, or has the right one.
@@ -43,7 +43,10 @@ def read(folder: str) -> tuple[dict[Node, Said], list[str]]:
         raise ToolFault(f"{folder}: it is no folder", READ_FAULT) from None
     for name in names:
         try:
-            with open(os.path.join(folder, name), encoding="utf-8") as file:
+            path = os.path.join(folder, name)
+            if not os.path.isfile(path):
+                raise ValueError(name)
+            with open(path, encoding="utf-8") as file:
                 said = json.load(file)
             node = area.node_of(said["router"])
             if said["format"] != FORMAT or node.kind != ROUTER:
@@ -51,7 +54,7 @@ def read(folder: str) -> tuple[dict[Node, Said], list[str]]:
         except (ValueError, KeyError, TypeError, AttributeError, OSError, RecursionError):
             bad.append(name)
             continue
-        if node not in found or str(said.get("at")) > str(found[node].get("at")):
+        if node not in found or (seconds_of(said.get("at")) or 0) > (seconds_of(found[node].get("at")) or 0):
             found[node] = said
     return found, bad
 
@@ -64,7 +67,7 @@ def state_of(said: Said | None, digest: str, now: float) -> str:
     if said["certificate"] != digest:
         return "behind"
     at = seconds_of(said.get("at"))
-    return "old" if at is None or now - at > OLD or said.get("state") == "stopped" else "current"
+    return "old" if at is None or abs(now - at) > OLD or said.get("state") == "stopped" else "current"
 
 
 def left_out(said: Said | None) -> list[dict[str, str]]:

@@ -5,7 +5,7 @@ from __future__ import annotations
 
 import socket
 import struct
-from typing import Any, Iterator, NamedTuple
+from typing import Any, Callable, Iterator, NamedTuple
 
 REQUEST, DUMP, INTERRUPTED = 1, 0x300, 0x10
 ERROR, DONE = 2, 3
@@ -57,18 +57,20 @@ def number(found: Attributes, kind: int, otherwise: int = 0) -> int:
     return int(struct.unpack("=I", found[kind])[0]) if kind in found else otherwise
 
 
-def dump(kind: int, head: bytes) -> list[Message]:
-    """All that the kernel has of a kind. Where it changes while it is told, it is told again."""
+def dump(kind: int, head: bytes, keep: Callable[[Message], bool] | None = None) -> list[Message]:
+    """All that the kernel has of a kind, or what is kept of it as it is read. Where it changes while it is told, it is told
+    again."""
     for _ in range(TRIES):
-        found, whole = dumped(kind, head)
+        found, whole = dumped(kind, head, keep)
         if whole:
             return found
     raise OSError(f"the kernel's answer was cut into {TRIES} times")
 
 
-def dumped(kind: int, head: bytes) -> tuple[list[Message], bool]:
+def dumped(kind: int, head: bytes, keep: Callable[[Message], bool] | None) -> tuple[list[Message], bool]:
     """An answer, and whether nothing changed meanwhile."""
     found: list[Message] = []
+    flags = 0
     with socket.socket(socket.AF_NETLINK, socket.SOCK_RAW, socket.NETLINK_ROUTE) as asked:
         asked.settimeout(PATIENCE)
         asked.setsockopt(OPTIONS, STRICT, 1)
@@ -78,9 +80,11 @@ def dumped(kind: int, head: bytes) -> tuple[list[Message], bool]:
                 if message.kind == ERROR:
                     code = -struct.unpack_from("=i", message.body)[0]
                     raise OSError(code, "the kernel refuses to tell of its routes")
+                flags |= message.flags
                 if message.kind == DONE:
-                    return found, not any(each.flags & INTERRUPTED for each in [message, *found])
-                found.append(message)
+                    return found, not flags & INTERRUPTED
+                if keep is None or keep(message):
+                    found.append(message)
 
 
 # what there is
@@ -111,16 +115,29 @@ def addresses() -> list[Said]:
     return [{"ifname": links[index][0], "addr_info": own} for index, own in infos.items()]
 
 
-def routes(protocol: int) -> list[Said]:
-    """What `ip -N -j -4 route show table all proto PROTOCOL` says, of it what is used."""
+def routes(protocol: int, wanted: frozenset[str] | None = None) -> list[Said]:
+    """What `ip -N -j -4 route show table all proto PROTOCOL` says, of it what is used; of the prefixes wanted alone, where
+    there are such: a protocol may have the routes of the Internet."""
+    networks = frozenset(map(network_of, wanted or ()))
+    keep = (lambda message: destination(message.body) in networks) if wanted is not None else None
     links, found = names(), []
-    for message in dump(GET_ROUTE, struct.pack("=8BI", socket.AF_INET, 0, 0, 0, 0, protocol, 0, 0, 0)):
+    for message in dump(GET_ROUTE, struct.pack("=8BI", socket.AF_INET, 0, 0, 0, 0, protocol, 0, 0, 0), keep):
         length, table, told, scope, kind = struct.unpack_from("=xBxxBBBB", message.body)
         if message.kind == NEW_ROUTE and told == protocol:
             found.append(
                 route_of(attributes(message.body, 12), links, (length, table, scope, kind)) | {"protocol": str(told)}
             )
     return found
+
+
+def network_of(prefix: str) -> tuple[bytes, int]:
+    number, length = prefix.split("/")
+    return socket.inet_aton(number), int(length)
+
+
+def destination(body: bytes) -> tuple[bytes, int]:
+    """The network of a route."""
+    return attributes(body, 12).get(1, bytes(4)), body[1]
 
 
 def route_of(found: Attributes, links: dict[int, tuple[str, bool]], head: tuple[int, int, int, int]) -> Said:

@@ -3,6 +3,7 @@ from __future__ import annotations
 
 import argparse
 import os
+import stat
 import time
 from typing import NamedTuple
 
@@ -14,7 +15,7 @@ from .kernel import Interfaces
 from .lsas import HEADER, POINT_TO_POINT, ROUTER, TRANSIT, Key, Lsa
 from .netlink import News
 from .nexthops import LEAST_ADDRESS
-from .owners import Daemon
+from .owners import Daemon, owners_of
 from .settling import Settling
 from .sources import SILENT, Told, usable
 
@@ -48,7 +49,8 @@ class Sight:
         self.bodies: dict[Key, bytes] = {}
         self.profile, self.unread, self.profile_next = b"", "not read yet" if said.profile != "-" else "", 0.0
         self.stamp: tuple[int, int, int] | None = None
-        # The prefixes to which the daemon has routes, and when others had none any more.
+        # The prefixes of the area; those of them to which the daemon has routes, and when others had none any more.
+        self.prefixes: frozenset[str] = frozenset()
         self.routes: frozenset[str] = frozenset()
         self.routes_told, self.routes_next = False, 0.0
         self.went: dict[str, float] = {}
@@ -76,7 +78,7 @@ class Sight:
         """Notes that the daemon has routes to other prefixes. By other ways to the same ones nothing is another table, and
         a router that flaps changes these each time: it would never be waited for."""
         began = time.monotonic()
-        if self.kernel.daemon_routes() != self.routes:
+        if self.kernel.daemon_routes(self.prefixes) != self.routes:
             self.settling.note(now)
         took = time.monotonic() - began
         self.routes_told, self.routes_next = False, now + max(ROUTES_EVERY, ROUTES_SHARE * took)
@@ -101,6 +103,9 @@ class Sight:
             return
         try:
             found = os.stat(self.said.profile)
+            if not stat.S_ISREG(found.st_mode):
+                self.unread = f"{self.said.profile}: it is no file"
+                return
             stamp = found.st_ino, found.st_mtime_ns, found.st_size
             if stamp == self.stamp and not self.unread:
                 return
@@ -146,8 +151,9 @@ class Sight:
         return Content(frozenset(self.bodies.items()), self.profile, self.interfaces)
 
     def daemon(self, now: float) -> Daemon:
-        """The prefixes to which the daemon has routes, or had until a while ago."""
-        there = self.kernel.daemon_routes()
+        """The prefixes of the area to which the daemon has routes, or had until a while ago."""
+        self.prefixes = frozenset(prefix.text for prefix in owners_of(self.found))
+        there = self.kernel.daemon_routes(self.prefixes)
         self.went |= dict.fromkeys(self.routes - there, now)
         self.routes = there
         self.went = {prefix: at for prefix, at in self.went.items() if prefix not in there}

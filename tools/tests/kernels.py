@@ -63,8 +63,8 @@ class ModelKernel:
             for each in PLAN.interfaces(1)
         ]
 
-    def daemon_routes(self) -> frozenset[str]:
-        return self.daemon
+    def daemon_routes(self, wanted: frozenset[str]) -> frozenset[str]:
+        return self.daemon & wanted
 
     def news(self) -> News:
         told, self.told = self.told, News()

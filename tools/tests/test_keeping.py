@@ -191,6 +191,19 @@ class Changes(WithAgent):
         self.assertEqual(self.router.state(), self.by_fib())
         self.assertIn("agent: accepted root 10.255.0.2 nodes 4 links 6", self.told)
 
+    def test_a_profile_that_is_a_pipe(self) -> None:
+        """Nobody writes into it, and the agent does not wait for that."""
+        os.remove(self.name("profile"))
+        os.mkfifo(self.name("profile"))
+        agent = self.agent()
+        self.settle(agent)
+        self.assertEqual(agent.sight.lacks(), [f"{self.name('profile')}: it is no file"])
+        os.remove(self.name("profile"))
+        self.write_profile(2)
+        self.step(agent, 1)
+        self.settle(agent)
+        self.assertEqual(self.router.state(), self.by_fib())
+
     def test_newer_instances_that_say_the_same(self) -> None:
         agent = self.agent()
         self.settle(agent)
@@ -246,6 +259,17 @@ class Routes(WithAgent):
         self.settle(agent)
         self.assertIn("10.255.0.3/32", self.repairs())
 
+    def test_a_route_of_another_protocol_of_the_daemon(self) -> None:
+        """BIRD's routes by BGP come and go, and no table is made for them."""
+        agent = self.agent()
+        self.settle(agent)
+        self.now += 500
+        self.router.daemon |= {"203.0.113.0/24"}
+        self.router.told = News(protocols=frozenset({188}))
+        self.step(agent)
+        self.assertIsNone(agent.settling.due())
+        self.assertNotIn("203.0.113.0/24", agent.sight.daemon(self.now).routes or ())
+
     def test_a_route_that_goes_counts_for_a_while(self) -> None:
         """The daemon has none while it finds new ways, and then the repair is what carries packets."""
         agent = self.agent()
@@ -283,9 +307,9 @@ class Routes(WithAgent):
         agent = self.agent()
         self.settle(agent)
 
-        def slow() -> frozenset[str]:
+        def slow(wanted: frozenset[str]) -> frozenset[str]:
             time.sleep(0.1)
-            return self.router.daemon
+            return self.router.daemon & wanted
 
         with mock.patch.object(self.router, "daemon_routes", side_effect=slow) as looked:
             for _ in range(10):

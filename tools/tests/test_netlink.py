@@ -14,6 +14,7 @@ from tests.making import TOOLS
 # Run in a namespace of its own: what both readers have of it, and the news of a change.
 PROGRAM = """
 import tempfile
+import tracemalloc
 from mrttools import batch, kernel, netlink
 from mrttools.batch import Linux
 from mrttools.here import Here
@@ -55,7 +56,7 @@ ip.run("ip", "route", "add", "10.1.0.0/16", "via", "192.0.2.9", "proto", "188")
 ip.run("ip", "route", "add", "10.2.0.0/16", "via", "192.0.2.9", "proto", "188", "table", "5")
 ip.run("ip", "route", "add", "blackhole", "10.3.0.0/16", "proto", "188")
 assert here.news().protocols == {188}
-assert here.daemon_routes() == {"10.1.0.0/16"}
+assert here.daemon_routes(frozenset({"10.1.0.0/16", "10.2.0.0/16", "10.3.0.0/16"})) == {"10.1.0.0/16"}
 said = ip.told("address", "show", "up")
 told = [{"ifname": each["ifname"], "addr_info": [
     {name: one[name] for name in ("local", "prefixlen", "address") if name in one} for one in each["addr_info"]]} for each in said if each]
@@ -73,7 +74,14 @@ here.mark(kernel.marking(kernel.POOL, {"a"}))
 assert Settings(f"{folder}/settings.json").apply(["a"]) and open(name).read() == "1\\n"
 assert agent_work.remove(folder) == 0
 assert (here.state(), here.marks(), open(name).read()) == (batch.NOTHING, "", "0\\n")
-assert here.daemon_routes() == {"10.1.0.0/16"}
+assert here.daemon_routes(frozenset({"10.1.0.0/16"})) == {"10.1.0.0/16"}
+
+# Of a table of the Internet what is wanted alone is kept.
+many = "".join(f"route add 10.{64 + n // 250}.{n % 250}.0/24 via 192.0.2.9 proto 188\\n" for n in range(20000))
+run(many)
+tracemalloc.start()
+assert here.daemon_routes(frozenset({"10.1.0.0/16", "10.1.0.0/24", "10.70.7.0/24"})) == {"10.1.0.0/16", "10.70.7.0/24"}
+assert tracemalloc.get_traced_memory()[1] < 1 << 20, tracemalloc.get_traced_memory()
 print("the same")
 """
 

@@ -134,6 +134,7 @@ class Installed(Folder):
         self.write("other.json", "{}")
         self.write("list.json", "[1]")
         self.write("deep.json", "[" * 200000)
+        os.mkfifo(os.path.join(self.folder, "pipe.json"))
         found = self.values("--installed", self.folder)
         states = {each["router"]: each["installed"] for each in found["installed"]["routers"]}
         self.assertEqual(
@@ -142,15 +143,25 @@ class Installed(Folder):
         self.assertEqual(found["verdict"], "not")
         self.assertEqual(
             (found["installed"]["others"], found["installed"]["bad_files"]),
-            (["9.9.9.9"], ["deep.json", "list.json", "other.json"]),
+            (["9.9.9.9"], ["deep.json", "list.json", "other.json", "pipe.json"]),
         )
 
     def test_the_newest_of_two_counts(self) -> None:
         self.say(ROUTERS[0], self.right)
         os.rename(os.path.join(self.folder, f"{ROUTERS[0]}.json"), os.path.join(self.folder, "a.json"))
-        self.say(ROUTERS[0], None, at="2020-01-01T00:00:00Z")
-        found, _ = installed.read(self.folder)
-        self.assertEqual(found[area.node_of(ROUTERS[0])]["certificate"], self.right)
+        for at in ("2020-01-01T00:00:00Z", "soon"):
+            self.say(ROUTERS[0], None, at=at)
+            found, _ = installed.read(self.folder)
+            self.assertEqual(found[area.node_of(ROUTERS[0])]["certificate"], self.right)
+
+    def test_a_time_to_come(self) -> None:
+        """A router whose clock is wrong does not say for ever that it has the right table."""
+        said = statement(ROUTERS[0], self.right) | {"at": "2026-12-01T00:00:00Z"}
+        now = installed.seconds_of(said["at"])
+        assert now is not None
+        for later, state in ((0, "current"), (installed.OLD, "current"), (installed.OLD + 1, "old")):
+            self.assertEqual(installed.state_of(said, self.right, now - later), state)
+            self.assertEqual(installed.state_of(said, self.right, now + later), state)
 
     def test_a_folder_that_is_none(self) -> None:
         for place, line in ((LAN[0], "it is no folder"), ("/nonexistent", "No such file or directory")):
