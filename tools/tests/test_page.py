@@ -15,7 +15,7 @@ from html.parser import HTMLParser
 from typing import Any
 from unittest import mock
 
-from mrttools import page, verdict
+from mrttools import installed, page, verdict
 from mrttools.progress import Progress
 from tests.making import DATA, MRT, TOOLS, router_lsa
 from tests.test_cuts import name, records_of
@@ -261,6 +261,21 @@ class InABrowser(Case):
             "say(`${near < old} ${box.x > left}`)"
         )
         self.assertEqual(self.dom("", script).of("said"), "true true")
+
+
+class Sentences(Case):
+    def test_one_after_another(self) -> None:
+        """Each of those that a page may have or not stands apart from the one before."""
+        for place, said in enumerate(({}, {"router": name(9), "format": installed.FORMAT})):
+            with open(os.path.join(self.folder, f"{place}.json"), "w", encoding="ascii") as file:
+                json.dump(said, file)
+        records = [*records_of([(1, 2), (2, 3), (1, 3)], [], [10]), router_lsa(name(4), [])]
+        found = self.of(records, f"no-mrt {name(3)}\n", "--installed", self.folder)
+        self.assertIn(
+            f"The profile keeps out {name(3)}. No link of an island leads to {name(4)}. 6 pairs of routers have no way at all.",
+            found.of("picture"),
+        )
+        self.assertIn(f". No member of an island: {name(9)}. Not the statement of an agent: 0.json.", found.of("installed"))
 
 
 class Lacking(unittest.TestCase):
