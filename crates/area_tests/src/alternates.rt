@@ -74,13 +74,11 @@ fn put_column(g: &Graph, cert: &Cert, column: &Column, t: NodeNo, page: &mut Pag
     requires target { t < length g.now.ids }
 {
     for n in 0..g.node_count() {
-        page.count("to ", t.get());
-        page.count(" node ", n);
+        page.tell("to % node %", &[t.get(), n]);
         put_both(g, cert, column, t, &Element::Node(NodeNo::new(n)), page);
     }
     for e in 0..g.link_count() {
-        page.count("to ", t.get());
-        page.count(" link ", e);
+        page.tell("to % link %", &[t.get(), e]);
         put_both(g, cert, column, t, &Element::Link(LinkNo::new(e)), page);
     }
 }

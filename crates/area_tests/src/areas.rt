@@ -1,36 +1,19 @@
-//! Areas, and what is asked of one: a node by its name, a bond by a router and link data, an arc by its number, the island
-//! of a router.
+//! Areas, and what is asked of one. `area FILE`; `find FILE NODE..`: a node by its name; `named FILE ROUTER DATA`: a bond by a
+//! router and link data; `numbered FILE`: the arcs of the first node, each by its number.
 
-use crate::islands::put_island_of;
 use crate::told::{address, node, word};
 use area_graph::{Arc, ArcNo, Area, Bond, Spot};
 use parts_of_tests::Page;
-use std::alloc::Global;
-
-/// `area FILE`; `find FILE NODE..`; `named FILE ROUTER DATA`; `numbered FILE`: the arcs of the first node, each by its number;
-/// `island FILE ROUTER TEXT..`, with the text of a profile.
-pub fn answer(alloc: Global, area: &Area, call: &str, words: &[&str], page: &mut Page) -> bool {
-    match call {
-        "area" => put_area(page, area),
-        "find" => put_found(page, area, words),
-        "named" => put_named(page, area, words),
-        "numbered" => put_numbered(page, area),
-        "island" => put_island_of(alloc, area, words, page),
-        _ => return false,
-    }
-    true
-}
 
 /// The nodes, each with its number, its name, the place where it is found by that, and its arcs; and the bonds.
-fn put_area(page: &mut Page, area: &Area) {
+pub fn put_area(page: &mut Page, area: &Area) {
     if area.count() == 0 {
         page.put("no node\n");
     }
     for number in 0..area.count() {
         let spot = Spot::new(number);
         let id = area.id(spot);
-        page.count("", number);
-        page.put(": ");
+        page.tell("%: ", &[number]);
         page.name(id);
         put_place(page, area.find(id));
         for arc in area.arcs(spot) {
@@ -49,12 +32,12 @@ fn put_place(page: &mut Page, spot: Option<Spot>) {
 }
 
 fn put_arc(page: &mut Page, arc: &Arc) {
-    page.count("  ", arc.tail.get());
-    page.count(" to ", arc.to.get());
-    page.count(" metric ", arc.metric);
+    page.tell(
+        "  % to % metric %",
+        &[arc.tail.get(), arc.to.get(), arc.metric],
+    );
     page.address(" data ", arc.link_data);
-    page.count(" bond ", arc.bond.get());
-    page.put("\n");
+    page.tell(" bond %\n", &[arc.bond.get()]);
 }
 
 fn put_bonds(page: &mut Page, bonds: &[Bond]) {
@@ -62,18 +45,15 @@ fn put_bonds(page: &mut Page, bonds: &[Bond]) {
         let bond = &bonds[number];
         page.number("bond ", number as u64);
         page.put(if bond.paired { ": pair" } else { ": single" });
-        page.count(" ", bond.a.get());
-        page.count(" ", bond.b.get());
+        page.tell(" % %", &[bond.a.get(), bond.b.get()]);
         page.address(" data ", bond.data_a);
         page.address(" ", bond.data_b);
-        page.count(" metric ", bond.metric_a);
-        page.count(" ", bond.metric_b);
-        page.put("\n");
+        page.tell(" metric % %\n", &[bond.metric_a, bond.metric_b]);
     }
 }
 
 /// The place of each node that a word names.
-fn put_found(page: &mut Page, area: &Area, words: &[&str]) {
+pub fn put_found(page: &mut Page, area: &Area, words: &[&str]) {
     for name in words {
         page.put(name);
         put_place(page, area.find(node(name)));
@@ -81,7 +61,7 @@ fn put_found(page: &mut Page, area: &Area, words: &[&str]) {
 }
 
 /// The bond of a router's first arc with link data.
-fn put_named(page: &mut Page, area: &Area, words: &[&str]) {
+pub fn put_named(page: &mut Page, area: &Area, words: &[&str]) {
     match area.named(address(word(words, 0)), address(word(words, 1))) {
         Some(bond) => page.count("bond ", bond.get()),
         None => page.put("none"),
@@ -90,7 +70,7 @@ fn put_named(page: &mut Page, area: &Area, words: &[&str]) {
 }
 
 /// As many arcs, by number, as the first node has.
-fn put_numbered(page: &mut Page, area: &Area) {
+pub fn put_numbered(page: &mut Page, area: &Area) {
     if area.count() == 0 {
         return;
     }

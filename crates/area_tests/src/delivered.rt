@@ -1,10 +1,13 @@
 //! Link State Update packets: those of a file, and packets that are delivered to routers, one at a time and by a script.
+//!
+//! `updates FILE`. `deliver FILE PACKET ROUTER`: of one router that no packet has reached. `script TEXT..`. `flood FILE TEXT..`: the
+//! text of a script, where databases are compared by how many nodes their areas have.
 
 ghost use Rattle.std.specs.Prelude.{◌≡◌, ◌≤◌, IfSome, length};
 
 use crate::lsa_text::put_lsas;
 use crate::lsas::kind_word;
-use crate::told::{file, front, number, number_16, text, word};
+use crate::told::{front, number, number_16, text, word};
 use area_graph::build_area;
 use file_key::FileKey;
 use flood_core::{Answer, Flood, SharedLsdb, Update, UpdateError, UpdateKind, read_updates};
@@ -13,26 +16,7 @@ use mrt_graph::{NoMemory, NodeId};
 use parts_of_tests::Page;
 use std::alloc::Global;
 
-/// `updates FILE`. `deliver FILE PACKET ROUTER`: of one router that no packet has reached. `script TEXT..`. `flood FILE TEXT..`: the
-/// text of a script, where databases are compared by how many nodes their areas have.
-pub fn answer(
-    alloc: Global,
-    call: &str,
-    files: &[Vec<u8>],
-    words: &[&str],
-    page: &mut Page,
-) -> bool {
-    match call {
-        "updates" => put_read(alloc, file(files, 0), page),
-        "deliver" => put_delivery(alloc, file(files, 0), words, page),
-        "script" => put_script(alloc, words, page),
-        "flood" => put_flood(alloc, file(files, 0), words, page),
-        _ => return false,
-    }
-    true
-}
-
-fn put_read(alloc: Global, bytes: &[u8], page: &mut Page)
+pub fn put_read(alloc: Global, bytes: &[u8], page: &mut Page)
     requires { length bytes.now ≤ 8388608 }
 {
     match read_updates(alloc, bytes) {
@@ -87,7 +71,7 @@ fn flood_of(alloc: Global, packets: &[u8]) -> Option<Flood>
     }
 }
 
-fn put_delivery(alloc: Global, packets: &[u8], words: &[&str], page: &mut Page)
+pub fn put_delivery(alloc: Global, packets: &[u8], words: &[&str], page: &mut Page)
     requires { length packets.now ≤ 8388608 }
 {
     let Some(flood) = flood_of(alloc, packets) else {
@@ -114,7 +98,7 @@ fn put_answer(page: &mut Page, answer: Answer) {
     }
 }
 
-fn put_script(alloc: Global, words: &[&str], page: &mut Page) {
+pub fn put_script(alloc: Global, words: &[&str], page: &mut Page) {
     let script = text(alloc, words);
     page.heed(&script);
     match read_flood_script(alloc, front(script.bytes())) {
@@ -191,7 +175,7 @@ fn nodes(alloc: Global, database: &SharedLsdb, router: u32) -> Option<u16> {
 }
 
 /// The text of a script over packets.
-fn put_flood(alloc: Global, packets: &[u8], words: &[&str], page: &mut Page)
+pub fn put_flood(alloc: Global, packets: &[u8], words: &[&str], page: &mut Page)
     requires { length packets.now ≤ 8388608 }
 {
     let told = text(alloc, words);

@@ -4,6 +4,7 @@
 ghost use Rattle.std.specs.Prelude.{◌<◌, IfSome, length};
 ghost use Rattle.mrt_graph.specs.GraphInvariant.{IsNetwork};
 
+use crate::calls::Call;
 use crate::told::{number_16, word};
 use area_graph::{ArcNo, Area, Spot};
 use lfa_alt::{Lfa, lfa_text, loop_free};
@@ -13,15 +14,11 @@ use primary_alt::{Primary, primaries};
 use std::alloc::Global;
 
 /// `primaries FILE ROUTER`, `loop_free FILE ROUTER` and `lfa_text FILE ROUTER`, with the router's number in the area.
-pub fn answer(alloc: Global, area: &Area, call: &str, words: &[&str], page: &mut Page) -> bool {
-    if !matches!(call, "primaries" | "loop_free" | "lfa_text") {
-        return false;
-    }
+pub fn put_hops(alloc: Global, area: &Area, call: Call, words: &[&str], page: &mut Page) {
     match source(area, number_16(word(words, 0))) {
         Some(source) => put_of_router(alloc, area, call, source, page),
         None => page.put("no router\n"),
     }
-    true
 }
 
 /// The router of an area with this number.
@@ -39,16 +36,16 @@ fn source(area: &Area, number: u16) -> Option<Spot>
     }
 }
 
-fn put_of_router(alloc: Global, area: &Area, call: &str, source: Spot, page: &mut Page)
+fn put_of_router(alloc: Global, area: &Area, call: Call, source: Spot, page: &mut Page)
     requires within { source < length area.now.ids }
     requires router { ¬ IsNetwork area.now.ids source }
 {
     match call {
-        "primaries" => match primaries(alloc, area, source) {
+        Call::Primaries => match primaries(alloc, area, source) {
             Ok(entries) => put_primaries(page, &entries),
             Err(_) => page.lacks_memory(),
         },
-        "loop_free" => match loop_free(alloc, area, source) {
+        Call::LoopFree => match loop_free(alloc, area, source) {
             Ok(entries) => put_alternates(page, &entries),
             Err(_) => page.lacks_memory(),
         },
@@ -90,10 +87,7 @@ fn put_alternates(page: &mut Page, entries: &[Option<Lfa>]) {
 /// Puts the arcs of a hop, and the node that they lead to.
 fn put_hop(page: &mut Page, first: ArcNo, second: Option<ArcNo>, next: Spot) {
     match second {
-        Some(second) => {
-            page.count(": arcs ", first.get());
-            page.count(" ", second.get());
-        }
+        Some(second) => page.tell(": arcs % %", &[first.get(), second.get()]),
         None => page.count(": arc ", first.get()),
     }
     page.count(" next ", next.get());

@@ -1,4 +1,7 @@
-//! Databases in which instances of router-LSAs are installed one after another.
+//! Databases in which instances of router-LSAs are installed one after another. `install INSTANCE..`: each at its own place.
+//! `orders INSTANCE..`: five of them in every order, each at its place in the order.
+//!
+//! An instance is told as `PLACE:ROUTER:SEQUENCE:AGE:CHECKSUM:FLAGS:TO,TO`, with the checksum in hexadecimal digits.
 
 ghost use Rattle.std.specs.Prelude.{◌≡◌, IsTrue, OnOk, Some};
 ghost use Rattle.lsdb.specs.Installing.{IsBehind};
@@ -11,19 +14,6 @@ use mrt_graph::NoMemory;
 use ospf_lsa::Lsa;
 use parts_of_tests::Page;
 use std::alloc::Global;
-
-/// `install INSTANCE..`: instances, each at its own place. `orders INSTANCE..`: five of them in every order, each at its place
-/// in the order.
-///
-/// An instance is told as `PLACE:ROUTER:SEQUENCE:AGE:CHECKSUM:FLAGS:TO,TO`, with the checksum in hexadecimal digits.
-pub fn answer(alloc: Global, call: &str, words: &[&str], page: &mut Page) -> bool {
-    match call {
-        "install" => put_installed(alloc, words, page),
-        "orders" => put_orders(alloc, words, page),
-        _ => return false,
-    }
-    true
-}
 
 /// Installs at a place the instance that a word tells.
 fn put_told(alloc: Global, database: &mut Lsdb, at: u32, told: &str) -> Result<Change, NoMemory>
@@ -62,7 +52,7 @@ fn is_behind(greatest: Option<u32>, at: u32) -> bool
     }
 }
 
-fn put_installed(alloc: Global, words: &[&str], page: &mut Page) {
+pub fn put_installed(alloc: Global, words: &[&str], page: &mut Page) {
     let mut database = Lsdb::new(alloc);
     let mut greatest = None;
     for told in words {
@@ -159,7 +149,7 @@ fn put_order(alloc: Global, words: &[&str], number: usize, page: &mut Page) {
 }
 
 /// What comes of five instances, after each number of an order from which on it is another.
-fn put_orders(alloc: Global, words: &[&str], page: &mut Page) {
+pub fn put_orders(alloc: Global, words: &[&str], page: &mut Page) {
     let mut last = Page::new(alloc);
     for number in 0..120 {
         let mut told = Page::new(alloc);

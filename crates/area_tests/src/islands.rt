@@ -11,11 +11,8 @@ use mrt_island::{
 use parts_of_tests::Page;
 use std::alloc::Global;
 
-/// `profile ROUTER DATA TEXT..`: what a profile says of a router and of its links with link data; and no other call.
-pub fn answer(alloc: Global, call: &str, words: &[&str], page: &mut Page) -> bool {
-    if call != "profile" {
-        return false;
-    }
+/// `profile ROUTER DATA TEXT..`: what a profile says of a router and of its links with link data.
+pub fn put_profile(alloc: Global, words: &[&str], page: &mut Page) {
     if let Some(profile) = profile(alloc, after(words, 2), page) {
         let (router, data) = (address(word(words, 0)), address(word(words, 1)));
         page.number("priority ", profile.priority(router) as u64);
@@ -23,7 +20,6 @@ pub fn answer(alloc: Global, call: &str, words: &[&str], page: &mut Page) -> boo
         page.truth(" eligible ", profile.eligible(router, data));
         page.put("\n");
     }
-    true
 }
 
 /// The profile that words tell; where they tell none, it says why.
@@ -86,10 +82,7 @@ fn put_island(page: &mut Page, island: &Island) {
     }
     for number in 0..island.graph.link_count() {
         let link = island.graph.link(LinkNo::new(number));
-        page.count("link ", number);
-        page.count(": ", link.a.get());
-        page.count(" ", link.b.get());
-        page.put("\n");
+        page.tell("link %: % %\n", &[number, link.a.get(), link.b.get()]);
     }
     page.count("root ", island.root.get());
     put_links(page, island.link_of.as_slice());
@@ -98,16 +91,13 @@ fn put_island(page: &mut Page, island: &Island) {
 fn put_node(page: &mut Page, graph: &Graph, node: NodeNo)
     requires { node < length graph.now.ids }
 {
-    page.count("", node.get());
-    page.put(": ");
+    page.tell("%: ", &[node.get()]);
     page.name(graph.id(node));
     page.put("\n");
     for end in graph.ends(node) {
-        page.count("  to ", end.to.get());
-        page.count(" metric ", end.metric);
+        page.tell("  to % metric %", &[end.to.get(), end.metric]);
         page.address(" data ", end.link_data);
-        page.count(" link ", end.link.get());
-        page.put("\n");
+        page.tell(" link %\n", &[end.link.get()]);
     }
 }
 

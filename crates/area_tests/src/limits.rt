@@ -10,19 +10,23 @@ use mrt_island::{Profile, find_island};
 use parts_of_tests::Page;
 use std::alloc::Global;
 
-/// `ring ROUTERS`: so many routers in a ring. `apart ROUTERS LINKS`: so many routers, of which the first two have so many links
-/// to each other. The answer has the counts of the area, and of the island of router 0.
-pub fn answer(alloc: Global, call: &str, words: &[&str], page: &mut Page) -> bool {
-    let links = match call {
-        "ring" => None,
-        "apart" => Some(number(word(words, 1)) as usize),
-        _ => return false,
-    };
-    match database_of(alloc, number(word(words, 0)), links) {
-        Ok(database) => put_counts(alloc, &database, page),
+/// `ring ROUTERS`: so many routers in a ring.
+pub fn put_ring(alloc: Global, words: &[&str], page: &mut Page) {
+    put_counts(alloc, number(word(words, 0)), None, page);
+}
+
+/// `apart ROUTERS LINKS`: so many routers, of which the first two have so many links to each other.
+pub fn put_apart(alloc: Global, words: &[&str], page: &mut Page) {
+    let links = number(word(words, 1)) as usize;
+    put_counts(alloc, number(word(words, 0)), Some(links), page);
+}
+
+/// Puts the counts of an area, and of the island of router 0.
+fn put_counts(alloc: Global, routers: u32, links: Option<usize>, page: &mut Page) {
+    match database_of(alloc, routers, links) {
+        Ok(database) => put_area(alloc, &database, page),
         Err(_) => page.lacks_memory(),
     }
-    true
 }
 
 /// The two routers beside one, around a ring of so many.
@@ -68,7 +72,7 @@ fn database_of(alloc: Global, routers: u32, links: Option<usize>) -> Result<Lsdb
     Ok(database)
 }
 
-fn put_counts(alloc: Global, database: &Lsdb, page: &mut Page) {
+fn put_area(alloc: Global, database: &Lsdb, page: &mut Page) {
     let Some(area) = area_in(alloc, database, page) else {
         return;
     };
@@ -77,9 +81,8 @@ fn put_counts(alloc: Global, database: &Lsdb, page: &mut Page) {
     page.put("\n");
     match find_island(alloc, &area, &Profile::empty(alloc), 0) {
         Ok(island) => {
-            page.count("island of router 0: nodes ", island.graph.node_count());
-            page.count(" links ", island.graph.link_count());
-            page.put("\n");
+            let (nodes, links) = (island.graph.node_count(), island.graph.link_count());
+            page.tell("island of router 0: nodes % links %\n", &[nodes, links]);
         }
         Err(error) => put_error(page, error),
     }

@@ -1,39 +1,17 @@
-//! LSAs that are read, copied and compared, and the sums of bytes.
+//! LSAs that are read, copied and compared, and the sums of bytes: `bytes FILE`, `lsas FILE`, `copies FILE`, `written FILE`,
+//! `cuts FILE`, `alike FILE FILE`, `sums FILE FROM`.
 
 ghost use Rattle.std.specs.Prelude.{◌≤◌, length};
 
+use crate::calls::Call;
 use crate::lsa_text::{put_lsa, put_lsas};
-use crate::told::{file, number, word};
-use crate::written::{put_all_written, put_longest, put_router};
+use crate::written::put_all_written;
 use ospf_lsa::{Lsa, LsaError, LsaKind, read_lsas, sums};
 use parts_of_tests::Page;
 use std::alloc::Global;
 
-/// `bytes FILE`, `lsas FILE`, `copies FILE`, `written FILE`, `cuts FILE`, `alike FILE FILE`, `sums FILE FROM`; and what is written
-/// and read, `written_router FIELD..` and `longest COUNT LESS`.
-pub fn answer(
-    alloc: Global,
-    call: &str,
-    files: &[Vec<u8>],
-    words: &[&str],
-    page: &mut Page,
-) -> bool {
-    let bytes = file(files, 0);
-    match call {
-        "bytes" => put_bytes(page, bytes),
-        "lsas" | "copies" | "written" => put_read(alloc, call, bytes, page),
-        "cuts" => put_cuts(alloc, bytes, page),
-        "alike" => put_alike(alloc, bytes, file(files, 1), page),
-        "sums" => put_sums(page, bytes, number(word(words, 0)) as usize),
-        "written_router" => put_router(alloc, words, page),
-        "longest" => put_longest(alloc, words, page),
-        _ => return false,
-    }
-    true
-}
-
 /// The bytes of a file, sixteen a line.
-fn put_bytes(page: &mut Page, bytes: &[u8]) {
+pub fn put_bytes(page: &mut Page, bytes: &[u8]) {
     for line in bytes.chunks(16) {
         page.hex("", line);
         page.put("\n");
@@ -41,14 +19,14 @@ fn put_bytes(page: &mut Page, bytes: &[u8]) {
 }
 
 /// Puts the LSAs that bytes are: as they are, copied, written again, or how many there are; or why they are none.
-pub fn put_read(alloc: Global, call: &str, bytes: &[u8], page: &mut Page)
+pub fn put_read(alloc: Global, call: Call, bytes: &[u8], page: &mut Page)
     requires { length bytes.now ≤ 8388608 }
 {
     match read_lsas(alloc, bytes) {
         Ok(lsas) => match call {
-            "copies" => put_all_copied(alloc, &lsas, page),
-            "written" => put_all_written(alloc, &lsas, page),
-            "count" => put_count(page, lsas.len()),
+            Call::Copies => put_all_copied(alloc, &lsas, page),
+            Call::Written => put_all_written(alloc, &lsas, page),
+            Call::Cuts => put_count(page, lsas.len()),
             _ => put_lsas(page, &lsas),
         },
         Err(error) => put_error(page, error),
@@ -85,13 +63,13 @@ pub fn kind_word(kind: LsaKind) -> &'static str {
 }
 
 /// What comes of the front of a file, after each count of bytes from which on it is another.
-fn put_cuts(alloc: Global, bytes: &[u8], page: &mut Page)
+pub fn put_cuts(alloc: Global, bytes: &[u8], page: &mut Page)
     requires { length bytes.now ≤ 8388608 }
 {
     let mut last = Page::new(alloc);
     for count in 0..bytes.len() + 1 {
         let mut told = Page::new(alloc);
-        put_read(alloc, "count", &bytes[..count], &mut told);
+        put_read(alloc, Call::Cuts, &bytes[..count], &mut told);
         if told.bytes() != last.bytes() {
             page.number("", count as u64);
             page.put(" bytes: ");
@@ -119,7 +97,7 @@ fn put_all_copied(alloc: Global, lsas: &[Lsa], page: &mut Page) {
 }
 
 /// Whether the last LSAs of two files are equal, and whether their bodies are.
-fn put_alike(alloc: Global, bytes: &[u8], others: &[u8], page: &mut Page)
+pub fn put_alike(alloc: Global, bytes: &[u8], others: &[u8], page: &mut Page)
     requires bytes { length bytes.now ≤ 8388608 }
     requires others { length others.now ≤ 8388608 }
 {
@@ -145,7 +123,7 @@ fn put_last_alike(page: &mut Page, lsas: &[Lsa], others: &[Lsa]) {
 }
 
 /// The sums of the bytes of a file from a place on.
-fn put_sums(page: &mut Page, bytes: &[u8], from: usize) {
+pub fn put_sums(page: &mut Page, bytes: &[u8], from: usize) {
     let (first, second) = sums(&bytes[bytes.len().min(from)..]);
     page.number("", first as u64);
     page.number(" ", second as u64);

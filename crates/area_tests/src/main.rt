@@ -5,6 +5,7 @@
 mod alternates;
 mod area_told;
 mod areas;
+mod calls;
 mod delivered;
 mod failures;
 mod hops;

@@ -5,6 +5,7 @@ ghost use Rattle.area_graph.specs.Fits.{Fits};
 ghost use Rattle.mrt_graph.specs.AcceptedFor.{IsAcceptedAt, IsAcceptedFor};
 
 use crate::alternates::{put_alternate, put_repairs};
+use crate::calls::Call;
 use crate::failures::put_packets;
 use crate::told::{number, word};
 use area_graph::Area;
@@ -15,33 +16,31 @@ use mrt_survey::survey_text;
 use parts_of_tests::Page;
 use std::alloc::Global;
 
-/// Answers what is asked of the certificate of an island. A survey's number is the second word.
-pub fn answer(
+/// Puts what a call asks of the certificate of an island. A survey's number is the second word.
+pub fn put_of_certificate(
     alloc: Global,
     area: &Area,
     island: &Island,
-    call: &str,
+    call: Call,
     words: &[&str],
     page: &mut Page,
-) -> bool
+)
     requires { Fits area.now island.now.graph island.now.link_of }
 {
     let (g, root) = (&island.graph, island.root);
     if root.get() >= g.node_count() {
-        return false;
+        return page.put("no root\n");
     }
     let Ok(cert) = certificate(alloc, g, root) else {
-        page.lacks_memory();
-        return true;
+        return page.lacks_memory();
     };
     match call {
-        "alternate" => put_alternate(g, &cert, words, page),
-        "repairs" => put_repairs(alloc, g, root, &cert, page),
-        "fabric" => put_packets(alloc, area, island, &cert, words, page),
-        "survey" => page.made(survey_text(alloc, number(word(words, 1)), g, root, &cert)),
-        _ => return false,
+        Call::Alternate => put_alternate(g, &cert, words, page),
+        Call::Repairs => put_repairs(alloc, g, root, &cert, page),
+        Call::Fabric => put_packets(alloc, area, island, &cert, words, page),
+        Call::Survey => page.made(survey_text(alloc, number(word(words, 1)), g, root, &cert)),
+        _ => page.put("no such call\n"),
     }
-    true
 }
 
 /// The certificate of a graph and its root.

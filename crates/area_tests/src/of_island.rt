@@ -3,7 +3,8 @@
 ghost use Rattle.std.specs.Prelude.{◌≤◌, IfSome, length};
 ghost use Rattle.area_graph.specs.Fits.{Fits};
 
-use crate::of_certificate;
+use crate::calls::Call;
+use crate::of_certificate::put_of_certificate;
 use crate::orders::put_order_text;
 use crate::routes::put_routes;
 use crate::tables::{put_table_head, put_table_line};
@@ -13,21 +14,18 @@ use mrt_island::{Island, find_island, read_profile};
 use parts_of_tests::Page;
 use std::alloc::Global;
 
-/// Answers what is asked of an island.
-pub fn answer(
+/// Puts what a call asks of an island.
+pub fn put_of_island(
     alloc: Global,
     area: &Area,
-    call: &str,
+    call: Call,
     files: &[Vec<u8>],
     words: &[&str],
     page: &mut Page,
-) -> bool {
+) {
     match island_of(alloc, area, file(files, 1), address(word(words, 0))) {
-        Some(island) => answer_on(alloc, area, &island, call, words, page),
-        None => {
-            page.put("no island\n");
-            true
-        }
+        Some(island) => put_asked(alloc, area, &island, call, words, page),
+        None => page.put("no island\n"),
     }
 }
 
@@ -42,22 +40,21 @@ fn island_of(alloc: Global, area: &Area, profile: &[u8], router: u32) -> Option<
     }
 }
 
-fn answer_on(
+fn put_asked(
     alloc: Global,
     area: &Area,
     island: &Island,
-    call: &str,
+    call: Call,
     words: &[&str],
     page: &mut Page,
-) -> bool
+)
     requires { Fits area.now island.now.graph island.now.link_of }
 {
     match call {
-        "routes" => put_routes(alloc, area, island, page),
-        "order_text" => put_order_text(alloc, island, words, page),
-        "table_head" => put_table_head(alloc, island, words, page),
-        "table_line" => put_table_line(alloc, area, island, words, page),
-        _ => return of_certificate::answer(alloc, area, island, call, words, page),
+        Call::Routes => put_routes(alloc, area, island, page),
+        Call::OrderText => put_order_text(alloc, island, words, page),
+        Call::TableHead => put_table_head(alloc, island, words, page),
+        Call::TableLine => put_table_line(alloc, area, island, words, page),
+        _ => put_of_certificate(alloc, area, island, call, words, page),
     }
-    true
 }

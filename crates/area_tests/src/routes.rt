@@ -40,8 +40,7 @@ fn put_primaries(page: &mut Page, routes: &Routes, count: u16)
 {
     for x in 0..count {
         for t in 0..count {
-            page.count("primary ", x);
-            page.count(" ", t);
+            page.tell("primary % %", &[x, t]);
             put_primary(page, routes.primary(Spot::new(x), Spot::new(t)));
         }
     }
@@ -67,14 +66,12 @@ fn put_island(page: &mut Page, routes: &Routes, nodes: u16, links: u16)
     requires bonds { length routes.now.bonds ≡ links }
 {
     for n in 0..nodes {
-        page.count("spot ", n);
-        page.count(": ", routes.spot(NodeNo::new(n)).get());
-        page.put("\n");
+        let spot = routes.spot(NodeNo::new(n));
+        page.tell("spot %: %\n", &[n, spot.get()]);
     }
     for e in 0..links {
-        page.count("bond ", e);
-        page.count(": ", routes.bond(LinkNo::new(e)).get());
-        page.put("\n");
+        let bond = routes.bond(LinkNo::new(e));
+        page.tell("bond %: %\n", &[e, bond.get()]);
     }
 }
 

@@ -1,7 +1,8 @@
 //! The answer to a row: its call is given files and then other words.
 
-use crate::told::{after, file, word};
-use crate::{delivered, instances, islands, limits, lsas, of_area, surveys};
+use crate::calls::{Call, call_named};
+use crate::told::{after, file, number, word};
+use crate::{delivered, instances, islands, limits, lsas, of_area, surveys, written};
 use parts_of_tests::{Page, is_row, put_answer, words_of};
 use std::alloc::Global;
 use std::fs;
@@ -16,22 +17,23 @@ pub fn put_row<R: Files + AllocGlobal>(rt: &R, line: &str, page: &mut Page) {
     match words.as_slice() {
         [name, call, given @ ..] => {
             let mut answer = Page::new(rt.alloc());
-            put_answered(rt, call, given, &mut answer);
+            match call_named(call) {
+                Some(call) => put_answered(rt, call, given, &mut answer),
+                None => answer.put("no such call\n"),
+            }
             put_answer(page, name, &answer);
         }
         _ => page.put("no call\n"),
     }
 }
 
-fn put_answered<R: Files + AllocGlobal>(rt: &R, call: &str, given: &[&str], page: &mut Page) {
+fn put_answered<R: Files + AllocGlobal>(rt: &R, call: Call, given: &[&str], page: &mut Page) {
     let files = files_of(rt, given, page);
     let words = after(given, files.len());
     if is_file(word(words, 0)) {
         page.put("no such file\n");
-    } else if !is_answered(rt.alloc(), call, &files, words, page) {
-        page.put("no such call: ");
-        page.put(call);
-        page.put("\n");
+    } else {
+        put_called(rt.alloc(), call, &files, words, page);
     }
 }
 
@@ -60,19 +62,28 @@ fn is_file(word: &str) -> bool {
     }
 }
 
-/// Asks each module for the answer.
-fn is_answered(
-    alloc: Global,
-    call: &str,
-    files: &[Vec<u8>],
-    words: &[&str],
-    page: &mut Page,
-) -> bool {
-    lsas::answer(alloc, call, files, words, page)
-        || instances::answer(alloc, call, words, page)
-        || delivered::answer(alloc, call, files, words, page)
-        || islands::answer(alloc, call, words, page)
-        || limits::answer(alloc, call, words, page)
-        || surveys::answer(alloc, call, files, words, page)
-        || of_area::answer(alloc, call, file(files, 0), files, words, page)
+/// Puts the answer to a call on files, or on what words tell.
+fn put_called(alloc: Global, call: Call, files: &[Vec<u8>], words: &[&str], page: &mut Page) {
+    let bytes = file(files, 0);
+    match call {
+        Call::Bytes => lsas::put_bytes(page, bytes),
+        Call::Lsas | Call::Copies | Call::Written => lsas::put_read(alloc, call, bytes, page),
+        Call::Cuts => lsas::put_cuts(alloc, bytes, page),
+        Call::Alike => lsas::put_alike(alloc, bytes, file(files, 1), page),
+        Call::Sums => lsas::put_sums(page, bytes, number(word(words, 0)) as usize),
+        Call::WrittenRouter => written::put_router(alloc, words, page),
+        Call::Longest => written::put_longest(alloc, words, page),
+        Call::Install => instances::put_installed(alloc, words, page),
+        Call::Orders => instances::put_orders(alloc, words, page),
+        Call::Updates => delivered::put_read(alloc, bytes, page),
+        Call::Deliver => delivered::put_delivery(alloc, bytes, words, page),
+        Call::Script => delivered::put_script(alloc, words, page),
+        Call::Flood => delivered::put_flood(alloc, bytes, words, page),
+        Call::Profile => islands::put_profile(alloc, words, page),
+        Call::Ring => limits::put_ring(alloc, words, page),
+        Call::Apart => limits::put_apart(alloc, words, page),
+        Call::Made => surveys::put_made(alloc, bytes, words, page),
+        Call::SurveyMade => surveys::put_survey_made(alloc, words, page),
+        _ => of_area::put_of_area(alloc, call, bytes, files, words, page),
+    }
 }

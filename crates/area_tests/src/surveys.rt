@@ -1,27 +1,11 @@
 //! Networks that are made from a number: their databases, and their surveys.
 
+use crate::calls::Call;
 use crate::of_area;
-use crate::told::{after, file, front, number, number_16, word};
+use crate::told::{front, number, number_16, word};
 use mrt_survey::generate;
 use parts_of_tests::Page;
 use std::alloc::Global;
-
-/// `made FILE NUMBER ROUTERS`: how many bytes the database of a number and so many routers has, and whether they are those of the
-/// file. `survey_made ROUTER NUMBER ROUTERS`: the survey of a router's island in the area of that database.
-pub fn answer(
-    alloc: Global,
-    call: &str,
-    files: &[Vec<u8>],
-    words: &[&str],
-    page: &mut Page,
-) -> bool {
-    match call {
-        "made" => put_made(alloc, file(files, 0), words, page),
-        "survey_made" => put_survey_made(alloc, words, page),
-        _ => return false,
-    }
-    true
-}
 
 /// The database of a number and so many routers, as two words tell them.
 fn made(alloc: Global, number: u32, routers: u16, page: &mut Page) -> Option<Vec<u8>> {
@@ -36,17 +20,20 @@ fn made(alloc: Global, number: u32, routers: u16, page: &mut Page) -> Option<Vec
     bytes
 }
 
-fn put_made(alloc: Global, file: &[u8], words: &[&str], page: &mut Page) {
+/// `made FILE NUMBER ROUTERS`: how many bytes the database of a number and so many routers has, and whether they are those of the
+/// file.
+pub fn put_made(alloc: Global, file: &[u8], words: &[&str], page: &mut Page) {
     let (told, routers) = (number(word(words, 0)), number_16(word(words, 1)));
     if let Some(bytes) = made(alloc, told, routers, page) {
         put_compared(page, &bytes, file);
     }
 }
 
-fn put_survey_made(alloc: Global, words: &[&str], page: &mut Page) {
+/// `survey_made ROUTER NUMBER ROUTERS`: the survey of a router's island in the area of that database.
+pub fn put_survey_made(alloc: Global, words: &[&str], page: &mut Page) {
     let (told, routers) = (number(word(words, 1)), number_16(word(words, 2)));
     if let Some(bytes) = made(alloc, told, routers, page) {
-        of_area::answer(alloc, "survey", front(&bytes), &[], words, page);
+        of_area::put_of_area(alloc, Call::Survey, front(&bytes), &[], words, page);
     }
 }
 

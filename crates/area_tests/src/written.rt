@@ -5,6 +5,7 @@ ghost use Rattle.ospf_lsa.specs.LsaText.{lsa_length};
 ghost use Rattle.ospf_lsa.specs.Lsas.{AreLsas, IsOfType};
 ghost use Rattle.ospf_lsa.specs.Written.{HasItsEntries};
 
+use crate::calls::Call;
 use crate::lsas::put_read;
 use crate::told::{address, number, number_16, word};
 use mrt_graph::{NoMemory, Seq};
@@ -61,7 +62,7 @@ fn put_read_back(alloc: Global, lsa: &Lsa, page: &mut Page)
     requires fits { lsa_length lsa.now ≤ 65535 }
 {
     match write_lsa(alloc, lsa) {
-        Ok(bytes) => put_read(alloc, "lsas", &bytes, page),
+        Ok(bytes) => put_read(alloc, Call::Lsas, &bytes, page),
         Err(_) => page.lacks_memory(),
     }
 }
@@ -99,5 +100,5 @@ pub fn put_longest(alloc: Global, words: &[&str], page: &mut Page) {
     page.heed(&file);
     let bytes = file.bytes();
     let kept = bytes.len() - bytes.len().min(number(word(words, 1)) as usize);
-    put_read(alloc, "lsas", &bytes[..kept.min(8_388_608)], page);
+    put_read(alloc, Call::Lsas, &bytes[..kept.min(8_388_608)], page);
 }

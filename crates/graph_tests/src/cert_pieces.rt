@@ -46,14 +46,10 @@ fn from_two(alloc: Global, first: &[u8], second: &[u8]) -> Result<CertFile, Cert
 pub fn put_fed(alloc: Global, bytes: &[u8], size: u16, page: &mut Page) {
     let mut last = Page::new(alloc);
     let mut reader = CertReader::new(alloc);
-    let mut rest = bytes;
-    for place in 0..bytes.len() {
-        if rest.is_empty() {
-            break;
-        }
-        let (piece, behind) = rest.split_at(rest.len().min(usize::from(size)));
+    let mut place = 0usize;
+    for piece in bytes.chunks(usize::from(size).max(1)) {
         put_piece(alloc, &mut reader, piece, place, &mut last, page);
-        rest = behind;
+        place = place.wrapping_add(1);
     }
     page.put("end: ");
     match reader.finish() {

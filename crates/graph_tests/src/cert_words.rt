@@ -2,8 +2,9 @@
 //! block; each link by its two nodes, its block and its role; each row by its blue link, its red link and its tag.
 
 use cert_format::{CertError, CertFault, CertKind};
-use mrt_graph::{Cert, CertFile, CertLink, CertNode, NodeId, Role, Row, Tag};
+use mrt_graph::{Cert, CertFile, CertLink, CertNode, NodeId, NodeNo, Role, Row, Tag};
 use parts_of_tests::Page;
+use std::alloc::Global;
 
 /// Says why there is no certificate.
 pub fn put_error(page: &mut Page, error: CertError) {
@@ -28,24 +29,37 @@ pub fn put_fault(page: &mut Page, fault: CertFault) {
 }
 
 /// All of a file: its version and root, and the certificate.
-pub fn put_file(page: &mut Page, file: &CertFile) {
-    page.count("version=", file.version);
-    page.put(" root=");
+pub fn put_file(alloc: Global, file: &CertFile, page: &mut Page) {
+    page.tell("version=% root=", &[file.version]);
     page.name(NodeId::router(file.root));
     page.put("\n");
-    put_cert(page, &file.cert);
+    put_cert(alloc, &file.cert, page);
 }
 
-pub fn put_cert(page: &mut Page, cert: &Cert) {
+pub fn put_cert(alloc: Global, cert: &Cert, page: &mut Page) {
     put_nodes(page, cert.nodes());
     put_links(page, cert.links());
+    let rows = rows_of(alloc, cert, page);
     let others = usize::from(cert.node_count().saturating_sub(1));
     let mut s: u16 = 0;
-    for rows in cert.rows().chunks(others.max(1)) {
+    for rows in rows.chunks(others.max(1)) {
         page.count("from ", s);
         put_row_list(page, rows);
         s = s.wrapping_add(1);
     }
+}
+
+/// All rows of a certificate, those of one node after those of another one.
+pub fn rows_of(alloc: Global, cert: &Cert, page: &mut Page) -> Vec<Row> {
+    let mut rows = Vec::new(alloc);
+    for s in 0..cert.node_count() {
+        for t in 0..cert.node_count() {
+            if s != t {
+                page.note(rows.push(cert.row(NodeNo::new(s), NodeNo::new(t))));
+            }
+        }
+    }
+    rows
 }
 
 pub fn put_nodes(page: &mut Page, nodes: &[CertNode]) {
@@ -53,9 +67,7 @@ pub fn put_nodes(page: &mut Page, nodes: &[CertNode]) {
     for node in nodes {
         page.put(" ");
         page.name(node.id);
-        page.count("/", node.order);
-        page.node("/", node.head);
-        page.node("/", node.block);
+        page.tell("/%/%/%", &[node.order, node.head.get(), node.block.get()]);
     }
     page.put("\n");
 }
@@ -63,10 +75,7 @@ pub fn put_nodes(page: &mut Page, nodes: &[CertNode]) {
 pub fn put_links(page: &mut Page, links: &[CertLink]) {
     page.put("links");
     for link in links {
-        page.node(" ", link.a);
-        page.node("-", link.b);
-        page.node("/", link.block);
-        page.put("/");
+        page.tell(" %-%/%/", &[link.a.get(), link.b.get(), link.block.get()]);
         page.put(role_word(link.role));
     }
     page.put("\n");
@@ -89,8 +98,7 @@ pub fn put_row_list(page: &mut Page, rows: &[Row]) {
 }
 
 pub fn put_row(page: &mut Page, row: Row) {
-    page.link(" ", row.blue);
-    page.link("/", row.red);
+    page.tell(" %/%", &[row.blue.get(), row.red.get()]);
     page.put(match row.tag {
         Tag::Sole => "/sole",
         Tag::Head => "/head",

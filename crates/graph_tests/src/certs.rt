@@ -3,81 +3,33 @@
 ghost use Rattle.std.specs.Prelude.{IfSome};
 ghost use Rattle.cert_format.specs.Limits.{IsCertFile};
 
+use crate::calls::Call;
 use crate::cert_pieces::{put_all_cuts, put_fed};
 use crate::cert_words::{put_error, put_file};
-use crate::edits::edit;
-use crate::told::{list, number_or};
+use crate::checks::put_of_cert;
+use crate::told::number_or;
 use crate::told_bytes::show_line;
-use crate::told_files::{file_named, spoil};
+use crate::told_files::file_told;
 use cert_format::{read_cert, write_cert};
 use mrt_graph::CertFile;
 use parts_of_tests::Page;
 use std::alloc::Global;
 use std::rt::Files;
 
-/// Answers these calls, and no others.
-pub fn answer<R: Files>(
-    rt: &R,
-    alloc: Global,
-    call: &str,
-    words: &[&str],
-    page: &mut Page,
-) -> bool {
-    if !matches!(
-        call,
-        "read_cert" | "write_cert" | "read_cert_cut" | "read_in_two" | "feed"
-    ) {
-        return false;
-    }
-    if let Some(bytes) = bytes_of_file(rt, alloc, words, page) {
-        put_answer(alloc, call, &bytes, words, page);
-    }
-    true
-}
-
-fn put_answer(alloc: Global, call: &str, bytes: &[u8], words: &[&str], page: &mut Page) {
+/// Puts what a call asks of the file that words tell.
+pub fn put_of_file<R: Files>(rt: &R, alloc: Global, call: Call, words: &[&str], page: &mut Page) {
+    let bytes = file_told(rt, alloc, words, page);
     match call {
-        "read_cert_cut" => put_fronts(alloc, bytes, page),
-        "read_in_two" => put_all_cuts(alloc, bytes, page),
-        "feed" => put_fed(alloc, bytes, number_or(words, "size", 1), page),
-        _ => put_read(alloc, call, bytes, page),
-    }
-}
-
-/// The bytes of the file that words tell, with the edits that they tell.
-fn bytes_of_file<R: Files>(
-    rt: &R,
-    alloc: Global,
-    words: &[&str],
-    page: &mut Page,
-) -> Option<Vec<u8>> {
-    let Some(mut bytes) = file_named(rt, alloc, list(words, "file"), page) else {
-        return None;
-    };
-    spoil(&mut bytes, words, page);
-    for text in list(words, "edits").split_terminator(',') {
-        edit(&mut bytes, text, page);
-    }
-    Some(bytes)
-}
-
-/// The certificate file that words tell. Where there is none, it says why.
-pub fn cert_told<R: Files>(
-    rt: &R,
-    alloc: Global,
-    words: &[&str],
-    page: &mut Page,
-) -> Option<CertFile>
-    ensures { IfSome result IsCertFile }
-{
-    match bytes_of_file(rt, alloc, words, page) {
-        Some(bytes) => cert_of(alloc, &bytes, page),
-        None => None,
+        Call::ReadCert | Call::WriteCert => put_read(alloc, call, &bytes, page),
+        Call::ReadCertCut => put_fronts(alloc, &bytes, page),
+        Call::ReadInTwo => put_all_cuts(alloc, &bytes, page),
+        Call::Feed => put_fed(alloc, &bytes, number_or(words, "size", 1), page),
+        _ => put_of_cert(alloc, call, &bytes, words, page),
     }
 }
 
 /// The certificate file that has these bytes. Where there is none, it says why.
-fn cert_of(alloc: Global, bytes: &[u8], page: &mut Page) -> Option<CertFile>
+pub fn cert_of(alloc: Global, bytes: &[u8], page: &mut Page) -> Option<CertFile>
     ensures { IfSome result IsCertFile }
 {
     match read_cert(alloc, bytes) {
@@ -88,12 +40,11 @@ fn cert_of(alloc: Global, bytes: &[u8], page: &mut Page) -> Option<CertFile>
 }
 
 /// All of a certificate file, or what is written of it, beside it; or its first fault.
-fn put_read(alloc: Global, call: &str, bytes: &[u8], page: &mut Page) {
+pub fn put_read(alloc: Global, call: Call, bytes: &[u8], page: &mut Page) {
     if let Some(file) = cert_of(alloc, bytes, page) {
-        if call == "read_cert" {
-            put_file(page, &file);
-        } else {
-            put_beside(alloc, &file, bytes, page);
+        match call {
+            Call::ReadCert => put_file(alloc, &file, page),
+            _ => put_beside(alloc, &file, bytes, page),
         }
     }
 }

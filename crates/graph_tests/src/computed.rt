@@ -1,47 +1,73 @@
 //! The calls that are given a graph and its root.
 
 ghost use Rattle.std.specs.Prelude.{◌<◌, length};
+ghost use Rattle.inc_dec_spf.specs.HasDirections.{HasDirections};
+ghost use Rattle.link_direction.specs.OrderedGadag.{SaysOrdered};
 
+use crate::calls::Call;
 use crate::gadags::{put_directions, put_ears};
 use crate::order_colors::put_colors;
 use crate::order_walks::put_walks;
-use crate::paths::{put_paths, put_paths_to};
+use crate::paths::put_paths;
 use crate::tables::{put_column_each, put_columns, put_computed, put_near_rows, put_rows};
 use crate::told::{graph, node};
 use crate::trees::put_search;
-use mrt_graph::{Graph, NodeNo};
+use mrt_graph::{Directed, Graph, NodeNo};
+use mrt_rows::directions;
 use parts_of_tests::Page;
 use std::alloc::Global;
 
-/// Answers these calls, and no others. It is asked last, as it looks for a graph before it looks at the call.
-pub fn answer(alloc: Global, call: &str, words: &[&str], page: &mut Page) -> bool {
-    let Some(g) = graph(alloc, words, page) else {
-        return true;
-    };
-    let Some(root) = node(&g, words, "root") else {
-        page.put("no root\n");
-        return true;
-    };
-    is_answered(alloc, call, &g, root, page)
+/// Puts what a call asks of the graph and the root that words tell.
+pub fn put_of_graph(alloc: Global, call: Call, words: &[&str], page: &mut Page) {
+    if let Some(g) = graph(alloc, words, page) {
+        match node(&g, words, "root") {
+            Some(root) => put_asked(alloc, call, &g, root, page),
+            None => page.put("no root\n"),
+        }
+    }
 }
 
-fn is_answered(alloc: Global, call: &str, g: &Graph, root: NodeNo, page: &mut Page) -> bool
+fn put_asked(alloc: Global, call: Call, g: &Graph, root: NodeNo, page: &mut Page)
     requires { root < length g.now.ids }
 {
     match call {
-        "search" => put_search(alloc, g, root, page),
-        "ears" => put_ears(alloc, g, root, page),
-        "direct" => put_directions(alloc, g, root, page),
-        "spf" => put_paths(alloc, g, root, page),
-        "spf_to" => put_paths_to(alloc, g, root, page),
-        "rows_of" => put_rows(alloc, g, root, page),
-        "near_rows" => put_near_rows(alloc, g, root, page),
-        "column_of" => put_column_each(alloc, g, root, page),
-        "columns" => put_columns(alloc, g, root, page),
-        "compute" => put_computed(alloc, g, root, page),
-        "order_choice" => put_colors(alloc, g, root, page),
-        "order_walks" => put_walks(alloc, g, root, page),
-        _ => return false,
+        Call::Search => put_search(alloc, g, root, page),
+        Call::Ears => put_ears(alloc, g, root, page),
+        Call::NearRows => put_near_rows(alloc, g, root, page),
+        Call::Columns => put_columns(alloc, g, root, page),
+        Call::Compute => put_computed(alloc, g, root, page),
+        _ => put_ordered(alloc, call, g, root, page),
     }
-    true
+}
+
+/// Puts what a call asks of the directions of a graph.
+fn put_ordered(alloc: Global, call: Call, g: &Graph, root: NodeNo, page: &mut Page)
+    requires { root < length g.now.ids }
+{
+    match directions(alloc, g, root) {
+        Ok(d) => put_by_directions(alloc, call, g, root, &d, page),
+        Err(_) => page.lacks_memory(),
+    }
+}
+
+fn put_by_directions(
+    alloc: Global,
+    call: Call,
+    g: &Graph,
+    root: NodeNo,
+    d: &Directed,
+    page: &mut Page,
+)
+    requires root { root < length g.now.ids }
+    requires ordered { SaysOrdered g.now root d.now }
+    requires directed { HasDirections g.now d.now }
+{
+    match call {
+        Call::Direct => put_directions(page, g, d),
+        Call::Spf | Call::SpfTo => put_paths(alloc, call, g, d, page),
+        Call::RowsOf => put_rows(alloc, g, root, d, page),
+        Call::ColumnOf => put_column_each(alloc, g, root, d, page),
+        Call::OrderChoice => put_colors(alloc, g, d, page),
+        _ => put_walks(alloc, g, root, d, page),
+    }
 }

@@ -8,33 +8,19 @@ use std::alloc::Global;
 use std::fs;
 use std::rt::Files;
 
-/// Answers these calls, and no others.
-pub fn answer<R: Files>(
-    rt: &R,
-    alloc: Global,
-    call: &str,
-    words: &[&str],
-    page: &mut Page,
-) -> bool {
-    if !matches!(call, "put_to_file" | "put_to_sink" | "word") {
-        return false;
+/// A word of these bytes.
+pub fn put_word(alloc: Global, words: &[&str], page: &mut Page) {
+    match Word::new(alloc, &bytes_told(alloc, words, "bytes", page)) {
+        Ok(word) => show_line(page, word.bytes()),
+        Err(_) => page.lacks_memory(),
     }
-    let bytes = bytes_told(alloc, words, "bytes", page);
-    match call {
-        "put_to_file" => put_to_file(rt, list(words, "name"), &bytes, page),
-        "put_to_sink" => put_to_sink(alloc, words, &bytes, page),
-        _ => match Word::new(alloc, &bytes) {
-            Ok(word) => show_line(page, word.bytes()),
-            Err(_) => page.lacks_memory(),
-        },
-    }
-    true
 }
 
 /// Puts bytes to a new file, and then an empty piece.
-fn put_to_file<R: Files>(rt: &R, name: &str, bytes: &[u8], page: &mut Page) {
-    match fs::create(rt, name) {
-        Ok(file) => put_twice(&mut StdSink::new(file), bytes, page),
+pub fn put_to_file<R: Files>(rt: &R, alloc: Global, words: &[&str], page: &mut Page) {
+    let bytes = bytes_told(alloc, words, "bytes", page);
+    match fs::create(rt, list(words, "name")) {
+        Ok(file) => put_twice(&mut StdSink::new(file), &bytes, page),
         Err(_) => page.put("no file\n"),
     }
 }
@@ -66,15 +52,15 @@ pub fn only(alloc: Global, number: u16, page: &mut Page) -> Vec<u32> {
 }
 
 /// Puts bytes to a sink with so much room, of so many bytes a call, whose call of this number fails.
-fn put_to_sink(alloc: Global, words: &[&str], bytes: &[u8], page: &mut Page) {
+pub fn put_to_sink(alloc: Global, words: &[&str], page: &mut Page) {
     let fails = only(alloc, number_or(words, "fails", u16::MAX), page);
     let room = number_or(words, "room", 0);
     let step = number_or(words, "step", 1).max(1);
     let Ok(mut sink) = MemSink::new(alloc, u32::from(room), u32::from(step), fails) else {
-        page.lacks_memory();
-        return;
+        return page.lacks_memory();
     };
-    put_outcome(page, put_all(&mut sink, bytes));
+    let bytes = bytes_told(alloc, words, "bytes", page);
+    put_outcome(page, put_all(&mut sink, &bytes));
     page.put(", gained ");
     show_line(page, sink.bytes());
 }

@@ -3,7 +3,6 @@
 //! links and tag.
 
 use crate::told::two;
-use crate::told_files::put_at;
 use parts_of_tests::Page;
 
 /// Puts what an edit tells in its place in a file of version 1: numbers of two bytes where nodes, links and rows have
@@ -14,18 +13,24 @@ pub fn edit(bytes: &mut Vec<u8>, text: &str, page: &mut Page) {
     let is_wide = matches!(what, "node" | "link" | "row");
     let mut at = place_of(counts(bytes), what, which);
     for value in values.split_terminator('.') {
-        let (number, is_word) = match value.parse::<u16>() {
-            Ok(number) => (number, false),
-            Err(_) => (u16::from(word_value(value)), true),
-        };
-        let [high, low] = number.to_be_bytes();
-        if is_wide && !is_word {
-            put_at(bytes, at, high, page);
-            at = at.wrapping_add(1);
-        }
-        put_at(bytes, at, low, page);
-        at = at.wrapping_add(1);
+        at = put_value(bytes, at, value, is_wide, page);
     }
+}
+
+/// Puts a number or the byte of a word in its place, and tells the place behind it.
+fn put_value(bytes: &mut Vec<u8>, at: usize, value: &str, is_wide: bool, page: &mut Page) -> usize {
+    let Ok(number) = value.parse::<u16>() else {
+        put_at(bytes, at, word_value(value), page);
+        return at.wrapping_add(1);
+    };
+    let [high, low] = number.to_be_bytes();
+    if !is_wide {
+        put_at(bytes, at, low, page);
+        return at.wrapping_add(1);
+    }
+    put_at(bytes, at, high, page);
+    put_at(bytes, at.wrapping_add(1), low, page);
+    at.wrapping_add(2)
 }
 
 /// The counts of nodes and links.
@@ -73,5 +78,14 @@ fn word_value(word: &str) -> u8 {
         "Unordered" => 5,
         "Carried" => 6,
         _ => 0,
+    }
+}
+
+/// Puts a byte in its place. At the end it is one more.
+pub fn put_at(bytes: &mut Vec<u8>, place: usize, byte: u8, page: &mut Page) {
+    if place < bytes.len() {
+        bytes[place] = byte;
+    } else {
+        page.note(bytes.push(byte));
     }
 }

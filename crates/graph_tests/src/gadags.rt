@@ -4,11 +4,9 @@
 ghost use Rattle.std.specs.Prelude.{◌≡◌, ◌<◌, IfOk, length};
 ghost use Rattle.link_direction.specs.FromEars.{IsFromEars};
 ghost use Rattle.inc_dec_spf.specs.HasDirections.{HasDirections};
-ghost use Rattle.link_direction.specs.OrderedGadag.{SaysOrdered};
 
 use crate::cert_words::role_word;
 use gadag_ears::ears;
-use link_direction::direct;
 use lowpoint_dfs::search;
 use mrt_graph::{Directed, Gadag, Graph, LinkNo, Mark, NoMemory, NodeNo, Place, Way};
 use parts_of_tests::Page;
@@ -23,19 +21,6 @@ fn gadag_of(alloc: Global, g: &Graph, root: NodeNo) -> Result<Gadag, NoMemory>
 {
     let tree = search(alloc, g, root)?;
     ears(alloc, g, root, &tree)
-}
-
-/// Its GADAG with the order of that.
-pub fn directed_of(alloc: Global, g: &Graph, root: NodeNo) -> Result<Directed, NoMemory>
-    requires { root < length g.now.ids }
-    ensures has { IfOk result (HasDirections g.now) }
-    ensures says { IfOk result (SaysOrdered g.now root) }
-    ensures orders { IfOk result (λ d. length d.orders ≡ length g.now.ids) }
-    ensures places { IfOk result (λ d. length d.places ≡ length g.now.ids) }
-    ensures marks { IfOk result (λ d. length d.marks ≡ length g.now.links) }
-{
-    let gadag = gadag_of(alloc, g, root)?;
-    direct(alloc, g, root, gadag)
 }
 
 pub fn put_ears(alloc: Global, g: &Graph, root: NodeNo, page: &mut Page)
@@ -77,15 +62,12 @@ fn put_marks(page: &mut Page, gadag: &Gadag, count: u16)
     page.put("\n");
 }
 
-pub fn put_directions(alloc: Global, g: &Graph, root: NodeNo, page: &mut Page)
-    requires { root < length g.now.ids }
+pub fn put_directions(page: &mut Page, g: &Graph, d: &Directed)
+    requires { HasDirections g.now d.now }
 {
-    let Ok(d) = directed_of(alloc, g, root) else {
-        return page.lacks_memory();
-    };
-    put_orders(page, &d, g.node_count());
-    put_directed_places(page, &d, g.node_count());
-    put_directed_marks(page, &d, g.link_count());
+    put_orders(page, d, g.node_count());
+    put_directed_places(page, d, g.node_count());
+    put_directed_marks(page, d, g.link_count());
 }
 
 fn put_orders(page: &mut Page, d: &Directed, count: u16)
@@ -119,8 +101,7 @@ fn put_directed_marks(page: &mut Page, d: &Directed, count: u16)
 }
 
 fn put_place(page: &mut Page, place: Place) {
-    page.node(" ", place.head);
-    page.node("/", place.block);
+    page.tell(" %/%", &[place.head.get(), place.block.get()]);
 }
 
 fn put_mark(page: &mut Page, mark: Mark) {

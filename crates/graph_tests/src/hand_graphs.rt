@@ -149,16 +149,10 @@ fn make_graph(alloc: Global, count: u16, routers: u16, links: &[LinkIn]) -> Resu
         (pair_of (slice_index_or links.now (k + 1) d)) (pair_of (slice_index_or links.now k d))) ≡ false) }
     ensures connected { IfOk result (λ make. IsTrue make → IsConnected count (map pair_of links.now)) }
 {
-    if count == 0 {
-        return Ok(false);
+    if 0 < count && are_within(count, routers, links) && are_ascending(links) {
+        return are_connected(alloc, count, links);
     }
-    if !are_within(count, routers, links) {
-        return Ok(false);
-    }
-    if !are_ascending(links) {
-        return Ok(false);
-    }
-    are_connected(alloc, count, links)
+    Ok(false)
 }
 
 /// The graph of so many nodes, the first of them routers, with these links, where they are one.

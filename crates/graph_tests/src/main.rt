@@ -2,6 +2,7 @@
 //! what that is given; each answer is printed after its name.
 #![tactic(auto)]
 
+mod calls;
 mod cert_pieces;
 mod cert_words;
 mod certs;

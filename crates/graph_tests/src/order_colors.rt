@@ -4,7 +4,6 @@
 ghost use Rattle.std.specs.Prelude.{◌≡◌, ◌<◌, IfOk, length};
 ghost use Rattle.inc_dec_spf.specs.HasDirections.{HasDirections};
 
-use crate::gadags::directed_of;
 use crate::paths::reach_of;
 use inc_dec_spf::{Dir, Reach};
 use mrt_graph::{Color, Directed, Element, Graph, LinkNo, NoMemory, NodeNo};
@@ -32,14 +31,11 @@ pub fn source_of(alloc: Global, g: &Graph, d: &Directed, node: NodeNo) -> Result
     Ok(Source { node, up, down })
 }
 
-pub fn put_colors(alloc: Global, g: &Graph, root: NodeNo, page: &mut Page)
-    requires { root < length g.now.ids }
+pub fn put_colors(alloc: Global, g: &Graph, d: &Directed, page: &mut Page)
+    requires { HasDirections g.now d.now }
 {
-    let Ok(d) = directed_of(alloc, g, root) else {
-        return page.lacks_memory();
-    };
     for n in 0..g.node_count() {
-        put_colors_from(alloc, g, &d, NodeNo::new(n), page);
+        put_colors_from(alloc, g, d, NodeNo::new(n), page);
     }
 }
 
@@ -64,9 +60,7 @@ fn put_colors_to(page: &mut Page, g: &Graph, d: &Directed, source: &Source, to: 
     requires source { source.now.node < length g.now.ids }
     requires to { to < length g.now.ids }
 {
-    page.node("from ", source.node);
-    page.node(" to ", to);
-    page.put(" ");
+    page.tell("from % to % ", &[source.node.get(), to.get()]);
     for f in 0..g.node_count() {
         page.put(node_letter(g, d, source, to, NodeNo::new(f)));
     }

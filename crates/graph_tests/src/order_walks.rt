@@ -7,7 +7,6 @@ ghost use Rattle.inc_dec_spf.specs.HasDirections.{HasDirections};
 ghost use Rattle.mrt_plain.specs.Within.{AreWithin};
 ghost use Rattle.order_repair.specs.Failed.{IsWithin};
 
-use crate::gadags::directed_of;
 use crate::order_colors::{Source, letter, source_of};
 use mrt_graph::{Cert, Color, Directed, Element, Graph, Link, LinkNo, NoMemory, NodeNo};
 use mrt_plain::{Course, follow, links_of};
@@ -40,21 +39,19 @@ struct Tally {
     round: u32,
 }
 
-pub fn put_walks(alloc: Global, g: &Graph, root: NodeNo, page: &mut Page)
-    requires { root < length g.now.ids }
+pub fn put_walks(alloc: Global, g: &Graph, root: NodeNo, d: &Directed, page: &mut Page)
+    requires root { root < length g.now.ids }
+    requires directed { HasDirections g.now d.now }
 {
-    let Ok(directed) = directed_of(alloc, g, root) else {
+    let Ok(links) = links_of(alloc, g) else {
         return page.lacks_memory();
     };
     let Ok(cert) = compute(alloc, g, root) else {
         return page.lacks_memory();
     };
-    let Ok(links) = links_of(alloc, g) else {
-        return page.lacks_memory();
-    };
     let walked = Walked {
         graph: g,
-        directed: &directed,
+        directed: d,
         links: &links,
         cert: &cert,
     };
@@ -260,9 +257,7 @@ fn fail(
     if goes_round(pair, color, failed) {
         tally.round = tally.round.saturating_add(1);
     } else {
-        page.node("from ", source.node);
-        page.node(" to ", pair.to);
-        page.put(": ");
+        page.tell("from % to %: ", &[source.node.get(), pair.to.get()]);
         put_stopped(page, color, failed);
     }
 }

@@ -4,21 +4,20 @@
 ghost use Rattle.std.specs.Prelude.{◌≡◌, ◌<◌, IfOk, length};
 ghost use Rattle.inc_dec_spf.specs.HasDirections.{HasDirections};
 
-use crate::gadags::directed_of;
+use crate::calls::Call;
 use inc_dec_spf::{Dir, Hop, Reach, spf, spf_to};
 use mrt_graph::{Directed, Graph, NoMemory, NodeNo};
 use parts_of_tests::Page;
 use std::alloc::Global;
 
-pub fn put_paths(alloc: Global, g: &Graph, root: NodeNo, page: &mut Page)
-    requires { root < length g.now.ids }
+pub fn put_paths(alloc: Global, call: Call, g: &Graph, d: &Directed, page: &mut Page)
+    requires { HasDirections g.now d.now }
 {
-    let Ok(d) = directed_of(alloc, g, root) else {
-        return page.lacks_memory();
-    };
     for n in 0..g.node_count() {
-        put_from(alloc, g, &d, NodeNo::new(n), Dir::Up, page);
-        put_from(alloc, g, &d, NodeNo::new(n), Dir::Down, page);
+        match call {
+            Call::Spf => put_from(alloc, g, d, NodeNo::new(n), page),
+            _ => put_to(alloc, g, d, NodeNo::new(n), page),
+        }
     }
 }
 
@@ -38,26 +37,16 @@ pub fn reach_of(
     Ok(reach)
 }
 
-fn put_from(alloc: Global, g: &Graph, d: &Directed, s: NodeNo, dir: Dir, page: &mut Page)
+fn put_from(alloc: Global, g: &Graph, d: &Directed, s: NodeNo, page: &mut Page)
     requires directed { HasDirections g.now d.now }
     requires source { s < length g.now.ids }
 {
-    page.node("from ", s);
-    match reach_of(alloc, g, d, s, dir) {
-        Ok(reach) => put_reach(page, dir, &reach, g.node_count()),
-        Err(_) => page.lacks_memory(),
-    }
-}
-
-pub fn put_paths_to(alloc: Global, g: &Graph, root: NodeNo, page: &mut Page)
-    requires { root < length g.now.ids }
-{
-    let Ok(d) = directed_of(alloc, g, root) else {
-        return page.lacks_memory();
-    };
-    for n in 0..g.node_count() {
-        put_to(alloc, g, &d, NodeNo::new(n), Dir::Up, page);
-        put_to(alloc, g, &d, NodeNo::new(n), Dir::Down, page);
+    for dir in [Dir::Up, Dir::Down] {
+        page.node("from ", s);
+        match reach_of(alloc, g, d, s, dir) {
+            Ok(reach) => put_reach(page, dir, &reach, g.node_count()),
+            Err(_) => page.lacks_memory(),
+        }
     }
 }
 
@@ -71,14 +60,16 @@ fn reach_to(alloc: Global, g: &Graph, d: &Directed, t: NodeNo, dir: Dir) -> Resu
     Ok(reach)
 }
 
-fn put_to(alloc: Global, g: &Graph, d: &Directed, t: NodeNo, dir: Dir, page: &mut Page)
+fn put_to(alloc: Global, g: &Graph, d: &Directed, t: NodeNo, page: &mut Page)
     requires directed { HasDirections g.now d.now }
     requires target { t < length g.now.ids }
 {
-    page.node("to ", t);
-    match reach_to(alloc, g, d, t, dir) {
-        Ok(reach) => put_reach(page, dir, &reach, g.node_count()),
-        Err(_) => page.lacks_memory(),
+    for dir in [Dir::Up, Dir::Down] {
+        page.node("to ", t);
+        match reach_to(alloc, g, d, t, dir) {
+            Ok(reach) => put_reach(page, dir, &reach, g.node_count()),
+            Err(_) => page.lacks_memory(),
+        }
     }
 }
 

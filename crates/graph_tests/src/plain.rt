@@ -3,26 +3,22 @@
 ghost use Rattle.std.specs.Prelude.{◌<◌, length};
 ghost use Rattle.mrt_plain.specs.Within.{AreWithin};
 
+use crate::calls::Call;
 use crate::island::{Island, island_told, links_between, pairs_told};
-use crate::told::{graph, list, number, number_or};
+use crate::told::{graph, list, number, number_or, two_nodes};
 use mrt_graph::{Color, Element, Link, LinkNo, NodeNo};
 use mrt_plain::{Course, apart, follow, links_of, reaches, separates, sound};
 use parts_of_tests::Page;
 use std::alloc::Global;
 
-const NOT_ASKED: &str = "not asked: no such nodes\n";
-
-/// Answers these calls, and no others.
-pub fn answer(alloc: Global, call: &str, words: &[&str], page: &mut Page) -> bool {
-    match call {
-        "sound" => put_sound(alloc, words, page),
-        "follow" => put_followed(alloc, words, page),
-        "reaches" => put_reaches(alloc, words, page),
-        "separates" => put_separates(alloc, words, page),
-        "links_of" => put_links_of(alloc, words, page),
-        _ => return false,
+/// Puts what a call asks of the rows of an island.
+pub fn put_of_island(alloc: Global, call: Call, words: &[&str], page: &mut Page) {
+    if let Some(island) = island_told(alloc, words, page) {
+        match call {
+            Call::Sound => put_sound(alloc, &island, page),
+            _ => put_between(alloc, call, &island, words, page),
+        }
     }
-    true
 }
 
 /// Puts a text, and whether something is so.
@@ -32,45 +28,43 @@ fn put_yes(page: &mut Page, before: &str, is_so: bool) {
 }
 
 /// Whether the rows of an island are sound.
-fn put_sound(alloc: Global, words: &[&str], page: &mut Page) {
-    if let Some(island) = island_told(alloc, words, page) {
-        let is_so = page.found(sound(alloc, &island.links, &island.cert));
-        put_yes(page, "", is_so);
-        page.put("\n");
-    }
+fn put_sound(alloc: Global, island: &Island, page: &mut Page)
+    requires { AreWithin (length island.now.cert.nodes) island.now.links.items }
+{
+    let is_so = page.found(sound(alloc, &island.links, &island.cert));
+    put_yes(page, "", is_so);
+    page.put("\n");
 }
 
-/// From where, and to where.
-fn ends_told(words: &[&str]) -> (u16, u16) {
-    let from = number_or(words, "from", u16::MAX);
-    (from, number_or(words, "to", u16::MAX))
+/// Puts what a call asks of the rows from one node of an island to another one.
+fn put_between(alloc: Global, call: Call, island: &Island, words: &[&str], page: &mut Page)
+    requires { AreWithin (length island.now.cert.nodes) island.now.links.items }
+{
+    if let Some((s, t)) = two_nodes(words, "from", "to", island.cert.node_count(), page) {
+        match call {
+            Call::Follow => put_followed(alloc, island, color_told(words), s, t, page),
+            _ => put_reaches(alloc, island, s, t, page),
+        }
+    }
 }
 
 /// A color walk: the links that it takes, the nodes that it meets, and where it ends.
-fn put_followed(alloc: Global, words: &[&str], page: &mut Page) {
-    let Some(island) = island_told(alloc, words, page) else {
-        return;
-    };
-    let (from, to) = ends_told(words);
-    if island.cert.node_count() <= from || island.cert.node_count() <= to {
-        return page.put(NOT_ASKED);
-    }
-    let (s, t) = (NodeNo::new(from), NodeNo::new(to));
-    let Some(color) = color_told(words) else {
-        return page.put("no color\n");
-    };
+fn put_followed(alloc: Global, island: &Island, color: Color, s: NodeNo, t: NodeNo, page: &mut Page)
+    requires within { AreWithin (length island.now.cert.nodes) island.now.links.items }
+    requires source { s < length island.now.cert.nodes }
+    requires target { t < length island.now.cert.nodes }
+{
     match follow(alloc, &island.links, &island.cert, color, s, t) {
         Ok(course) => put_course(page, &course),
         Err(_) => page.lacks_memory(),
     }
 }
 
-/// The color that words tell.
-fn color_told(words: &[&str]) -> Option<Color> {
+/// The color that words tell; red where they tell another one.
+fn color_told(words: &[&str]) -> Color {
     match list(words, "color") {
-        "blue" => Some(Color::Blue),
-        "red" => Some(Color::Red),
-        _ => None,
+        "blue" => Color::Blue,
+        _ => Color::Red,
     }
 }
 
@@ -87,20 +81,16 @@ fn put_course(page: &mut Page, course: &Course) {
         page.node(before, *node);
         before = ",";
     }
-    page.node(" end=", course.end);
-    page.put("\n");
+    page.tell(" end=%\n", &[course.end.get()]);
 }
 
 /// Whether blue goes from one node to another, whether red does, and whether they share only what separates the two.
-fn put_reaches(alloc: Global, words: &[&str], page: &mut Page) {
-    let Some(island) = island_told(alloc, words, page) else {
-        return;
-    };
-    let (from, to) = ends_told(words);
-    if island.cert.node_count() <= from || island.cert.node_count() <= to {
-        return page.put(NOT_ASKED);
-    }
-    let (blue, red, apart) = told_of(alloc, &island, NodeNo::new(from), NodeNo::new(to), page);
+fn put_reaches(alloc: Global, island: &Island, s: NodeNo, t: NodeNo, page: &mut Page)
+    requires within { AreWithin (length island.now.cert.nodes) island.now.links.items }
+    requires source { s < length island.now.cert.nodes }
+    requires target { t < length island.now.cert.nodes }
+{
+    let (blue, red, apart) = told_of(alloc, island, s, t, page);
     put_yes(page, "blue=", blue);
     put_yes(page, " red=", red);
     put_yes(page, " apart=", apart);
@@ -135,7 +125,7 @@ fn element_told(words: &[&str]) -> Element {
 }
 
 /// Whether an element separates two nodes.
-fn put_separates(alloc: Global, words: &[&str], page: &mut Page) {
+pub fn put_separates(alloc: Global, words: &[&str], page: &mut Page) {
     let count = number_or(words, "nodes", 0);
     let pairs = pairs_told(alloc, list(words, "links"), '-', page);
     if let Some(links) = links_between(alloc, count, &pairs, page) {
@@ -146,18 +136,15 @@ fn put_separates(alloc: Global, words: &[&str], page: &mut Page) {
 fn put_separated(alloc: Global, count: u16, links: &[Link], words: &[&str], page: &mut Page)
     requires { AreWithin count links.now }
 {
-    let (from, to) = ends_told(words);
-    if count <= from || count <= to {
-        return page.put(NOT_ASKED);
+    if let Some((s, t)) = two_nodes(words, "from", "to", count, page) {
+        let is_so = page.found(separates(alloc, links, count, element_told(words), s, t));
+        put_yes(page, "", is_so);
+        page.put("\n");
     }
-    let (s, t) = (NodeNo::new(from), NodeNo::new(to));
-    let is_so = page.found(separates(alloc, links, count, element_told(words), s, t));
-    put_yes(page, "", is_so);
-    page.put("\n");
 }
 
 /// The links of a graph as a list.
-fn put_links_of(alloc: Global, words: &[&str], page: &mut Page) {
+pub fn put_links_of(alloc: Global, words: &[&str], page: &mut Page) {
     let Some(g) = graph(alloc, words, page) else {
         return;
     };
@@ -171,8 +158,6 @@ fn put_pairs(page: &mut Page, links: &[Link]) {
     page.number("count=", links.len() as u64);
     page.put("\n");
     for link in links {
-        page.node("", link.a);
-        page.node("-", link.b);
-        page.put("\n");
+        page.tell("%-%\n", &[link.a.get(), link.b.get()]);
     }
 }

@@ -5,16 +5,17 @@ ghost use Rattle.std.specs.Prelude.{◌≢◌, ◌<◌, IsTrue, length};
 ghost use Rattle.mrt_graph.specs.AcceptedFor.{IsAcceptedFor};
 ghost use Rattle.mrt_plain.specs.Within.{AreWithin};
 
+use crate::calls::Call;
 use crate::island::{Island, Two, island_of};
 use crate::plain::told_of;
-use crate::told::node;
+use crate::told::two_nodes;
 use cert_checker::{Verdict, check};
 use mrt_graph::{Cert, CertFile, Color, Graph, LinkNo, NodeNo};
 use parts_of_tests::Page;
 use proxy_rows::{Out, ProxyError, ProxyRow, proxy_rows, proxy_text};
 use std::alloc::Global;
 
-pub const NOT_ASKED: &str = "not asked: no accepted certificate, or no such nodes\n";
+pub const NOT_ASKED: &str = "not asked: no accepted certificate, or no two nodes\n";
 
 pub fn is_accepted(g: &Graph, root: NodeNo, file: &CertFile) -> bool
     requires { root < length g.now.ids }
@@ -38,21 +39,14 @@ pub fn put_proxy_text(
     requires accepted { IsAcceptedFor g.now c.now }
     requires root { root < length g.now.ids }
 {
-    if c.node_count() <= root.get() || c.node(root).order != 1 {
-        return page.put(NOT_ASKED);
-    }
-    let Some(a) = node(g, words, "a") else {
-        return page.put(NOT_ASKED);
-    };
-    let Some(b) = node(g, words, "b") else {
-        return page.put(NOT_ASKED);
-    };
-    if a == b {
-        return page.put(NOT_ASKED);
-    }
-    match proxy_text(alloc, g, root, c, a, b) {
-        Ok(text) => page.put_bytes(&text),
-        Err(error) => put_error(page, error),
+    if let Some((a, b)) = two_nodes(words, "a", "b", g.node_count(), page) {
+        if a == b || c.node_count() <= root.get() || c.node(root).order != 1 {
+            return page.put(NOT_ASKED);
+        }
+        match proxy_text(alloc, g, root, c, a, b) {
+            Ok(text) => page.put_bytes(&text),
+            Err(error) => put_error(page, error),
+        }
     }
 }
 
@@ -67,18 +61,14 @@ fn put_error(page: &mut Page, error: ProxyError) {
 pub fn put_proxy_rows(alloc: Global, g: &Graph, c: &Cert, words: &[&str], page: &mut Page)
     requires { IsAcceptedFor g.now c.now }
 {
-    let Some(a) = node(g, words, "a") else {
-        return page.put(NOT_ASKED);
-    };
-    let Some(b) = node(g, words, "b") else {
-        return page.put(NOT_ASKED);
-    };
-    if a == b {
-        return page.put(NOT_ASKED);
-    }
-    match proxy_rows(alloc, g, c, a, b) {
-        Ok(rows) => put_rows(page, &rows),
-        Err(error) => put_error(page, error),
+    if let Some((a, b)) = two_nodes(words, "a", "b", g.node_count(), page) {
+        if a == b {
+            return page.put(NOT_ASKED);
+        }
+        match proxy_rows(alloc, g, c, a, b) {
+            Ok(rows) => put_rows(page, &rows),
+            Err(error) => put_error(page, error),
+        }
     }
 }
 
@@ -101,14 +91,18 @@ fn put_out(page: &mut Page, before: &str, out: Out) {
     }
 }
 
-/// Whether the plain programs find the rows for each two routers sound, as rows for one node more.
-pub fn put_sound_proxies(alloc: Global, g: &Graph, c: &Cert, page: &mut Page)
+/// For each two nodes, what the plain programs find of the rows for both as routers, or where packets between them go next.
+pub fn put_each_two(alloc: Global, call: Call, g: &Graph, c: &Cert, page: &mut Page)
     requires { IsAcceptedFor g.now c.now }
 {
     for a in 0..g.node_count() {
         for b in 0..g.node_count() {
             if a != b {
-                put_sound_pair(alloc, g, c, NodeNo::new(a), NodeNo::new(b), page);
+                let (a, b) = (NodeNo::new(a), NodeNo::new(b));
+                match call {
+                    Call::Next => put_next(g, c, a, b, page),
+                    _ => put_sound_pair(alloc, g, c, a, b, page),
+                }
             }
         }
     }
@@ -120,9 +114,7 @@ fn put_sound_pair(alloc: Global, g: &Graph, c: &Cert, a: NodeNo, b: NodeNo, page
     requires second { b < length g.now.ids }
     requires different { a ≢ b }
 {
-    page.node("", a);
-    page.node(" ", b);
-    page.put(": ");
+    page.tell("% %: ", &[a.get(), b.get()]);
     match proxy_rows(alloc, g, c, a, b) {
         Ok(rows) => put_soundness(alloc, g, in_order(c, a, b), &rows, page),
         Err(error) => put_error(page, error),
@@ -150,7 +142,7 @@ fn put_soundness(
 ) {
     let count = g.node_count();
     let pairs = pairs_with(alloc, g, lower, upper, page);
-    let rows = rows_with(alloc, count, g.link_count(), lower, entries, page);
+    let rows = rows_with(alloc, g.link_count(), lower, entries, page);
     if let Some(island) = island_of(alloc, count.saturating_add(1), &pairs, &rows, page) {
         let is_so = is_sound_to(alloc, &island, count, page);
         page.put(if is_so { "sound\n" } else { "not sound\n" });
@@ -169,35 +161,30 @@ fn pairs_with(alloc: Global, g: &Graph, lower: u16, upper: u16, page: &mut Page)
     pairs
 }
 
-/// The rows of so many nodes and one more: for that one the proxy rows, and any for the others.
+/// The rows of some nodes and one more: those for that one by their entries, and any for the others. The first link to the
+/// new node is that of the lower router.
 fn rows_with(
     alloc: Global,
-    count: u16,
     first: u16,
     lower: u16,
     entries: &[ProxyRow],
     page: &mut Page,
 ) -> Vec<Two> {
     let mut rows = Vec::new(alloc);
-    for s in 0..count.saturating_add(1) {
-        for t in 0..count.saturating_add(1) {
-            if s != t {
-                page.note(rows.push(row_with(entries, s, t, first, lower)));
-            }
+    for s in 0..entries.len() {
+        let own = first.saturating_add(if s == usize::from(lower) { 0 } else { 1 });
+        for _ in 1..entries.len() {
+            page.note(rows.push((0, 0)));
         }
+        page.note(rows.push((
+            link_out(entries[s].blue, own),
+            link_out(entries[s].red, own),
+        )));
+    }
+    for _ in entries {
+        page.note(rows.push((0, 0)));
     }
     rows
-}
-
-/// The row of `s` for `t`, by the number of the first link to the new node, which is that of the lower router.
-fn row_with(entries: &[ProxyRow], s: u16, t: u16, first: u16, lower: u16) -> Two {
-    let own = first.saturating_add(if s == lower { 0 } else { 1 });
-    match entries.get(usize::from(s)) {
-        Some(entry) if usize::from(t) == entries.len() => {
-            (link_out(entry.blue, own), link_out(entry.red, own))
-        }
-        _ => (0, 0),
-    }
 }
 
 fn link_out(out: Out, own: u16) -> u16 {
@@ -222,30 +209,19 @@ fn is_sound_to(alloc: Global, island: &Island, t: u16, page: &mut Page) -> bool
     true
 }
 
-/// The next node on both colors, from each node to each other one.
-pub fn put_all_next(g: &Graph, c: &Cert, page: &mut Page)
-    requires { IsAcceptedFor g.now c.now }
-{
-    for s in 0..g.node_count() {
-        for t in 0..g.node_count() {
-            if s != t {
-                put_next(g, c, NodeNo::new(s), NodeNo::new(t), page);
-            }
-        }
-    }
-}
-
+/// The next node on both colors, from one node to another one.
 fn put_next(g: &Graph, c: &Cert, s: NodeNo, t: NodeNo, page: &mut Page)
     requires accepted { IsAcceptedFor g.now c.now }
     requires source { s < length g.now.ids }
     requires target { t < length g.now.ids }
     requires different { s ≢ t }
 {
-    page.node("", s);
-    page.node(" to ", t);
-    page.node(": blue=", next_of(g, c, Color::Blue, s, t));
-    page.node(" red=", next_of(g, c, Color::Red, s, t));
-    page.put("\n");
+    let blue = next_of(g, c, Color::Blue, s, t);
+    let red = next_of(g, c, Color::Red, s, t);
+    page.tell(
+        "% to %: blue=% red=%\n",
+        &[s.get(), t.get(), blue.get(), red.get()],
+    );
 }
 
 /// The node after `s` on a color, on the way to `t`.

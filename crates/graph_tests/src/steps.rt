@@ -3,11 +3,13 @@
 ghost use Rattle.std.specs.Prelude.{◌≡◌, ◌≤◌, ◌+◌, length};
 ghost use Rattle.cert_format.specs.Limits.{IsCertFile};
 
-use crate::certs::{cert_told, put_change};
+use crate::calls::Call;
+use crate::cert_words::rows_of;
+use crate::certs::{cert_of, put_change};
 use crate::devices::{only, put_outcome};
-use crate::told::{list, number, number_or};
+use crate::told::{list, number_or};
 use crate::told_bytes::show_line;
-use crate::told_files::file_named;
+use crate::told_files::{file_named, file_told};
 use cert_format::{CertWriter, WritableCert};
 use mrt_graph::{Cert, CertFile, Row};
 use mrt_io::{MemSink, PutError};
@@ -15,53 +17,36 @@ use parts_of_tests::Page;
 use std::alloc::Global;
 use std::rt::Files;
 
-/// Answers these calls, and no others. What the sink gained is compared with the front of the file that `as` names.
-pub fn answer<R: Files>(
-    rt: &R,
-    alloc: Global,
-    call: &str,
-    words: &[&str],
-    page: &mut Page,
-) -> bool {
-    if !matches!(call, "put_cert" | "put_in_steps" | "put_in_steps_failing") {
-        return false;
+/// Puts the certificate file that words tell. What a sink gained is compared with the front of the file that `as` names.
+pub fn put_steps<R: Files>(rt: &R, alloc: Global, call: Call, words: &[&str], page: &mut Page) {
+    let bytes = file_told(rt, alloc, words, page);
+    let whole = file_named(rt, alloc, list(words, "as"), page);
+    match call {
+        Call::PutCert => put_wholes(alloc, &bytes, &whole, words, page),
+        _ => put_in_parts(alloc, call, &bytes, &whole, words, page),
     }
-    if let Some(whole) = file_named(rt, alloc, list(words, "as"), page) {
-        if call == "put_cert" {
-            put_wholes(rt, alloc, &whole, words, page);
-        } else if let Some(file) = cert_told(rt, alloc, words, page) {
-            match number(words, "cuts") {
-                Some(cuts) => put_cuts(alloc, &file, &whole, cuts, page),
-                None => put_failing(alloc, &file, &whole, words, page),
-            }
-        }
-    }
-    true
 }
 
 /// Puts a whole file, for each number of the call that fails.
-fn put_wholes<R: Files>(rt: &R, alloc: Global, whole: &[u8], words: &[&str], page: &mut Page) {
+fn put_wholes(alloc: Global, bytes: &[u8], whole: &[u8], words: &[&str], page: &mut Page) {
     for fails in 0..number_or(words, "calls", 0) {
-        let Some(file) = cert_told(rt, alloc, words, page) else {
-            return;
-        };
-        page.count("", fails);
-        page.put(": ");
-        put_whole(alloc, file, whole, fails, page);
+        if let Some(file) = cert_of(alloc, bytes, page) {
+            page.tell("%: ", &[fails]);
+            put_whole(alloc, file, whole, fails, page);
+        }
     }
 }
 
 fn put_whole(alloc: Global, file: CertFile, whole: &[u8], fails: u16, page: &mut Page)
     requires { IsCertFile file }
 {
-    let Ok(writable) = WritableCert::new(alloc, file) else {
+    let Ok(mut sink) = MemSink::new(alloc, 98, 7, only(alloc, fails, page)) else {
         return page.lacks_memory();
     };
-    let fails = only(alloc, fails, page);
-    let Ok(mut sink) = MemSink::new(alloc, 98, 7, fails) else {
-        return page.lacks_memory();
-    };
-    put_outcome(page, writable.put(&mut sink));
+    match WritableCert::new(alloc, file) {
+        Ok(writable) => put_outcome(page, writable.put(&mut sink)),
+        Err(_) => page.lacks_memory(),
+    }
     put_gained(page, sink.bytes(), whole);
 }
 
@@ -76,35 +61,50 @@ fn put_gained(page: &mut Page, gained: &[u8], whole: &[u8]) {
     }
 }
 
-/// Puts a certificate in steps, for each place where its rows are cut: what comes of it, and from which cut on.
-fn put_cuts(alloc: Global, file: &CertFile, whole: &[u8], cuts: u16, page: &mut Page) {
+/// Puts a certificate in steps.
+fn put_in_parts(
+    alloc: Global,
+    call: Call,
+    bytes: &[u8],
+    whole: &[u8],
+    words: &[&str],
+    page: &mut Page,
+) {
+    if let Some(file) = cert_of(alloc, bytes, page) {
+        match call {
+            Call::PutInSteps => put_cuts(alloc, &file, whole, words, page),
+            _ => put_failing(alloc, &file, whole, words, page),
+        }
+    }
+}
+
+/// Puts it for each place where its rows are cut: what comes of it, and from which cut on.
+fn put_cuts(alloc: Global, file: &CertFile, whole: &[u8], words: &[&str], page: &mut Page) {
+    let cuts = number_or(words, "cuts", 0);
     let mut last = Page::new(alloc);
     for cut in 0..cuts {
         let mut told = Page::new(alloc);
         put_cut(alloc, file, whole, (cut, 100), &mut told);
         put_change(page, usize::from(cut), &told, &mut last);
     }
-    page.count("before ", cuts);
-    page.put("\n");
+    page.tell("before %\n", &[cuts]);
 }
 
-/// Puts a certificate in steps, for each number of the call that fails.
+/// Puts it for each number of the call that fails.
 fn put_failing(alloc: Global, file: &CertFile, whole: &[u8], words: &[&str], page: &mut Page) {
     let first = number_or(words, "first", 0);
     for fails in 0..number_or(words, "calls", 0) {
-        page.count("", fails);
-        page.put(": ");
+        page.tell("%: ", &[fails]);
         put_cut(alloc, file, whole, (first, fails), page);
     }
 }
 
-/// Puts a certificate in steps, by the place where its rows are cut and the number of the call that fails.
+/// Puts it by the place where its rows are cut and the number of the call that fails.
 fn put_cut(alloc: Global, file: &CertFile, whole: &[u8], how: (u16, u16), page: &mut Page) {
-    let fails = only(alloc, how.1, page);
-    let Ok(mut sink) = MemSink::new(alloc, 110, 7, fails) else {
+    let Ok(mut sink) = MemSink::new(alloc, 110, 7, only(alloc, how.1, page)) else {
         return page.lacks_memory();
     };
-    let rows = file.cert.rows();
+    let rows = rows_of(alloc, &file.cert, page);
     let rows = &rows[..rows.len().min(100)];
     let (first, rest) = rows.split_at(rows.len().min(usize::from(how.0)));
     put_in_steps(alloc, &mut sink, file, first, rest, page);

@@ -1,9 +1,9 @@
 //! `stream`: a certificate that is put as its rows are found, read back; and `is_same`: whether the certificates of
 //! two graphs, told before and after the word `beside`, are the same.
 
-use crate::cert_words::put_file;
+use crate::calls::Call;
+use crate::certs::put_read;
 use crate::told::{graph, node};
-use cert_format::read_cert;
 use cert_stream::CertStream;
 use mrt_io::MemSink;
 use parts_of_tests::Page;
@@ -14,21 +14,9 @@ const ROOM: u32 = 100_000;
 
 const STEP: u32 = 40_000;
 
-/// Answers these calls, and no others.
-pub fn answer(alloc: Global, call: &str, words: &[&str], page: &mut Page) -> bool {
-    match call {
-        "stream" => put_stream(alloc, words, page),
-        "is_same" => put_is_same(alloc, words, page),
-        _ => return false,
-    }
-    true
-}
-
 /// The certificate that words tell by a graph and its root. Where they tell none, it says why.
 fn stream_of(alloc: Global, words: &[&str], page: &mut Page) -> Option<CertStream> {
-    let Some(g) = graph(alloc, words, page) else {
-        return None;
-    };
+    let g = graph(alloc, words, page)?;
     let Some(root) = node(&g, words, "root") else {
         page.put("no root\n");
         return None;
@@ -40,35 +28,30 @@ fn stream_of(alloc: Global, words: &[&str], page: &mut Page) -> Option<CertStrea
     None
 }
 
-fn put_stream(alloc: Global, words: &[&str], page: &mut Page) {
-    let Some(stream) = stream_of(alloc, words, page) else {
-        return;
-    };
-    let Ok(mut sink) = MemSink::new(alloc, ROOM, STEP, Vec::new(alloc)) else {
-        return page.lacks_memory();
-    };
-    if stream.put(&mut sink).is_err() {
-        return page.put("not put\n");
-    }
-    match read_cert(alloc, sink.bytes()) {
-        Ok(file) => put_file(page, &file),
-        Err(_) => page.put("not read\n"),
+pub fn put_stream(alloc: Global, words: &[&str], page: &mut Page) {
+    if let Some(stream) = stream_of(alloc, words, page) {
+        match streamed(alloc, stream) {
+            Some(sink) => put_read(alloc, Call::ReadCert, sink.bytes(), page),
+            None => page.put("not put\n"),
+        }
     }
 }
 
-fn put_is_same(alloc: Global, words: &[&str], page: &mut Page) {
+/// The sink that a certificate was put to.
+fn streamed(alloc: Global, stream: CertStream) -> Option<MemSink> {
+    let mut sink = MemSink::new(alloc, ROOM, STEP, Vec::new(alloc)).ok()?;
+    stream.put(&mut sink).ok()?;
+    Some(sink)
+}
+
+pub fn put_is_same(alloc: Global, words: &[&str], page: &mut Page) {
     let (one, other) = cut_at(words, "beside");
-    let Some(one) = stream_of(alloc, one, page) else {
-        return;
-    };
-    let Some(other) = stream_of(alloc, other, page) else {
-        return;
-    };
-    page.put(if one.is_same(other) {
-        "true\n"
-    } else {
-        "false\n"
-    });
+    if let Some(one) = stream_of(alloc, one, page) {
+        if let Some(other) = stream_of(alloc, other, page) {
+            page.truth("", one.is_same(other));
+            page.put("\n");
+        }
+    }
 }
 
 /// The words before a word and those after it.

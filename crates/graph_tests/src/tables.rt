@@ -8,7 +8,6 @@ ghost use Rattle.mrt_rows.specs.Making.{MakeRows};
 ghost use Rattle.mrt_rows.specs.Rooted.{MakeColumns};
 
 use crate::cert_words::{put_cert, put_links, put_nodes, put_row, put_row_list};
-use crate::gadags::directed_of;
 use mrt_graph::{Column, Directed, Graph, NodeNo};
 use mrt_rows::{RootedColumns, SourceRows, column_of, compute, rows_of};
 use parts_of_tests::Page;
@@ -21,20 +20,17 @@ pub fn put_computed(alloc: Global, g: &Graph, root: NodeNo, page: &mut Page)
     requires { root < length g.now.ids }
 {
     match compute(alloc, g, root) {
-        Ok(cert) => put_cert(page, &cert),
+        Ok(cert) => put_cert(alloc, &cert, page),
         Err(_) => page.lacks_memory(),
     }
 }
 
-pub fn put_rows(alloc: Global, g: &Graph, root: NodeNo, page: &mut Page)
-    requires { root < length g.now.ids }
+pub fn put_rows(alloc: Global, g: &Graph, root: NodeNo, d: &Directed, page: &mut Page)
+    requires { SaysOrdered g.now root d.now }
 {
-    let Ok(d) = directed_of(alloc, g, root) else {
-        return page.lacks_memory();
-    };
     for n in 0..g.node_count() {
         page.count("from ", n);
-        match rows_of(alloc, g, root, &d, NodeNo::new(n)) {
+        match rows_of(alloc, g, root, d, NodeNo::new(n)) {
             Ok(rows) => put_row_list(page, &rows),
             Err(_) => page.lacks_memory(),
         }
@@ -75,14 +71,11 @@ fn put_near_words(alloc: Global, g: &Graph, rows: &SourceRows, page: &mut Page)
     }
 }
 
-pub fn put_column_each(alloc: Global, g: &Graph, root: NodeNo, page: &mut Page)
-    requires { root < length g.now.ids }
+pub fn put_column_each(alloc: Global, g: &Graph, root: NodeNo, d: &Directed, page: &mut Page)
+    requires { SaysOrdered g.now root d.now }
 {
-    let Ok(d) = directed_of(alloc, g, root) else {
-        return page.lacks_memory();
-    };
     for n in 0..g.node_count() {
-        put_column_of(alloc, g, root, &d, NodeNo::new(n), page);
+        put_column_of(alloc, g, root, d, NodeNo::new(n), page);
     }
 }
 

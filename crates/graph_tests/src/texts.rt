@@ -2,11 +2,11 @@
 
 ghost use Rattle.std.specs.Prelude.{◌≤◌, length};
 
+use crate::calls::Call;
 use crate::told::{list, number, told};
 use crate::told_bytes::{bytes_told, show, show_line};
 use mrt_graph::{
-    Kind, NoMemory, NodeId, NodeText, first_line, first_word, is_passed_over, read_address,
-    read_number,
+    NoMemory, NodeId, NodeText, first_line, first_word, is_passed_over, read_address, read_number,
 };
 use parts_of_tests::Page;
 use std::alloc::Global;
@@ -14,27 +14,14 @@ use text_parts::{
     LineError, TakesLines, push, push_count, push_hop, push_node, push_number, text_of,
 };
 
-/// Answers these calls, and no others.
-pub fn answer(alloc: Global, call: &str, words: &[&str], page: &mut Page) -> bool {
+/// What is read of a text.
+pub fn put_read(alloc: Global, call: Call, words: &[&str], page: &mut Page) {
+    let text = bytes_told(alloc, words, "text", page);
     match call {
-        "number" | "address" | "lines" | "rising" => {
-            let text = bytes_told(alloc, words, "text", page);
-            put_of_text(call, &text, page);
-        }
-        "node_text" => put_node_text(words, page),
-        "node_order" => put_node_order(words, page),
-        "push" => put_pushed(alloc, words, page),
-        _ => return false,
-    }
-    true
-}
-
-fn put_of_text(call: &str, text: &[u8], page: &mut Page) {
-    match call {
-        "number" => put_found(page, read_number(text)),
-        "address" => put_found(page, read_address(text)),
-        "lines" => put_lines(page, text),
-        _ => put_rising(page, text),
+        Call::Number => put_found(page, read_number(&text)),
+        Call::Address => put_found(page, read_address(&text)),
+        Call::Lines => put_lines(page, &text),
+        _ => put_rising(page, &text),
     }
 }
 
@@ -83,31 +70,20 @@ fn put_words(page: &mut Page, line: &[u8]) {
 
 /// The identifier that a text tells, as `router:1.2.3.4`.
 fn id_told(text: &str) -> NodeId {
-    let (kind, number) = text.split_once(':').unwrap_or(("", ""));
-    let kind = if kind == "network" {
-        Kind::Network
-    } else {
-        Kind::Router
-    };
-    NodeId {
-        kind,
-        number: address_told(number),
+    let (kind, number) = text.split_once(':').unwrap_or(("", text));
+    match kind {
+        "network" => NodeId::network(address_told(number)),
+        _ => NodeId::router(address_told(number)),
     }
 }
 
-/// A number by its four bytes.
+/// The address that a text tells.
 fn address_told(text: &str) -> u32 {
-    let mut number: u32 = 0;
-    for part in text.split('.') {
-        number = number
-            .wrapping_mul(256)
-            .wrapping_add(part.parse().unwrap_or(0));
-    }
-    number
+    read_address(text.as_bytes()).unwrap_or(0)
 }
 
 /// The name of a node, and the address that this name is.
-fn put_node_text(words: &[&str], page: &mut Page) {
+pub fn put_node_text(words: &[&str], page: &mut Page) {
     let text = NodeText::new(id_told(list(words, "id")));
     show(page, text.bytes());
     page.put(" address=");
@@ -115,25 +91,29 @@ fn put_node_text(words: &[&str], page: &mut Page) {
 }
 
 /// Each identifier beside the next one.
-fn put_node_order(words: &[&str], page: &mut Page) {
+pub fn put_node_order(words: &[&str], page: &mut Page) {
     let mut last = None;
     for text in list(words, "ids").split_terminator(',') {
         let id = id_told(text);
         if let Some(before) = last {
-            page.put(if before < id {
-                "below\n"
-            } else if before == id {
-                "the same\n"
-            } else {
-                "above\n"
-            });
+            page.put(order_word(before, id));
         }
         last = Some(id);
     }
 }
 
+fn order_word(before: NodeId, id: NodeId) -> &'static str {
+    if before < id {
+        return "below\n";
+    }
+    if before == id {
+        return "the same\n";
+    }
+    "above\n"
+}
+
 /// A text with a part put at its end.
-fn put_pushed(alloc: Global, words: &[&str], page: &mut Page) {
+pub fn put_pushed(alloc: Global, words: &[&str], page: &mut Page) {
     let mut text = bytes_told(alloc, words, "to", page);
     let more = bytes_told(alloc, words, "bytes", page);
     page.note(push_part(words, &mut text, &more));

@@ -52,10 +52,32 @@ pub fn node(g: &Graph, words: &[&str], name: &str) -> Option<NodeNo>
     }
 }
 
+/// The two nodes, among so many, whose numbers stand after two names. Where one is not there, it says so.
+pub fn two_nodes(
+    words: &[&str],
+    one: &str,
+    other: &str,
+    count: u16,
+    page: &mut Page,
+) -> Option<(NodeNo, NodeNo)>
+    ensures { IfSome result (λ two. (two.0 < count) × (two.1 < count)) }
+{
+    let one = number_or(words, one, u16::MAX);
+    let other = number_or(words, other, u16::MAX);
+    if one < count && other < count {
+        return Some((NodeNo::new(one), NodeNo::new(other)));
+    }
+    page.put("not asked: no such nodes\n");
+    None
+}
+
 /// Both numbers of a text, as `10/20`.
 pub fn two(text: &str, mark: char) -> Option<(u16, u16)> {
     let (one, other) = text.split_once(mark)?;
-    Some((one.parse().ok()?, other.parse().ok()?))
+    match (one.parse(), other.parse()) {
+        (Ok(one), Ok(other)) => Some((one, other)),
+        _ => None,
+    }
 }
 
 /// The link that a text tells, as `0-1:10/20:1/2`. Metrics that are not told are 10, link data that is not told is 0.

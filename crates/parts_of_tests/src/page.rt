@@ -147,6 +147,18 @@ impl Page {
         self.count(before, link.get());
     }
 
+    /// Puts a text with these numbers in the places of its `%`.
+    pub fn tell(&mut self, form: &str, numbers: &[u16]) {
+        let mut place = 0usize;
+        for part in form.split('%') {
+            self.put(part);
+            if let Some(number) = numbers.get(place) {
+                self.count("", *number);
+            }
+            place = place.wrapping_add(1);
+        }
+    }
+
     /// Puts a node's name.
     pub fn name(&mut self, id: NodeId) {
         self.put_bytes(NodeText::new(id).bytes());

@@ -1,0 +1,91 @@
+//! The calls of rows, and their names.
+
+/// A call.
+#[derive(Clone, Copy)]
+pub enum Call {
+    Bytes,
+    Lsas,
+    Copies,
+    Written,
+    Cuts,
+    Alike,
+    Sums,
+    WrittenRouter,
+    Longest,
+    Install,
+    Orders,
+    Updates,
+    Deliver,
+    Script,
+    Flood,
+    Profile,
+    Ring,
+    Apart,
+    Made,
+    SurveyMade,
+    Area,
+    Find,
+    Named,
+    Numbered,
+    Island,
+    Primaries,
+    LoopFree,
+    LfaText,
+    Routes,
+    OrderText,
+    TableHead,
+    TableLine,
+    Alternate,
+    Repairs,
+    Fabric,
+    Survey,
+}
+
+const CALLS: [(&str, Call); 36] = [
+    ("bytes", Call::Bytes),
+    ("lsas", Call::Lsas),
+    ("copies", Call::Copies),
+    ("written", Call::Written),
+    ("cuts", Call::Cuts),
+    ("alike", Call::Alike),
+    ("sums", Call::Sums),
+    ("written_router", Call::WrittenRouter),
+    ("longest", Call::Longest),
+    ("install", Call::Install),
+    ("orders", Call::Orders),
+    ("updates", Call::Updates),
+    ("deliver", Call::Deliver),
+    ("script", Call::Script),
+    ("flood", Call::Flood),
+    ("profile", Call::Profile),
+    ("ring", Call::Ring),
+    ("apart", Call::Apart),
+    ("made", Call::Made),
+    ("survey_made", Call::SurveyMade),
+    ("area", Call::Area),
+    ("find", Call::Find),
+    ("named", Call::Named),
+    ("numbered", Call::Numbered),
+    ("island", Call::Island),
+    ("primaries", Call::Primaries),
+    ("loop_free", Call::LoopFree),
+    ("lfa_text", Call::LfaText),
+    ("routes", Call::Routes),
+    ("order_text", Call::OrderText),
+    ("table_head", Call::TableHead),
+    ("table_line", Call::TableLine),
+    ("alternate", Call::Alternate),
+    ("repairs", Call::Repairs),
+    ("fabric", Call::Fabric),
+    ("survey", Call::Survey),
+];
+
+/// The call of this name.
+pub fn call_named(name: &str) -> Option<Call> {
+    for (other, call) in &CALLS {
+        if *other == name {
+            return Some(*call);
+        }
+    }
+    None
+}
