@@ -6,10 +6,11 @@ file that the form reads or writes; its ratios to `mrt certify` of the same area
 memory, beside the database and beside that file. `table` and `order` ask for a router in the middle, `lfa`, `trace` and the failure in `fabric-ten`
 and `fabric-all` for one with two links (or as near to two as there are), and the forms in `-hub` for the one with most, where these are more than eight.
 
-A row says where a bound does not hold: a table takes at most 0.1 s or 1.5 times `certify`, whichever is more; twice the nodes at most 4.4 times
-the time, where this is over 20 ms; another program answers the same; `trace`, `fabric-ten`, `proxy` and `flood` take at most 1.5 times `lfa` of a
-router with two links on the same area. With --check the status is 1 where one of the first three does not hold, with --strict where any. It builds
-the program where need be, if none is named; it fetches nothing.
+A row says where a bound does not hold: a table takes at most 0.1 s or 1.5 times `certify`, whichever is more; `check` and `upgrade` at most 10 ms
+more than 1.5 times sha256sum of the largest file, in at most 4 MB more than 1.1 times the certificate and six times the database; twice the nodes
+at most 4.4 times the time, where this is over 20 ms; another program answers the same; `trace`, `fabric-ten`, `proxy` and `flood` take at most
+1.5 times `lfa` of a router with two links on the same area. With --check the status is 1 where one of these does not hold but the last, with
+--strict where any. It builds the program where need be, if none is named; it fetches nothing.
 """
 import argparse
 import filecmp
@@ -27,6 +28,9 @@ from inputs import Inputs
 
 SIZE, ROUNDS, BUDGET, PATIENCE = 4096, 7, 12, 120
 TABLE_SECONDS, TABLE_RATIO, LFA_RATIO, GROWTH, GROWTH_FROM = 0.1, 1.5, 1.5, 4.4, 0.02
+FILE_RATIO, FILE_SECONDS = 1.5, 0.01
+OF_CERTIFICATE, OF_DATABASE, MEMORY = 1.1, 6, 4e6
+OF_FILES = "check", "upgrade"
 AS_LFA = "trace", "fabric-ten", "proxy", "flood"
 FORMS = (
     ["certify", "check", "upgrade", "table", "table-hub", "trace", "fabric-ten", "fabric-all"]
@@ -36,7 +40,7 @@ COLUMNS = f"{'shape':<15}{'form':<11}{'nodes':>6}{'ms':>9}{'certify':>9}{'sha256
 
 # Seconds of the form, of the other program's and of sha256sum of the file, whose size is told; a fault where the form did not end well, so that there
 # are no times; whether the other program answers otherwise.
-Row = namedtuple("Row", "shape form nodes seconds beside sha file memory database fault differs", defaults=[None, False])
+Row = namedtuple("Row", "shape form nodes seconds beside sha file memory database certificate fault differs", defaults=[None, False])
 
 
 # runs
@@ -72,9 +76,11 @@ def row_of(programs, shape, form, inputs, words):
     if first.status != 0:
         line = first.errors.decode().strip() or f"status {first.status}"
         fault = f"over {PATIENCE} s" if first.status is None else line
-        return Row(shape, form, nodes, None, None, None, 0, first.memory, database, fault)
+        return Row(shape, form, nodes, None, None, None, 0, first.memory, database, 0, fault)
     if form == "certify":
         shutil.copy(text, inputs.path("certificate"))
+    written = inputs.path("certificate")
+    certificate = os.path.getsize(written) if os.path.exists(written) else 0
     if form == "flood":
         with open(text, "rb") as answers:
             if not answers.read().endswith(b"\nsame\n"):
@@ -85,7 +91,7 @@ def row_of(programs, shape, form, inputs, words):
     differs = programs.differ(words, text)
     commands = [[program, *words] for program in programs.all()] + [["sha256sum", summed]]
     *times, sha = timing.in_turn(commands, text, programs.rounds, BUDGET)
-    return Row(shape, form, nodes, times[0], times[-1], sha, os.path.getsize(summed), first.memory, database, None, differs)
+    return Row(shape, form, nodes, times[0], times[-1], sha, os.path.getsize(summed), first.memory, database, certificate, None, differs)
 
 
 def rows_of(programs, shape, size, forms, folder):
@@ -107,6 +113,16 @@ def growth(row, half):
     return row.seconds / half.seconds if half and row.seconds and half.seconds else None
 
 
+def over_its_files(row):
+    """What `check` or `upgrade` takes too much of, beside the files that it reads and writes."""
+    seconds = FILE_RATIO * row.sha + FILE_SECONDS
+    memory = OF_CERTIFICATE * row.certificate + OF_DATABASE * row.database + MEMORY
+    if row.seconds > seconds:
+        yield f"TOO MUCH: over {seconds * 1000:.1f} ms"
+    if row.memory > memory:
+        yield f"TOO MUCH: over {memory / 1e6:.1f} MB"
+
+
 def faults(row, rows, half):
     """What a row breaks, and what only --strict asks for."""
     if row.fault:
@@ -115,6 +131,8 @@ def faults(row, rows, half):
     certify, lfa = rows["certify"].seconds, rows["lfa"].seconds
     if row.form.startswith("table") and certify and row.seconds > max(TABLE_SECONDS, TABLE_RATIO * certify):
         hard.append(f"TOO MUCH: over {TABLE_RATIO} times certify")
+    if row.form in OF_FILES:
+        hard += over_its_files(row)
     if grown and grown > GROWTH and row.seconds > GROWTH_FROM:
         hard.append(f"TOO MUCH: over {GROWTH} times for twice the nodes")
     if row.form in AS_LFA and lfa and row.seconds > LFA_RATIO * lfa:

@@ -1,5 +1,7 @@
+pub mod Among
 pub mod BlockRuleHolds
 pub mod CommonBlocks
 pub mod Kept
+pub mod RelatedRows
 pub mod RowJudged
 pub mod Verdicts

@@ -20,6 +20,7 @@ pub(crate) struct RuleJudged {
 }
 
 /// Whether the row of `s` for `t` keeps what its tag asks. A row that is carried asks for no hops.
+#[inline(always)]
 pub(crate) fn judge_rule(
     g: &Graph,
     c: &Cert,

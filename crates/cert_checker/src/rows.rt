@@ -3,27 +3,44 @@
 ghost use Rattle.std.specs.Prelude.{◌≡◌, ◌<◌, ◌+◌, length};
 ghost use Rattle.cert_checker.specs.KnownNode.{AreHops, IsKnown};
 ghost use Rattle.cert_checker.specs.RowFaults.{JudgedRow, KeptBefore, better, lesser_fault, row_test};
-ghost use Rattle.mrt_graph.specs.SameGraph.{SameCounts};
+ghost use Rattle.mrt_graph.specs.{HeadsAndBlocks.HeadsHold, SameGraph.SameCounts};
 
 use crate::fault::Fault;
 use crate::hops::Hops;
 use crate::known_node::{KnownNode, known_node};
+use crate::related_rows::first_related_fault;
 use crate::row_rules::judge_rule;
 use crate::row_words::number_of;
 use mrt_graph::{Cert, Graph, NodeNo};
 
 /// The rule that a row breaks, if it breaks one, and the hops that serve the next row.
 #[derive(Drop)]
-struct RowJudged {
-    fault: Option<u8>,
-    hops: Hops,
+pub(crate) struct RowJudged {
+    pub fault: Option<u8>,
+    pub hops: Hops,
 }
 
 /// The first rule on rows that fails, and its first place.
 ///
+/// Where the rows of related nodes alone are held, the others keep their rule, and are not read.
+///
 /// Each row meets the rule of its tag alone, so one pass keeps the least rule that has failed, with the place where it
 /// failed first. The fourteenth rule follows from rules 1, 3 and 4 and those of the tags, so no row is asked for it.
 pub(crate) fn first_row_fault(g: &Graph, c: &Cert, root: NodeNo) -> Option<Fault>
+    requires counts { SameCounts g.now c.now }
+    requires heads { HeadsHold c.now root }
+    requires root { root < length c.now.nodes }
+    ensures { KeptBefore (row_test g.now root c.now) (length c.now.nodes)
+        (length c.now.nodes) 0 result }
+{
+    match c.relatives() {
+        None => first_held_fault(g, c, root),
+        Some(relatives) => first_related_fault(g, c, root, relatives),
+    }
+}
+
+/// The same, where all rows are held.
+fn first_held_fault(g: &Graph, c: &Cert, root: NodeNo) -> Option<Fault>
     requires { SameCounts g.now c.now }
     ensures { KeptBefore (row_test g.now root c.now) (length c.now.nodes)
         (length c.now.nodes) 0 result }
@@ -92,7 +109,15 @@ fn lesser(kept: Option<Fault>, fault: Fault) -> Fault
 }
 
 /// The rule of its tag, where the row of `s` for `t` breaks it.
-fn judge_row(g: &Graph, c: &Cert, root: NodeNo, s: &KnownNode, t: NodeNo, last: Hops) -> RowJudged
+#[inline(always)]
+pub(crate) fn judge_row(
+    g: &Graph,
+    c: &Cert,
+    root: NodeNo,
+    s: &KnownNode,
+    t: NodeNo,
+    last: Hops,
+) -> RowJudged
     requires counts { SameCounts g.now c.now }
     requires source { IsKnown c.now s.now }
     requires target { t < length c.now.nodes }

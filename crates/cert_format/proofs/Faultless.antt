@@ -1,27 +1,26 @@
 -- Bytes in which no field is at fault, read field by field: what they spell.
-use Rattle.std.proofs.Common.{◌≡◌, ◌+◌, ◌<◌, ◌≤◌, ◌^◌, ℕ, zero, suc, true, ltb, nat_le, nat_lt, List, [], ◌∷◌, ◌++◌, length, take, drop, Option, Some, None, inl, inr, refl, sym, ap, ◌∙◌, append_assoc, take-append-drop, arith}
+use Rattle.std.proofs.Common.{◌≡◌, ◌+◌, ◌<◌, ◌≤◌, ◌^◌, ℕ, zero, suc, ltb, List, [], ◌∷◌, ◌++◌, length, take, drop, Option, Some, None, inl, inr, refl, sym, ap, ◌∙◌, append_assoc, take-append-drop, arith}
 use Rattle.std.specs.Int.{Width, w8, w16, w32, byte_len, from_be_bytes, to_be_bytes}
 use Rattle.std.specs.List.{flat_map}
 use Rattle.std.specs.Prelude.{codes}
-use Rattle.std.proofs.lemmas.Bool.{and_parts, cases_Bool, cases_eq, eq-eqb, eqb-true, leb-true, ltb-false, ltb-true, ne_eqb}
+use Rattle.std.proofs.lemmas.Bool.{cases_Bool, ltb-false}
 use Rattle.std.proofs.lemmas.List.{length-take-le}
 use Rattle.mrt_graph.proofs.Bytes.{IsBytes, bytes_after}
 use Rattle.mrt_graph.specs.Certificate.{IsCertLink}
 use Rattle.mrt_graph.specs.Tags.{tag_number}
 use Rattle.mrt_graph.specs.declared.cert.CertNode.{CertNode}
-use Rattle.mrt_graph.specs.declared.cert.Role.{Role}
-use Rattle.mrt_graph.specs.declared.cert.Role.TheVariants as roles
-use Rattle.mrt_graph.specs.declared.cert.Tag.{Tag}
-use Rattle.mrt_graph.specs.declared.cert.Tag.TheVariants as tags
+use Rattle.mrt_graph.specs.declared.cert.CertLink.{CertLink}
+use Rattle.mrt_graph.specs.declared.cert.Row.{Row}
 use Rattle.cert_format.specs.declared.error.CertKind.{CertKind}
 use Rattle.cert_format.specs.declared.error.CertKind.TheVariants.{Heads, Trailing, Truncated}
 use Rattle.cert_format.specs.declared.header.Header.{Header}
 use Rattle.cert_format.specs.CertText.{header_text, kind_number, link_text, node_text, role_number, row_text}
 use Rattle.cert_format.specs.FirstFault.{fault_in, number_of}
-use Rattle.cert_format.specs.Layout.{End, Field, Form, Then, after_nodes, any, collected, exactly, head_place, header_form, kind_named, known_version, link_form, node_form, node_named, repeated, row_form, tag, within}
+use Rattle.cert_format.specs.Layout.{End, Field, Form, Then, after_nodes, allows, any, collected, exactly, head_place, header_form, kind_named, known_version, link_form, link_named, node_form, node_named, role_named, row_form, row_named, tag, tag_named, within}
 use Rattle.cert_format.specs.Reading.{IsFileRow, IsHeader, IsListOf, IsNode}
 use Rattle.cert_format.specs.Versions.{most_links, most_nodes, stray_head}
-use Rattle.cert_format.proofs.Fields.{IsWide, wide8, wide16, wide32}
+use Rattle.cert_format.proofs.Fields.{IsWide, wide8, wide16, wide32, field_told}
+use Rattle.cert_format.proofs.Parts.{kind_told, role_told, tag_told}
 use Rattle.cert_format.proofs.Files.{head_fails}
 
 -- something that is spelled at the front and keeps this, and then bytes in which no field of the form is at fault
@@ -37,7 +36,8 @@ pub record Reads {A : Type 0} (text : A → List ℕ) (Keeps : A → Type 0) (ne
 -- a number that a field allows
 pub record IsAllowed (field : Field) (number : ℕ) : Type 0 where
   pub fits : number < 256 ^ byte_len field.width
-  pub allowed : field.allows number ≡ true
+  pub least : field.least ≤ number
+  pub below : number < field.bound
 
 pub some_none : {X : Type 0} (x : X) → ◌≡◌ {A = Option X} (Some x) None → ⊥
 some_none x e = cc
@@ -59,12 +59,12 @@ field_read field next at bytes wide are none = elim (cases_Bool (ltb (length byt
       let size = byte_len field.width in
       let len = length-take-le size bytes (ltb-false _ _ long) in
       let fits = bytes_taken size bytes are in
-      elim (cases_Bool (field.allows (number_of field bytes))) [
+      elim (cases_Bool (allows field (number_of field bytes))) [
         | inl allowed ↦
             let later : fault_in (next (number_of field bytes)) (at + size) (drop size bytes) ≡ None = rw (long, allowed) at none in
             record {
               one = number_of field bytes;
-              keeps = record { fits = wide.small (take size bytes) len fits; allowed = allowed };
+              keeps = record { fits = wide.small (take size bytes) len fits; least = (field_told field (number_of field bytes) allowed).0; below = (field_told field (number_of field bytes) allowed).1 };
               at = at + size;
               rest = drop size bytes;
               spelled = sym (take-append-drop size bytes) ∙ ap (λ (t : List ℕ). t ++ drop size bytes) (sym (wide.back (take size bytes) len fits));
@@ -94,33 +94,6 @@ five_texts a b c d e bytes r s t u v first second third fourth fifth =
 number_text : (w : Width) (x y : ℕ) (bytes rest : List ℕ) → bytes ≡ to_be_bytes w x ++ rest → x ≡ y → bytes ≡ to_be_bytes w y ++ rest
 number_text w x y bytes rest spelled same = spelled ∙ ap (λ (it : ℕ). to_be_bytes w it ++ rest) same
 
-pub within_told : (w : Width) (least bound x : ℕ) → (within w least bound).allows x ≡ true → (least ≤ x) × (x < bound)
-within_told w least bound x e =
-    let tests = and_parts (nat_le least x) (nat_lt x bound) e in
-    (leb-true least x tests.0, ltb-true x bound tests.1)
-
-kind_told : (number : ℕ) → 1 ≤ number → number < 3 → kind_number (kind_named number) ≡ number
-kind_told number least below = elim (cases_eq number 1) [
-  | inl one ↦ rw (eq-eqb number 1 one) (sym one)
-  | inr other ↦ rw (ne_eqb number 1 other) (omega (arith, least, below, other))
-]
-
-role_of : (number : ℕ) → number < 3 → (role : Role) × (role_number role ≡ number)
-role_of zero below = (roles.Plain, refl)
-role_of (suc zero) below = (roles.Sole, refl)
-role_of (suc (suc zero)) below = (roles.Closing, refl)
-role_of (suc (suc (suc number))) below = absurd (omega (arith, below))
-
-tag_of : (number : ℕ) → number < 7 → (it : Tag) × (tag_number it ≡ number)
-tag_of zero below = (tags.Sole, refl)
-tag_of (suc zero) below = (tags.Head, refl)
-tag_of (suc (suc zero)) below = (tags.Top, refl)
-tag_of (suc (suc (suc zero))) below = (tags.Below, refl)
-tag_of (suc (suc (suc (suc zero)))) below = (tags.Above, refl)
-tag_of (suc (suc (suc (suc (suc zero))))) below = (tags.Unordered, refl)
-tag_of (suc (suc (suc (suc (suc (suc zero)))))) below = (tags.Carried, refl)
-tag_of (suc (suc (suc (suc (suc (suc (suc number))))))) below = absurd (omega (arith, below))
-
 pub header_read : (next : ℕ → ℕ → ℕ → Form) (at : ℕ) (bytes : List ℕ) → IsBytes bytes → fault_in (header_form next) at bytes ≡ None
     → Reads (λ it. header_text it.version it.nodes it.links it.root) (λ it. IsHeader it.version it.nodes it.links it.root)
     (λ (it : Header). next it.version it.nodes it.links) bytes
@@ -131,22 +104,21 @@ header_read next at bytes are none =
     let n = field_read (within w16 1 (most_nodes v.one + 1)) _ v.at v.rest wide16 v.are v.faultless in
     let l = field_read (within w16 0 (most_links v.one + 1)) _ n.at n.rest wide16 n.are n.faultless in
     let r = field_read (any w32) _ l.at l.rest wide32 l.are l.faultless in
-    let nodes = within_told w16 1 (most_nodes v.one + 1) n.one n.keeps.allowed in
-    let links = within_told w16 0 (most_links v.one + 1) l.one l.keeps.allowed in
     record {
       one = record { version = v.one; nodes = n.one; links = l.one; root = r.one };
       keeps = record {
-        known = v.keeps.allowed;
-        some_node = nodes.0;
-        few_nodes = omega (arith, nodes.1);
-        few_links = omega (arith, links.1);
+        from_one = v.keeps.least;
+        to_two = omega (arith, v.keeps.below);
+        some_node = n.keeps.least;
+        few_nodes = omega (arith, n.keeps.below);
+        few_links = omega (arith, l.keeps.below);
         root_fits = r.keeps.fits;
       };
       at = r.at;
       rest = r.rest;
       spelled = five_texts (codes "MRTC") (to_be_bytes w16 v.one) (to_be_bytes w16 n.one) (to_be_bytes w16 l.one) (to_be_bytes w32 r.one)
           bytes m.rest v.rest n.rest l.rest r.rest
-          (number_text w32 m.one wanted bytes m.rest m.spelled (eqb-true m.one wanted m.keeps.allowed)) v.spelled n.spelled l.spelled r.spelled;
+          (number_text w32 m.one wanted bytes m.rest m.spelled (omega (arith, m.keeps.least, m.keeps.below))) v.spelled n.spelled l.spelled r.spelled;
       are = r.are;
       faultless = r.faultless;
     }
@@ -159,16 +131,14 @@ node_read nodes next at bytes are none =
     let o = field_read (within w16 1 (nodes + 1)) _ i.at i.rest wide16 i.are i.faultless in
     let h = field_read (within w16 0 nodes) _ o.at o.rest wide16 o.are o.faultless in
     let b = field_read (within w16 0 nodes) _ h.at h.rest wide16 h.are h.faultless in
-    let kind = within_told w8 1 3 k.one k.keeps.allowed in
-    let order = within_told w16 1 (nodes + 1) o.one o.keeps.allowed in
     record {
       one = node_named k.one i.one o.one h.one b.one;
       keeps = record {
         kept = record {
-          order_from_one = order.0;
-          order_to_n = omega (arith, order.1);
-          head = (within_told w16 0 nodes h.one h.keeps.allowed).1;
-          block = (within_told w16 0 nodes b.one b.keeps.allowed).1;
+          order_from_one = o.keeps.least;
+          order_to_n = omega (arith, o.keeps.below);
+          head = h.keeps.below;
+          block = b.keeps.below;
         };
         number = i.keeps.fits;
       };
@@ -176,58 +146,55 @@ node_read nodes next at bytes are none =
       rest = b.rest;
       spelled = five_texts (to_be_bytes w8 (kind_number (kind_named k.one))) (to_be_bytes w32 i.one) (to_be_bytes w16 o.one) (to_be_bytes w16 h.one) (to_be_bytes w16 b.one)
           bytes k.rest i.rest o.rest h.rest b.rest
-          (number_text w8 k.one (kind_number (kind_named k.one)) bytes k.rest k.spelled (sym (kind_told k.one kind.0 kind.1))) i.spelled o.spelled h.spelled b.spelled;
+          (number_text w8 k.one (kind_number (kind_named k.one)) bytes k.rest k.spelled (sym (kind_told k.one k.keeps.least k.keeps.below))) i.spelled o.spelled h.spelled b.spelled;
       are = b.are;
       faultless = b.faultless;
     }
 
-pub link_read : (nodes : ℕ) (next : Form) (at : ℕ) (bytes : List ℕ) → IsBytes bytes → fault_in (link_form nodes next) at bytes ≡ None
-    → Reads link_text (IsCertLink nodes) (λ link. next) bytes
+pub link_read : (nodes : ℕ) (next : CertLink → Form) (at : ℕ) (bytes : List ℕ) → IsBytes bytes → fault_in (link_form nodes next) at bytes ≡ None
+    → Reads link_text (IsCertLink nodes) next bytes
 link_read nodes next at bytes are none =
     let a = field_read (any w16) _ at bytes wide16 are none in
     let b = field_read (within w16 (a.one + 1) nodes) _ a.at a.rest wide16 a.are a.faultless in
     let k = field_read (within w16 0 nodes) _ b.at b.rest wide16 b.are b.faultless in
     let r = field_read (within w8 0 3) _ k.at k.rest wide8 k.are k.faultless in
-    let upper = within_told w16 (a.one + 1) nodes b.one b.keeps.allowed in
-    let role = role_of r.one (within_told w8 0 3 r.one r.keeps.allowed).1 in
     record {
-      one = record { a = a.one; b = b.one; block = k.one; role = role.0 };
+      one = link_named a.one b.one k.one r.one;
       keeps = record {
-        ascending = omega (arith, upper.0);
-        upper = upper.1;
-        block = (within_told w16 0 nodes k.one k.keeps.allowed).1;
+        ascending = omega (arith, b.keeps.least);
+        upper = b.keeps.below;
+        block = k.keeps.below;
       };
       at = r.at;
       rest = r.rest;
-      spelled = four_texts (to_be_bytes w16 a.one) (to_be_bytes w16 b.one) (to_be_bytes w16 k.one) (to_be_bytes w8 (role_number role.0))
+      spelled = four_texts (to_be_bytes w16 a.one) (to_be_bytes w16 b.one) (to_be_bytes w16 k.one) (to_be_bytes w8 (role_number (role_named r.one)))
           bytes a.rest b.rest k.rest r.rest a.spelled b.spelled k.spelled
-          (number_text w8 r.one (role_number role.0) k.rest r.rest r.spelled (sym role.1));
+          (number_text w8 r.one (role_number (role_named r.one)) k.rest r.rest r.spelled (sym (role_told r.one r.keeps.below)));
       are = r.are;
       faultless = r.faultless;
     }
 
-pub row_read : (count links : ℕ) → count ≤ 7 → (next : Form) (at : ℕ) (bytes : List ℕ) → IsBytes bytes → fault_in (row_form count links next) at bytes ≡ None
-    → Reads row_text (IsFileRow count links) (λ row. next) bytes
+pub row_read : (count links : ℕ) → count ≤ 7 → (next : Row → Form) (at : ℕ) (bytes : List ℕ) → IsBytes bytes → fault_in (row_form count links next) at bytes ≡ None
+    → Reads row_text (IsFileRow count links) next bytes
 row_read count links few next at bytes are none =
     let b = field_read (within w16 0 links) _ at bytes wide16 are none in
     let r = field_read (within w16 0 links) _ b.at b.rest wide16 b.are b.faultless in
     let t = field_read (tag count) _ r.at r.rest wide8 r.are r.faultless in
-    let below = ltb-true t.one count t.keeps.allowed in
-    let it = tag_of t.one (omega (arith, below, few)) in
+    let told = tag_told t.one (omega (arith, t.keeps.below, few)) in
     record {
-      one = record { blue = b.one; red = r.one; tag = it.0 };
+      one = row_named b.one r.one t.one;
       keeps = record {
         kept = record {
-          blue = (within_told w16 0 links b.one b.keeps.allowed).1;
-          red = (within_told w16 0 links r.one r.keeps.allowed).1;
+          blue = b.keeps.below;
+          red = r.keeps.below;
         };
-        tagged = omega (arith, below, it.1);
+        tagged = omega (arith, t.keeps.below, told);
       };
       at = t.at;
       rest = t.rest;
-      spelled = three_texts (to_be_bytes w16 b.one) (to_be_bytes w16 r.one) (to_be_bytes w8 (tag_number it.0))
+      spelled = three_texts (to_be_bytes w16 b.one) (to_be_bytes w16 r.one) (to_be_bytes w8 (tag_number (tag_named t.one)))
           bytes b.rest r.rest t.rest b.spelled r.spelled
-          (number_text w8 t.one (tag_number it.0) r.rest t.rest t.spelled (sym it.1));
+          (number_text w8 t.one (tag_number (tag_named t.one)) r.rest t.rest t.spelled (sym told));
       are = t.are;
       faultless = t.faultless;
     }
@@ -257,18 +224,6 @@ collected_read part text Keeps reads (suc count) next at bytes are none =
     let first = reads (λ x. collected count part (λ xs. next (x ∷ xs))) at bytes are none in
     with_one_before text Keeps count next bytes first.rest first.one first.keeps first.spelled
     (collected_read part text Keeps reads count (λ xs. next (first.one ∷ xs)) first.at first.rest first.are first.faultless)
-
--- so many parts
-pub repeated_read : {A : Type 0} (part : Form → Form) (text : A → List ℕ) (Keeps : A → Type 0)
-    → ((next : Form) (at : ℕ) (bytes : List ℕ) → IsBytes bytes → fault_in (part next) at bytes ≡ None → Reads text Keeps (λ x. next) bytes)
-    → (count : ℕ) (next : Form) (at : ℕ) (bytes : List ℕ) → IsBytes bytes → fault_in (repeated count part next) at bytes ≡ None
-    → Reads (flat_map text) (IsListOf count Keeps) (λ xs. next) bytes
-repeated_read part text Keeps reads zero next at bytes are none =
-    record { one = []; keeps = record { many = refl; each = tt }; at = at; rest = bytes; spelled = refl; are = are; faultless = none }
-repeated_read part text Keeps reads (suc count) next at bytes are none =
-    let first = reads (repeated count part next) at bytes are none in
-    with_one_before text Keeps count (λ xs. next) bytes first.rest first.one first.keeps first.spelled
-    (repeated_read part text Keeps reads count next first.at first.rest first.are first.faultless)
 
 -- no head is at fault
 pub heads_read : (version links at : ℕ) (ns : List CertNode) (bytes : List ℕ) → fault_in (after_nodes version links ns) at bytes ≡ None

@@ -1,7 +1,9 @@
 -- A field that is read is the field that was written, and what was written is read again.
-use Rattle.std.proofs.Common.{◌≡◌, ℕ, ◌+◌, ◌^◌, ◌<◌, true, false, ltb, List, [], ◌∷◌, ◌++◌, length, get_or, Some, Result, Ok, Err, refl, sym, ap, subst, ◌∙◌, arith}
+use Rattle.std.proofs.Common.{◌≡◌, ℕ, ◌+◌, ◌^◌, ◌<◌, ◌≤◌, true, false, ltb, List, [], ◌∷◌, ◌++◌, length, get_or, Some, Result, Ok, Err, refl, sym, ap, subst, ◌∙◌, arith}
 use Rattle.std.specs.Int.{Width, w8, w16, w32, byte_len, from_be_bytes, to_be_bytes}
-use Rattle.std.proofs.lemmas.Bool.{lt-ltb, le-ltb}
+use Rattle.std.proofs.lemmas.Bool.{and_parts, leb-true, ltb-true, lt-ltb, le-ltb}
+use Rattle.std.proofs.lemmas.Bool.Decides.{nat_tests}
+use Rattle.std.specs.Prelude.{nat_le, nat_lt}
 use Rattle.std.proofs.lemmas.List.{take_at, drop_at, length-append}
 use Rattle.std.proofs.lemmas.Nat.{be_bytes_2, be_bytes_4, from_be_bytes-to_be_bytes_2, from_be_bytes-to_be_bytes_4}
 use Rattle.cert_format.specs.declared.error.CertKind.TheVariants.{Truncated}
@@ -14,7 +16,7 @@ use Rattle.mrt_graph.specs.declared.cert.Tag.TheVariants as tags
 use Rattle.mrt_graph.proofs.Bytes.{IsBytes}
 use Rattle.mrt_graph.specs.Tags.{tag_number}
 use Rattle.cert_format.specs.CertText.{kind_number, role_number}
-use Rattle.cert_format.specs.Layout.{any, Field, Form, Then, within, tag}
+use Rattle.cert_format.specs.Layout.{any, Field, Form, Then, allows}
 use Rattle.cert_format.specs.FirstFault.{number_of, fault_in}
 use Rattle.cert_format.specs.declared.error.CertFault.{CertFault}
 use Rattle.cert_format.specs.Reading.{Rest, Names, Took, TookField, ReadsNumber, ReadsField}
@@ -64,34 +66,43 @@ pub field_short : (field : Field) (next : ℕ → Form) (at : ℕ) (bytes : List
 unfolding fault_in
 field_short field next at bytes lt = rw (lt-ltb _ _ lt) refl
 
-pub field_passes : (field : Field) (next : ℕ → Form) (at n : ℕ) (rest : List ℕ) → IsWide field.width → n < 256 ^ byte_len field.width → field.allows n ≡ true
+pub field_allows : (field : Field) (n : ℕ) → field.least ≤ n → n < field.bound → allows field n ≡ true
+field_allows field n low high = grind (arith, nat_tests)
+
+pub field_passes : (field : Field) (next : ℕ → Form) (at n : ℕ) (rest : List ℕ) → IsWide field.width → n < 256 ^ byte_len field.width → field.least ≤ n → n < field.bound
     → fault_in (Then field next) at (to_be_bytes field.width n ++ rest) ≡ fault_in (next n) (at + byte_len field.width) rest
 unfolding fault_in
-field_passes field next at n rest wide lt allowed =
+field_passes field next at n rest wide lt low high =
     let long : ltb (length (to_be_bytes field.width n ++ rest)) (byte_len field.width) ≡ false = le-ltb _ _ (omega (arith, length-append (to_be_bytes field.width n) rest, wide.len n)) in
-    rw (long, written_is_read field n rest wide lt, allowed, drop_at (to_be_bytes field.width n) rest (byte_len field.width) (wide.len n)) refl
+    rw (long, written_is_read field n rest wide lt, field_allows field n low high, drop_at (to_be_bytes field.width n) rest (byte_len field.width) (wide.len n)) refl
 
-pub field_refuses : (field : Field) (next : ℕ → Form) (at n : ℕ) (rest : List ℕ) → IsWide field.width → n < 256 ^ byte_len field.width → field.allows n ≡ false
+pub field_refuses : (field : Field) (next : ℕ → Form) (at n : ℕ) (rest : List ℕ) → IsWide field.width → n < 256 ^ byte_len field.width → allows field n ≡ false
     → fault_in (Then field next) at (to_be_bytes field.width n ++ rest) ≡ Some (at, field.fault)
 unfolding fault_in
 field_refuses field next at n rest wide lt refused =
     let long : ltb (length (to_be_bytes field.width n ++ rest)) (byte_len field.width) ≡ false = le-ltb _ _ (omega (arith, length-append (to_be_bytes field.width n) rest, wide.len n)) in
     rw (long, written_is_read field n rest wide lt, refused) refl
 
-pub took_field : (field : Field) (n : ℕ) (before after : Rest) → IsWide field.width → Took (to_be_bytes field.width n) before after → n < 256 ^ byte_len field.width → field.allows n ≡ true
+pub field_told : (field : Field) (n : ℕ) → allows field n ≡ true → (field.least ≤ n) × (n < field.bound)
+field_told field n allowed =
+    let both = and_parts (nat_le field.least n) (nat_lt n field.bound) allowed in
+    (leb-true field.least n both.0, ltb-true n field.bound both.1)
+
+pub took_field : (field : Field) (n : ℕ) (before after : Rest) → IsWide field.width → Took (to_be_bytes field.width n) before after → n < 256 ^ byte_len field.width → allows field n ≡ true
     → TookField field n before after
 took_field field n before after wide took lt allowed = record {
   took = took;
   fits = lt;
-  allowed = allowed;
+  least = (field_told field n allowed).0;
+  below = (field_told field n allowed).1;
   goes_on = λ next.
       let place : before.at + byte_len field.width ≡ after.at = omega (arith, took.place, wide.len n) in
       ap (λ (bytes : List ℕ). fault_in (Then field next) before.at bytes) took.parts
-      ∙ field_passes field next before.at n after.bytes wide lt allowed
+      ∙ field_passes field next before.at n after.bytes wide lt (field_told field n allowed).0 (field_told field n allowed).1
       ∙ ap (λ (at : ℕ). fault_in (next n) at after.bytes) place;
 }
 
-pub refused_field : (field : Field) (n : ℕ) (before after : Rest) → IsWide field.width → Took (to_be_bytes field.width n) before after → n < 256 ^ byte_len field.width → field.allows n ≡ false
+pub refused_field : (field : Field) (n : ℕ) (before after : Rest) → IsWide field.width → Took (to_be_bytes field.width n) before after → n < 256 ^ byte_len field.width → allows field n ≡ false
     → (next : ℕ → Form) → fault_in (Then field next) before.at before.bytes ≡ Some (before.at, field.fault)
 refused_field field n before after wide took lt refused next =
     ap (λ (bytes : List ℕ). fault_in (Then field next) before.at bytes) took.parts ∙ field_refuses field next before.at n after.bytes wide lt refused
@@ -99,18 +110,6 @@ refused_field field n before after wide took lt refused next =
 pub short_field : (field : Field) (e : CertFault) (before : Rest) → Names e (Some (before.at, Truncated)) × (length before.bytes < byte_len field.width)
     → (next : ℕ → Form) → Names e (fault_in (Then field next) before.at before.bytes)
 short_field field e before h next = subst (Names e) (sym (field_short field next before.at before.bytes h.1)) h.0
-
-pub kind_allowed : (kind : Kind) → (within w8 1 3).allows (kind_number kind) ≡ true
-kind_allowed kinds.Router = refl
-kind_allowed kinds.Network = refl
-
-pub role_allowed : (role : Role) → (within w8 0 3).allows (role_number role) ≡ true
-role_allowed roles.Plain = refl
-role_allowed roles.Sole = refl
-role_allowed roles.Closing = refl
-
-pub tag_allowed : (tags : ℕ) (row_tag : Tag) → tag_number row_tag < tags → (tag tags).allows (tag_number row_tag) ≡ true
-tag_allowed tags row_tag below = lt-ltb (tag_number row_tag) tags below
 
 pub few_tags : (row_tag : Tag) → tag_number row_tag < 7
 few_tags tags.Sole = omega arith
@@ -121,24 +120,24 @@ few_tags tags.Above = omega arith
 few_tags tags.Unordered = omega arith
 few_tags tags.Carried = omega arith
 
--- what stands for a number is the number's one
-pub took_named : {A : Type 0} (field : Field) (number : A → ℕ) (x : A) (n : ℕ) (before after : Rest) → IsWide field.width → Took (to_be_bytes field.width n) before after → n < 256 ^ byte_len field.width → field.allows (number x) ≡ true
-    → number x ≡ n → TookField field (number x) before after
-took_named field number x n before after wide took lt allowed is =
-    subst (λ (k : ℕ). TookField field k before after) (sym is) (took_field field n before after wide took lt (ap field.allows (sym is) ∙ allowed))
+pub kind_fits : (kind : Kind) → (1 ≤ kind_number kind) × (kind_number kind < 3)
+kind_fits kinds.Router = (omega arith, omega arith)
+kind_fits kinds.Network = (omega arith, omega arith)
 
 pub kind_small : (kind : Kind) → kind_number kind < 256
-kind_small kinds.Router = omega arith
-kind_small kinds.Network = omega arith
+kind_small kind = omega (arith, (kind_fits kind).1)
+
+pub role_fits : (role : Role) → role_number role < 3
+role_fits roles.Plain = omega arith
+role_fits roles.Sole = omega arith
+role_fits roles.Closing = omega arith
 
 pub role_small : (role : Role) → role_number role < 256
-role_small roles.Plain = omega arith
-role_small roles.Sole = omega arith
-role_small roles.Closing = omega arith
+role_small role = omega (arith, role_fits role)
 
 pub tag_small : (row_tag : Tag) → tag_number row_tag < 256
 tag_small row_tag = omega (arith, few_tags row_tag)
 
-pub any_is_read : (w : Width) (before : Rest) (r : Result (ℕ × Rest) CertFault) → IsWide w → ReadsNumber w before r → ReadsField (any w) (λ n. n) before r
-any_is_read w before (Ok x) wide read = took_field (any w) x.0 before x.1 wide read.0 read.1 refl
+pub any_is_read : (w : Width) (before : Rest) (r : Result (ℕ × Rest) CertFault) → IsWide w → ReadsNumber w before r → ReadsField (any w) before r
+any_is_read w before (Ok x) wide read = took_field (any w) x.0 before x.1 wide read.0 read.1 (field_allows (any w) x.0 (omega arith) read.1)
 any_is_read w before (Err e) wide read = short_field (any w) e before read

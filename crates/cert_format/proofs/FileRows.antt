@@ -1,8 +1,9 @@
 -- The rows that stand in a file.
-use Rattle.std.proofs.Common.{◌≡◌, ◌∙◌, ◌==◌, ◌<◌, ◌≤◌, ◌*◌, ◌-◌, ◌+◌, ◌++◌, ℕ, Bool, cond, take, drop, length-append, true, not, List, [], ◌∷◌, Some, filter, length, map, get_or, slice_get, inl, inr, refl, sym, ap, arith}
+use Rattle.std.proofs.Common.{◌≡◌, ◌∙◌, ◌==◌, ◌||◌, ◌<◌, ◌≤◌, ◌*◌, ◌-◌, ℕ, Bool, true, not, List, [], ◌∷◌, Some, filter, length, map, slice_get, inl, inr, refl, sym, ap, arith}
 use Rattle.std.proofs.lemmas.Bool.{cases_Bool, cases_eq, eq-eqb, false≢true, ne_eqb}
-use Rattle.std.proofs.lemmas.List.{take-append-drop, same_lists, length-map}
-use Rattle.std.proofs.lemmas.List.Elements.{filter-append, filter_more}
+use Rattle.std.proofs.lemmas.List.{same_lists, length-map}
+use Rattle.std.specs.List.{flat_map}
+use Rattle.cert_format.specs.CertText.{row_text, row_text_in}
 use Rattle.std.proofs.lemmas.Option.{get_or_from_slice_get, slice_get-map}
 use Rattle.std.specs.List.{AllByRecursion}
 use Rattle.std.specs.Option.{option_map}
@@ -13,14 +14,14 @@ use Rattle.mrt_graph.specs.Foldable.{IsFoldable}
 use Rattle.mrt_graph.specs.Tags.{is_near, tag_number}
 use Rattle.mrt_graph.proofs.RowPlaces.{placed, row_at}
 use Rattle.mrt_graph.proofs.Tallies.{length_is_tally, tally_map}
-use Rattle.cert_format.specs.Folded.{related_pairs}
+use Rattle.mrt_graph.specs.RelatedPairs.{related_pairs}
 use Rattle.cert_format.specs.Limits.{IsCertFile, IsOfVersion}
 use Rattle.cert_format.specs.Reading.{IsFileRow}
-use Rattle.cert_format.specs.Unfolding.{set_marks}
+use Rattle.mrt_graph.specs.RelatedPairs.{set_marks}
 use Rattle.cert_format.specs.Versions.{row_count, rows_in, stands_in, tag_count}
 use Rattle.cert_format.proofs.Fields.{few_tags}
-use Rattle.cert_format.proofs.OneUnfolding.{folded_at, near_told}
-use Rattle.cert_format.proofs.Pairs.{pairs_length, related_at}
+use Rattle.mrt_graph.proofs.OneUnfolding.{folded_at, near_told}
+use Rattle.mrt_graph.proofs.Pairs.{pairs_length, related_at}
 
 -- a tag other than Carried
 pub near_tag : (row : Row) → is_near row ≡ true → tag_number row.tag < 6
@@ -85,26 +86,24 @@ version_rows f many (inr two) = rw two.version (near_count f.cert.rows ∙ ap se
 pub file_rows_count : (f : CertFile) → IsCertFile f → length (rows_in f.version f.cert.rows) ≡ row_count f.version f.cert.nodes
 file_rows_count f is = version_rows f is.certificate.a_row_each is.of_version
 
--- of one row more
-pub stand_more : (version : ℕ) (rows : List Row) (i : ℕ) (row : Row) → i < length rows → row ≡ get_or rows i row
-    → rows_in version (take (i + 1) rows) ≡ rows_in version (take i rows) ++ cond (stands_in version row) (row ∷ []) []
-stand_more version rows i row within is =
-    filter_more (stands_in version) rows i row within
-    ∙ ap (λ (it : Row). rows_in version (take i rows) ++ cond (stands_in version it) (it ∷ []) []) (sym is)
+-- of another version than 1, rows with the same near ones
+pub near_same : (version : ℕ) (rows others : List Row) → (version ≡ 1 → ⊥) → filter is_near rows ≡ filter is_near others → rows_in version rows ≡ rows_in version others
+near_same version rows others other same = alike rows ∙ same ∙ sym (alike others)
+  where
+    alike : (xs : List Row) → rows_in version xs ≡ filter is_near xs
+    alike xs = ap (λ (b : Bool). filter (λ row. b || is_near row) xs) (ne_eqb version 1 other)
 
-pub more_stand : (version : ℕ) (rows : List Row) (i : ℕ) (row : Row) → i < length rows → row ≡ get_or rows i row → stands_in version row ≡ true
-    → length (rows_in version (take (i + 1) rows)) ≡ length (rows_in version (take i rows)) + 1
-more_stand version rows i row within is stands =
-    let more : rows_in version (take (i + 1) rows) ≡ rows_in version (take i rows) ++ row ∷ [] =
-    stand_more version rows i row within is ∙ ap (λ (b : Bool). rows_in version (take i rows) ++ cond b (row ∷ []) []) stands in
-    ap length more ∙ length-append (rows_in version (take i rows)) (row ∷ [])
+-- the bytes of those of the rows that stand in a file
+abbrev pub text_in : ℕ → List Row → List ℕ
+text_in version rows = flat_map row_text (rows_in version rows)
 
--- two lists of rows, one after the other
-pub stand_both : (version : ℕ) (rows more : List Row) → rows_in version (rows ++ more) ≡ rows_in version rows ++ rows_in version more
-stand_both version rows more = filter-append (stands_in version) rows more
+-- of each row those in the file are put
+pub rows_put : (version : ℕ) (rows : List Row) → flat_map (row_text_in version) rows ≡ text_in version rows
+rows_put version [] = refl
+rows_put version (row ∷ rows) = elim (cases_Bool (stands_in version row)) [
+  | inl stands ↦ rw (stands, rows_put version rows) refl
+  | inr left ↦ rw (left, rows_put version rows) refl
+]
 
-pub stand_within : (version : ℕ) (rows : List Row) (i : ℕ) → length (rows_in version (take i rows)) ≤ length (rows_in version rows)
-stand_within version rows i =
-    let parts : rows_in version rows ≡ rows_in version (take i rows) ++ rows_in version (drop i rows) =
-    ap (rows_in version) (sym (take-append-drop i rows)) ∙ stand_both version (take i rows) (drop i rows) in
-    omega (arith, ap length parts, length-append (rows_in version (take i rows)) (rows_in version (drop i rows)))
+pub short_row : (version : ℕ) (row : Row) → length (row_text_in version row) ≤ 5
+short_row version row = elim (cases_Bool (stands_in version row)) [ inl stands ↦ rw stands (omega arith) | inr left ↦ rw left (omega arith) ]

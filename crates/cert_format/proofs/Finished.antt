@@ -1,153 +1,166 @@
--- The end of a stream, and whole files.
-use Rattle.std.proofs.Common.{◌≡◌, ◌⊎◌, ◌≤◌, ◌==◌, ◌||◌, ◌-◌, ◌*◌, Bool, true, ℕ, List, [], ◌++◌, length, take, Option, Some, None, Result, Ok, Err, inl, inr, refl, sym, ap, subst, ◌∙◌, arith}
+-- The file that the parts of a whole one are.
+use Rattle.std.proofs.Common.{◌≡◌, ◌≤◌, true, ℕ, List, [], ◌++◌, filter, length, Option, Some, None, Result, Ok, Err, inl, inr, refl, sym, ap, subst, ◌∙◌, arith}
 use Rattle.std.specs.List.{flat_map, AllByRecursion}
-use Rattle.std.proofs.lemmas.Bool.{cases_eq, false≢true, le-ltb, ne_eqb}
-use Rattle.std.proofs.lemmas.List.{append-nil}
-use Rattle.mrt_graph.specs.Certificate.{IsCertificate, IsCertNode, IsCertLink, IsCertRow, certificate_of}
+use Rattle.std.proofs.lemmas.Bool.{cases_eq, ne_eqb}
+use Rattle.std.proofs.lemmas.Option.{same_Some}
+use Rattle.mrt_graph.specs.Certificate.{Certificate, IsCertificate, IsCertNode, IsCertLink, IsCertRow, certificate_of}
+use Rattle.mrt_graph.specs.Foldable.{IsFoldable}
+use Rattle.mrt_graph.specs.FoldedRows.{IsFolded, unfolded_rows}
+use Rattle.mrt_graph.specs.Kin.{Kin, kin_of}
+use Rattle.mrt_graph.specs.Tags.{is_near}
 use Rattle.mrt_graph.specs.declared.cert.CertNode.{CertNode}
 use Rattle.mrt_graph.specs.declared.cert.CertLink.{CertLink}
 use Rattle.mrt_graph.specs.declared.cert.Row.{Row}
 use Rattle.mrt_graph.specs.declared.cert.CertFile.{CertFile}
 use Rattle.mrt_graph.proofs.Members.{all_weaker}
+use Rattle.mrt_graph.proofs.Unfolding.{folded_certificate, folds, same_near}
 use Rattle.cert_format.specs.declared.error.CertKind.{CertKind}
-use Rattle.cert_format.specs.declared.error.CertKind.TheVariants.{Truncated}
 use Rattle.cert_format.specs.declared.error.CertFault.{CertFault}
 use Rattle.cert_format.specs.declared.header.Header.{Header}
-use Rattle.cert_format.specs.declared.held.Held.{Held}
 use Rattle.cert_format.specs.CertText.{cert_text, header_text, node_text, link_text, row_text}
-use Rattle.cert_format.specs.Finishing.{Finishes}
-use Rattle.cert_format.specs.Held.{held_of}
+use Rattle.cert_format.specs.Folded.{head_fault}
 use Rattle.cert_format.specs.Limits.{HasNumber, IsCertFile, IsOfVersion}
-use Rattle.cert_format.specs.Parts.{Parts, IsWhole, text_of_header, next_size, no_parts, text_of}
-use Rattle.cert_format.specs.Progress.{IsReading}
-use Rattle.cert_format.specs.Down.{IsDown}
-use Rattle.mrt_graph.specs.Tags.{is_near}
-use Rattle.cert_format.specs.Reading.{IsFileRow, IsHeader, IsListOf, IsNode}
-use Rattle.cert_format.specs.Unfolding.{AreNear, IsUnfolded, marks_of, set_marks}
-use Rattle.cert_format.specs.Versions.{all_rows, is_version, row_count, rows_in, tag_count}
-use Rattle.cert_format.proofs.FileRows.{all_stand, tag_near}
-use Rattle.mrt_graph.specs.Foldable.{IsFoldable}
+use Rattle.cert_format.specs.Reading.{IsFileRow, IsNode}
+use Rattle.cert_format.specs.Steps.{AreKnown, AreWhole, Finishes, IsFileOf, Parts, text_of, text_of_header}
 use Rattle.cert_format.specs.Stream.{Progress, end_fault}
-use Rattle.cert_format.specs.Taking.{IsTail}
-use Rattle.cert_format.proofs.Certain.{cut_is, empty_cut}
+use Rattle.cert_format.specs.Versions.{rows_in, tag_count}
+use Rattle.cert_format.proofs.FileRows.{all_stand, tag_near}
 use Rattle.cert_format.proofs.Files.{few_most_links, few_most_nodes, no_fault}
 use Rattle.cert_format.proofs.Forms.{same_fault}
+use Rattle.cert_format.proofs.HeadFaults.{heads_sound}
 use Rattle.cert_format.proofs.Unique.{one_file}
 
--- the lists that a header announces are a certificate
-pub are_certificate : (ns : List CertNode) (ls : List CertLink) (rs : List Row) (version nodes links root : ℕ) → IsHeader version nodes links root
-    → IsListOf nodes (IsNode nodes) ns → IsListOf links (IsCertLink nodes) ls → IsListOf (nodes * (nodes - 1)) (IsCertRow links) rs → IsCertificate (certificate_of ns ls rs)
-are_certificate ns ls rs version nodes links root header n l r = record {
-  some_node = omega (arith, header.some_node, n.many);
-  few_nodes = omega (arith, header.few_nodes, n.many, few_most_nodes version);
-  few_links = omega (arith, header.few_links, l.many, few_most_links version);
-  a_row_each = r.many ∙ ap (λ (k : ℕ). k * (k - 1)) (sym n.many);
-  nodes_kept = subst (λ (k : ℕ). AllByRecursion (IsCertNode k) ns) (sym n.many) (all_weaker (IsNode nodes) (IsCertNode nodes) (λ x keeps. keeps.kept) ns n.each);
-  links_kept = subst (λ (k : ℕ). AllByRecursion (IsCertLink k) ls) (sym n.many) l.each;
-  rows_kept = subst (λ (k : ℕ). AllByRecursion (IsCertRow k) rs) (sym l.many) r.each;
-}
-
--- a reader at the front of a stream
-pub fresh : (parts : Parts) (held : Held) → parts ≡ no_parts → held.len ≡ 0 → IsReading None parts held
-fresh parts held is none =
-    let nothing : held_of held ≡ [] = ap (λ (n : ℕ). take n held.bytes) none in
-    rw is (
-      record { nodes = refl; bare = record { links = refl; rows = refl; row_count = refl; down = refl } },
-      record { faultless = rw nothing (cut_is [] 0 Truncated empty_cut refl); short = inl nothing },
-      omega (arith, none),
-    )
-
--- what the parts of a whole file make, once its rows are filled in
-pub record IsFilled (header : Header) (parts : Parts) (rows : List Row) : Type 0 where
-  pub stand : rows_in header.version rows ≡ parts.rows
-  pub many : length rows ≡ all_rows (length parts.nodes)
-  pub kept : AllByRecursion (IsCertRow header.links) rows
-  pub foldable : (header.version ≡ 1) ⊎ IsFoldable (certificate_of parts.nodes parts.links rows)
-
-two_known : (version : ℕ) → is_version version ≡ true → (version ≡ 1 → ⊥) → version ≡ 2
-two_known version known other = elim (cases_eq version 2) [
-  | inl two ↦ two
-  | inr neither ↦ absurd (false≢true (sym (ap (λ (b : Bool). b || (version == 2)) (ne_eqb version 1 other) ∙ ne_eqb version 2 neither) ∙ known))
+-- which version it is, by whether it is known which nodes are related
+pub none_one : (version : ℕ) (nodes : List CertNode) (kin : Option Kin) → AreKnown version nodes kin → kin ≡ None → version ≡ 1
+none_one version nodes kin known is = elim (cases_eq version 1) [
+  | inl one ↦ one
+  | inr other ↦ let some : kin ≡ Some (kin_of nodes) = rw (ne_eqb version 1 other) at known.index in absurd cc
 ]
 
-of_version : (parts : Parts) (header : Header) (rows : List Row) → IsWhole header parts → (header.version ≡ 1) ⊎ IsFoldable (certificate_of parts.nodes parts.links rows)
-    → IsOfVersion (record { version = header.version; root = header.root; cert = certificate_of parts.nodes parts.links rows })
-of_version parts header rows whole folds = elim (cases_eq header.version 1) [
-  | inl one ↦
-      let nodes : header.nodes ≤ 2048 = rw one at whole.under.header.few_nodes in
-      let links : header.links ≤ 8192 = rw one at whole.under.header.few_links in
-      inl (record { version = one; nodes = omega (arith, whole.nodes, nodes); links = omega (arith, whole.links, links) })
-  | inr other ↦ inr (record {
-    version = two_known header.version whole.under.header.known other;
-    nodes = omega (arith, whole.nodes, whole.under.header.few_nodes, few_most_nodes header.version);
-    links = omega (arith, whole.links, whole.under.header.few_links, few_most_links header.version);
-    foldable = elim folds [ inl one ↦ absurd (other one) | inr is ↦ is ];
-  })
+pub some_two : (version : ℕ) (nodes : List CertNode) (kin : Option Kin) (it : Kin) → AreKnown version nodes kin → kin ≡ Some it → (version ≡ 1 → ⊥) × (it ≡ kin_of nodes)
+some_two version nodes kin it known is = elim (cases_eq version 1) [
+  | inl one ↦ let none : kin ≡ None = rw one at known.index in absurd cc
+  | inr other ↦ let some : kin ≡ Some (kin_of nodes) = rw (ne_eqb version 1 other) at known.index in (other, same_Some it (kin_of nodes) (sym is ∙ some))
 ]
 
--- a whole file, and nothing after it
-pub whole_file : (parts : Parts) (header : Header) (held : List ℕ) (rows : List Row) → IsWhole header parts → IsTail parts held → IsFilled header parts rows
-    → Finishes (Ok (text_of parts ++ held)) (Ok (record { version = header.version; root = header.root; cert = certificate_of parts.nodes parts.links rows }))
-whole_file parts header held rows whole tail filled =
-    let no_node = le-ltb (length parts.nodes) header.nodes (omega (arith, whole.nodes)) in
-    let no_link = le-ltb (length parts.links) header.links (omega (arith, whole.links)) in
-    let no_row = le-ltb (length parts.rows) parts.row_count (omega (arith, whole.rows)) in
-    let size : next_size parts ≡ 0 = rw (whole.header, no_node, no_link, no_row) refl in
-    let nothing : held ≡ [] = elim tail.short [ inl none ↦ none | inr short ↦ absurd (omega (arith, short, size)) ] in
-    let lists : List ℕ = flat_map node_text parts.nodes ++ (flat_map link_text parts.links ++ flat_map row_text parts.rows) in
-    let many : length rows ≡ header.nodes * (header.nodes - 1) = filled.many ∙ ap (λ (k : ℕ). k * (k - 1)) whole.nodes in (
+pub whole_for : (header : Header) (parts : Parts) → parts.header ≡ Some header → ((announced : Header) × AreWhole announced parts) → AreWhole header parts
+whole_for header parts is (announced, whole) = subst (λ (it : Header). AreWhole it parts) (same_Some announced header (sym whole.header ∙ is)) whole
+
+module _ (header : Header) (parts : Parts) (whole : AreWhole header parts) where
+  two_known : (header.version ≡ 1 → ⊥) → header.version ≡ 2
+  two_known other = omega (arith, whole.under.header.from_one, whole.under.header.to_two, other)
+
+  few_nodes : length parts.nodes ≤ 65535
+  few_nodes = omega (arith, whole.nodes, whole.under.header.few_nodes, few_most_nodes header.version)
+
+  few_links : length parts.links ≤ 65535
+  few_links = omega (arith, whole.links, whole.under.header.few_links, few_most_links header.version)
+
+  nodes_kept : AllByRecursion (IsCertNode (length parts.nodes)) parts.nodes
+  nodes_kept =
+      subst (λ (k : ℕ). AllByRecursion (IsCertNode k) parts.nodes) (sym whole.nodes)
+      (all_weaker (IsNode header.nodes) (IsCertNode header.nodes) (λ x keeps. keeps.kept) parts.nodes whole.under.nodes.each)
+
+  links_kept : AllByRecursion (IsCertLink (length parts.nodes)) parts.links
+  links_kept = subst (λ (k : ℕ). AllByRecursion (IsCertLink k) parts.links) (sym whole.nodes) whole.under.links.each
+
+  rows_kept : AllByRecursion (IsCertRow (length parts.links)) parts.rows
+  rows_kept =
+      subst (λ (k : ℕ). AllByRecursion (IsCertRow k) parts.rows) (sym whole.links)
+      (all_weaker (IsFileRow (tag_count header.version) header.links) (IsCertRow header.links) (λ x keeps. keeps.kept) parts.rows whole.under.rows.each)
+
+  -- of version 1 the rows are all
+  pub one_certificate : header.version ≡ 1 → IsCertificate (certificate_of parts.nodes parts.links parts.rows)
+  one_certificate one = record {
+    some_node = omega (arith, whole.nodes, whole.under.header.some_node);
+    few_nodes = few_nodes;
+    few_links = few_links;
+    a_row_each = rw one at whole.rows;
+    nodes_kept = nodes_kept;
+    links_kept = links_kept;
+    rows_kept = rows_kept;
+  }
+
+  -- of version 2 those of related nodes
+  pub parts_folded : (header.version ≡ 1 → ⊥) → IsFolded parts.nodes parts.links parts.rows
+  parts_folded other =
+      let two = ne_eqb header.version 1 other in
+      let heads : head_fault (certificate_of parts.nodes [] []) ≡ None = rw two at (whole.under.known whole.nodes).heads in
+      let sound = heads_sound (certificate_of parts.nodes [] []) heads in
+      let few : tag_count header.version ≡ 6 = rw two refl in
       record {
-        certificate = are_certificate parts.nodes parts.links rows header.version header.nodes header.links header.root whole.under.header
-            (record { many = whole.nodes; each = whole.under.nodes }) (record { many = whole.links; each = whole.under.links }) (record { many = many; each = filled.kept });
-        root = whole.under.header.root_fits;
-        numbers = all_weaker (IsNode header.nodes) HasNumber (λ x keeps. keeps.number) parts.nodes whole.under.nodes;
-        of_version = of_version parts header rows whole filled.foldable;
-      },
-      ap Ok (ap (λ (it : List ℕ). text_of parts ++ it) nothing ∙ append-nil (text_of parts)
-          ∙ ap (λ (it : Option Header). text_of_header it ++ lists) whole.header
-          ∙ ap (λ (n : ℕ). header_text header.version n header.links header.root ++ lists) (sym whole.nodes)
-          ∙ ap (λ (n : ℕ). header_text header.version (length parts.nodes) n header.root ++ lists) (sym whole.links)
-          ∙ ap (λ (it : List Row). header_text header.version (length parts.nodes) (length parts.links) header.root ++ (flat_map node_text parts.nodes ++ (flat_map link_text parts.links ++ flat_map row_text it))) (sym filled.stand)),
+        unfolds = record {
+          few_nodes = few_nodes;
+          nodes_kept = nodes_kept;
+          rows_near = all_weaker (IsFileRow (tag_count header.version) header.links) (λ row. is_near row ≡ true) (λ row keeps. tag_near row (omega (arith, keeps.tagged, few))) parts.rows whole.under.rows.each;
+          a_row_each = rw two at whole.rows;
+          top = sound.top;
+          least = sound.least;
+          chains = sound.chains;
+        };
+        few_links = few_links;
+        links_kept = links_kept;
+        rows_kept = rows_kept;
+      }
+
+  -- the bytes spell a certificate of these nodes and links, from whose rows those in the file are taken
+  module _ (cert : Certificate) (nodes : cert.nodes ≡ parts.nodes) (links : cert.links ≡ parts.links) (is : IsCertificate cert) where
+    text_is : rows_in header.version cert.rows ≡ parts.rows → text_of parts ≡ cert_text (record { version = header.version; root = header.root; cert = cert })
+    text_is rows =
+        let made : List CertNode → List CertLink → List Row → List ℕ = λ ns ls rs. header_text header.version (length ns) (length ls) header.root ++ (flat_map node_text ns ++ (flat_map link_text ls ++ flat_map row_text rs)) in
+        let lists : List ℕ = flat_map node_text parts.nodes ++ (flat_map link_text parts.links ++ flat_map row_text parts.rows) in
+        ap (λ (it : Option Header). text_of_header it ++ lists) whole.header
+        ∙ ap (λ (n : ℕ). header_text header.version n header.links header.root ++ lists) (sym whole.nodes)
+        ∙ ap (λ (n : ℕ). header_text header.version (length parts.nodes) n header.root ++ lists) (sym whole.links)
+        ∙ ap (λ (ns : List CertNode). made ns parts.links parts.rows) (sym nodes) ∙ ap (λ (ls : List CertLink). made cert.nodes ls parts.rows) (sym links) ∙ ap (made cert.nodes cert.links) (sym rows)
+
+    numbers : AllByRecursion HasNumber cert.nodes
+    numbers = subst (AllByRecursion HasNumber) (sym nodes) (all_weaker (IsNode header.nodes) HasNumber (λ x keeps. keeps.number) parts.nodes whole.under.nodes.each)
+
+    of_one : header.version ≡ 1 → IsOfVersion (record { version = header.version; root = header.root; cert = cert })
+    of_one one =
+        let most : header.nodes ≤ 2048 = rw one at whole.under.header.few_nodes in
+        let more : header.links ≤ 8192 = rw one at whole.under.header.few_links in
+        inl (record { version = one; nodes = omega (arith, whole.nodes, most, ap length nodes); links = omega (arith, whole.links, more, ap length links) })
+
+    of_two : (header.version ≡ 1 → ⊥) → IsFoldable cert → IsOfVersion (record { version = header.version; root = header.root; cert = cert })
+    of_two other folds = inr (record {
+      version = two_known other;
+      nodes = omega (arith, whole.nodes, whole.under.header.few_nodes, few_most_nodes header.version, ap length nodes);
+      links = omega (arith, whole.links, whole.under.header.few_links, few_most_links header.version, ap length links);
+      foldable = folds;
+    })
+
+    pub file_one : header.version ≡ 1 → cert.rows ≡ parts.rows → IsFileOf (text_of parts) (record { version = header.version; root = header.root; cert = cert })
+    file_one one rows = (
+      record { certificate = is; root = whole.under.header.root_fits; numbers = numbers; of_version = of_one one },
+      text_is (ap (λ (it : ℕ). rows_in it cert.rows) one ∙ all_stand cert.rows ∙ rows),
     )
 
--- of version 1 all rows are there
-pub filled_one : (header : Header) (parts : Parts) → IsWhole header parts → header.version ≡ 1 → IsFilled header parts parts.rows
-filled_one header parts whole one = record {
-  stand = ap (λ (it : ℕ). rows_in it parts.rows) one ∙ all_stand parts.rows;
-  many =
-      let shape = whole.under.shape (omega (arith, whole.nodes)) in
-      whole.rows ∙ shape.many ∙ ap (λ (it : ℕ). row_count it parts.nodes) one;
-  kept = all_weaker (IsFileRow (tag_count header.version) header.links) (IsCertRow header.links) (λ x keeps. keeps.kept) parts.rows whole.under.rows;
-  foldable = inl one;
-}
+    pub file_two : (header.version ≡ 1 → ⊥) → filter is_near cert.rows ≡ parts.rows → IsFoldable cert → IsFileOf (text_of parts) (record { version = header.version; root = header.root; cert = cert })
+    file_two other near folds = (
+      record { certificate = is; root = whole.under.header.root_fits; numbers = numbers; of_version = of_two other folds },
+      text_is (ap (λ (it : ℕ). rows_in it cert.rows) (two_known other) ∙ near),
+    )
 
--- of version 2 the others were filled in
-pub filled_two : (header : Header) (parts : Parts) (rows : List Row) → IsWhole header parts → (header.version ≡ 1 → ⊥) → IsUnfolded parts.nodes parts.rows rows → IsFilled header parts rows
-filled_two header parts rows whole other is = record {
-  stand = ap (λ (it : ℕ). rows_in it rows) (two_known header.version whole.under.header.known other) ∙ is.same;
-  many = is.many;
-  kept = is.kept header.links (all_weaker (IsFileRow (tag_count header.version) header.links) (IsCertRow header.links) (λ x keeps. keeps.kept) parts.rows whole.under.rows);
-  foldable = inr (is.foldable parts.links);
-}
+  -- there is such a file
+  pub file_of : (f : CertFile) × IsFileOf (text_of parts) f
+  file_of = elim (cases_eq header.version 1) [
+    | inl one ↦
+        let cert = certificate_of parts.nodes parts.links parts.rows in
+        (record { version = header.version; root = header.root; cert = cert }, file_one cert refl refl (one_certificate one) one refl)
+    | inr other ↦
+        let is = parts_folded other in
+        let cert = certificate_of parts.nodes parts.links (unfolded_rows parts.nodes parts.rows) in (
+          record { version = header.version; root = header.root; cert = cert },
+          file_two cert refl refl (folded_certificate parts.nodes parts.links parts.rows is) other (same_near parts.nodes parts.rows is.unfolds) (folds parts.nodes parts.rows is.unfolds parts.links),
+        )
+  ]
 
--- the rows that were read are those that are to be filled up
-pub rows_near : (header : Header) (parts : Parts) → IsWhole header parts → (header.version ≡ 1 → ⊥) → AreNear parts.rows
-rows_near header parts whole other =
-    let few : tag_count header.version ≡ 6 = ap tag_count (two_known header.version whole.under.header.known other) in
-    all_weaker (IsFileRow (tag_count header.version) header.links) (λ row. is_near row ≡ true) (λ row keeps. tag_near row (omega (arith, keeps.tagged, few))) parts.rows whole.under.rows
+-- ---- the end of a stream
 
-pub rows_set : (header : Header) (parts : Parts) → IsWhole header parts → (header.version ≡ 1 → ⊥) → length parts.rows ≡ set_marks (marks_of parts.nodes)
-rows_set header parts whole other =
-    let shape = whole.under.shape (omega (arith, whole.nodes)) in
-    whole.rows ∙ shape.many ∙ ap (λ (it : ℕ). row_count it parts.nodes) (two_known header.version whole.under.header.known other)
-
-pub nodes_down : (header : Header) (parts : Parts) → IsWhole header parts → (header.version ≡ 1 → ⊥) → IsDown (certificate_of parts.nodes [] []) parts.down
-nodes_down header parts whole other =
-    let shape = whole.under.shape (omega (arith, whole.nodes)) in
-    elim shape.listed [ inl one ↦ absurd (other one) | inr is ↦ is ]
-
-pub same_stream : (a b : List ℕ) → ◌≡◌ {A = Progress} (Ok a) (Ok b) → a ≡ b
-same_stream a b e = cc
+same_stream : (x y : List ℕ) → ◌≡◌ {A = Progress} (Ok x) (Ok y) → x ≡ y
+same_stream x y e = cc
 
 -- what is spelled so is read
 pub spelled_is_read : (progress : Progress) (answer : Result CertFile CertFault) → Finishes progress answer → (f : CertFile) → IsCertFile f → progress ≡ Ok (cert_text f) → answer ≡ Ok f

@@ -1,11 +1,11 @@
 -- Forms, and bytes that lead into them.
-use Rattle.std.proofs.Common.{◌≡◌, ◌+◌, ◌-◌, ◌*◌, ◌<◌, ◌≤◌, ℕ, zero, suc, true, false, ltb, List, [], ◌∷◌, ◌++◌, length, drop, Option, Some, inl, inr, refl, sym, ap, subst, ◌∙◌, arith, length-append, length-drop}
+use Rattle.std.proofs.Common.{◌≡◌, ◌+◌, ◌-◌, ◌<◌, ◌≤◌, ℕ, true, false, ltb, List, [], ◌∷◌, ◌++◌, length, drop, Option, Some, inl, inr, refl, sym, ap, ◌∙◌, arith, length-append, length-drop}
 use Rattle.std.specs.Int.{byte_len}
 use Rattle.std.proofs.lemmas.Bool.{cases_Bool, ltb-true, ltb-false, le-ltb, both_ways}
 use Rattle.std.proofs.lemmas.List.{take-append-le, drop-append-le}
 use Rattle.cert_format.specs.declared.error.CertKind.{CertKind}
 use Rattle.cert_format.specs.declared.error.CertKind.TheVariants.{Truncated, Trailing}
-use Rattle.cert_format.specs.Layout.{Form, End, Then, Fails, repeated, header_form, node_form, link_form, row_form}
+use Rattle.cert_format.specs.Layout.{Form, End, Then, Fails, allows, header_form}
 use Rattle.cert_format.specs.FirstFault.{number_of, fault_in}
 use Rattle.cert_format.specs.Stream.{is_cut}
 
@@ -34,7 +34,7 @@ cut_short (Fails place fault) size at bytes a kind spans e cut =
     absurd (both_ways (is_cut fault) spans (ap is_cut (same_kind place a fault kind e) ∙ cut))
 cut_short (Then field next) size at bytes a kind spans e cut = elim (cases_Bool (ltb (length bytes) (byte_len field.width))) [
   | inl few ↦ let lt = ltb-true _ _ few in omega (arith, lt, spans.0)
-  | inr long ↦ let le = ltb-false _ _ long in elim (cases_Bool (field.allows (number_of field bytes))) [
+  | inr long ↦ let le = ltb-false _ _ long in elim (cases_Bool (allows field (number_of field bytes))) [
     | inl allowed ↦
         let later : fault_in (next (number_of field bytes)) (at + byte_len field.width) (drop (byte_len field.width) bytes) ≡ Some (a, kind) = rw (long, allowed) at e in
         let shorter = cut_short (next (number_of field bytes)) (size - byte_len field.width) (at + byte_len field.width) (drop (byte_len field.width) bytes) a kind (spans.2 (number_of field bytes)) later cut in
@@ -61,7 +61,7 @@ fault_stays (Then field next) at bytes more a kind e certain = elim (cases_Bool 
       let longer : ltb (length (bytes ++ more)) (byte_len field.width) ≡ false = le-ltb _ _ (omega (arith, le, length-append bytes more)) in
       let number : number_of field (bytes ++ more) ≡ number_of field bytes = rw (take-append-le (byte_len field.width) bytes more le) refl in
       let left = drop-append-le (byte_len field.width) bytes more le in
-      elim (cases_Bool (field.allows (number_of field bytes))) [
+      elim (cases_Bool (allows field (number_of field bytes))) [
         | inl allowed ↦
             let later : fault_in (next (number_of field bytes)) (at + byte_len field.width) (drop (byte_len field.width) bytes) ≡ Some (a, kind) = rw (long, allowed) at e in
             rw (longer, number, allowed, left) (fault_stays (next (number_of field bytes)) (at + byte_len field.width) (drop (byte_len field.width) bytes) more a kind later certain)
@@ -70,31 +70,6 @@ fault_stays (Then field next) at bytes more a kind e certain = elim (cases_Bool 
             rw (longer, number, refused) here
       ]
 ]
-
--- so many parts, and then so many more
-pub repeated_more : (count more : ℕ) (part : Form → Form) (next : Form)
-    → repeated (count + more) part next ≡ repeated count part (repeated more part next)
-repeated_more zero more part next = let same : 0 + more ≡ more = omega arith in ap (λ (n : ℕ). repeated n part next) same
-repeated_more (suc count) more part next =
-    let step : suc count + more ≡ suc (count + more) = omega arith in
-    ap (λ (n : ℕ). repeated n part next) step ∙ ap part (repeated_more count more part next)
-
-pub row_spans : (tags links : ℕ) (next : Form) (size : ℕ) → Spans next size → Spans (row_form tags links next) (5 + size)
-row_spans tags links next size spans =
-    let left : 5 + size - 2 - 2 - 1 ≡ size = omega arith in
-    (omega arith, refl, λ blue. (omega arith, refl, λ red. (omega arith, refl, λ it. subst (Spans next) (sym left) spans)))
-
-pub rows_span : (tags links count : ℕ) → Spans (repeated count (row_form tags links) End) (5 * count)
-rows_span tags links zero = omega arith
-rows_span tags links (suc count) =
-    let size : 5 + 5 * count ≡ 5 * suc count = omega arith in
-    subst (Spans (row_form tags links (repeated count (row_form tags links) End))) size (row_spans tags links (repeated count (row_form tags links) End) (5 * count) (rows_span tags links count))
-
-pub node_spans : (nodes : ℕ) → Spans (node_form nodes (λ node. End)) 11
-node_spans nodes = (omega arith, refl, λ kind. (omega arith, refl, λ number. (omega arith, refl, λ order. (omega arith, refl, λ head. (omega arith, refl, λ block. refl)))))
-
-pub link_spans : (nodes : ℕ) → Spans (link_form nodes End) 7
-link_spans nodes = (omega arith, refl, λ a. (omega arith, refl, λ b. (omega arith, refl, λ block. (omega arith, refl, λ role. refl))))
 
 pub header_spans : Spans (header_form (λ version nodes links. End)) 14
 header_spans = (omega arith, refl, λ magic. (omega arith, refl, λ version. (omega arith, refl, λ nodes. (omega arith, refl, λ links. (omega arith, refl, λ root. refl)))))

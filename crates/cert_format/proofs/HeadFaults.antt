@@ -1,69 +1,40 @@
 -- Heads are not at fault exactly where each chain comes to the least node that is its own head.
-use Rattle.std.proofs.Common.{◌≡◌, ◌⊎◌, ◌∙◌, ◌<◌, ℕ, zero, suc, Bool, true, false, not, Option, Some, None, length, inl, inr, refl, sym, ap, arith}
-use Rattle.std.proofs.lemmas.Bool.{cases_Bool, cases_eq, false≢true, not-true}
-use Rattle.std.specs.Option.{option_map_or}
-use Rattle.mrt_graph.specs.Certificate.{Certificate}
-use Rattle.mrt_graph.specs.Foldable.{IsLeastOwnHead, comes_to, is_own_head}
-use Rattle.cert_format.specs.Folded.{head_fault, least}
+use Rattle.std.proofs.Common.{◌≡◌, ◌∙◌, ◌==◌, ◌<◌, ◌+◌, ◌/◌, ◌%◌, ℕ, zero, suc, Bool, true, false, not, List, [], Option, Some, None, length, slice_get, get_or, inl, inr, refl, sym, ap, arith}
+use Rattle.std.proofs.lemmas.Bool.{cases_eq, ne_eqb, not-true}
+use Rattle.std.proofs.lemmas.Option.{same_Some, slice_get_read}
+use Rattle.std.specs.List.{AllByRecursion}
+use Rattle.std.specs.Prelude.{if◌then◌else◌}
+use Rattle.std.specs.Option.{option_and_then, option_map, option_map_or}
+use Rattle.mrt_graph.specs.Certificate.{Certificate, IsCertNode, certificate_of}
+use Rattle.mrt_graph.specs.CertWords.{head_of}
+use Rattle.mrt_graph.specs.Foldable.{IsLeastOwnHead, comes_to, in_chain, is_own_head}
 use Rattle.mrt_graph.specs.Places.{Each}
+use Rattle.mrt_graph.specs.declared.cert.CertNode.{CertNode}
+use Rattle.mrt_graph.proofs.FirstPlaces.{each_first}
+use Rattle.mrt_graph.proofs.ListTests.{all_at}
+use Rattle.cert_format.specs.Folded.{head_fault, least}
 
--- the least number that passes
-pub record IsLeast (test : ℕ → Bool) (n a : ℕ) : Type 0 where
-  pub within : a < n
-  pub passes : test a ≡ true
-  pub before : (x : ℕ) → x < a → test x ≡ false
+-- ---- the least number that passes a test
 
--- what the least number is, or that none passes
-abbrev pub Tells : (ℕ → Bool) → ℕ → Option ℕ → Type 0
-Tells test n None = (x : ℕ) → x < n → test x ≡ false
-Tells test n (Some a) = IsLeast test n a
+pub least_none : (test : ℕ → Bool) (n : ℕ) → ((x : ℕ) → x < n → test x ≡ false) → least test n ≡ None
+least_none test zero none = refl
+least_none test (suc n) none = rw (least_none test n (λ x below. none x (omega (arith, below))), none n (omega arith)) refl
 
-pub least_tells : (test : ℕ → Bool) (n : ℕ) → Tells test n (least test n)
-least_tells test zero = λ x below. absurd (omega (arith, below))
-least_tells test (suc n) = go (least test n) refl (least_tells test n)
-  where
-    go : (o : Option ℕ) → least test n ≡ o → Tells test n o → Tells test (suc n) (least test (suc n))
-    go (Some a) is told = rw is (record { within = omega (arith, told.within); passes = told.passes; before = told.before })
-    go None is told = elim (cases_Bool (test n)) [
-      | inl passes ↦ rw (is, passes) (record { within = omega arith; passes = passes; before = told })
-      | inr fails ↦ rw (is, fails) (λ x below. elim (cases_eq x n) [
-        | inl same ↦ ap test same ∙ fails
-        | inr other ↦ told x (omega (arith, below, other))
-      ])
-    ]
-
-one_least : (test : ℕ → Bool) (n a b : ℕ) → IsLeast test n a → IsLeast test n b → a ≡ b
-one_least test n a b one two = elim (cases_eq a b) [
-  | inl same ↦ same
-  | inr other ↦ elim (cases_order a b other) [
-    | inl below ↦ absurd (false≢true (sym (two.before a below) ∙ one.passes))
-    | inr above ↦ absurd (false≢true (sym (one.before b above) ∙ two.passes))
-  ]
+pub least_is : (test : ℕ → Bool) (n a : ℕ) → a < n → test a ≡ true → ((x : ℕ) → x < a → test x ≡ false) → least test n ≡ Some a
+least_is test zero a within passes before = absurd (omega (arith, within))
+least_is test (suc n) a within passes before = elim (cases_eq a n) [
+  | inl same ↦
+      let none = least_none test n (λ x below. before x (omega (arith, below, same))) in
+      let here : test n ≡ true = ap test (sym same) ∙ passes in
+      rw (none, here) (ap (λ (x : ℕ). Some x) (sym same))
+  | inr other ↦ rw (least_is test n a (omega (arith, within, other)) passes before) refl
 ]
-  where
-    cases_order : (a b : ℕ) → (a ≡ b → ⊥) → (a < b) ⊎ (b < a)
-    cases_order zero zero other = absurd (other refl)
-    cases_order zero (suc b) other = inl (omega arith)
-    cases_order (suc a) zero other = inr (omega arith)
-    cases_order (suc a) (suc b) other = elim (cases_order a b (λ same. other (ap suc same))) [
-      | inl below ↦ inl (omega (arith, below))
-      | inr above ↦ inr (omega (arith, above))
-    ]
 
--- the least number is what the search for it gives
-pub least_is : (test : ℕ → Bool) (n a : ℕ) → IsLeast test n a → least test n ≡ Some a
-least_is test n a is = go (least test n) refl (least_tells test n)
-  where
-    go : (o : Option ℕ) → least test n ≡ o → Tells test n o → least test n ≡ Some a
-    go None found told = absurd (false≢true (sym (told a is.within) ∙ is.passes))
-    go (Some b) found told = found ∙ ap (λ (x : ℕ). Some x) (one_least test n b a told is)
+pub least_alike : (p q : ℕ → Bool) (n : ℕ) → ((x : ℕ) → x < n → p x ≡ q x) → least p n ≡ least q n
+least_alike p q zero same = refl
+least_alike p q (suc n) same = rw (least_alike p q n (λ x below. same x (omega (arith, below))), same n (omega arith)) refl
 
-pub none_is : (test : ℕ → Bool) (n : ℕ) → ((x : ℕ) → x < n → test x ≡ false) → least test n ≡ None
-none_is test n none = go (least test n) refl (least_tells test n)
-  where
-    go : (o : Option ℕ) → least test n ≡ o → Tells test n o → least test n ≡ None
-    go None found told = found
-    go (Some b) found told = absurd (false≢true (sym (none b told.within) ∙ told.passes))
+-- ---- sound heads
 
 -- each chain of heads comes to the least node that is its own head
 pub record AreHeadsSound (c : Certificate) : Type 0 where
@@ -73,37 +44,70 @@ pub record AreHeadsSound (c : Certificate) : Type 0 where
 
 not_false : (b : Bool) → not b ≡ false → b ≡ true
 not_false true e = refl
-not_false false e = absurd (false≢true (sym e))
+not_false false e = absurd cc
+
+-- the fault, where the top is known
+under_top : (c : Certificate) (top : ℕ) → IsLeastOwnHead c top → head_fault c ≡ least (λ a. not (comes_to c top a)) (length c.nodes)
+under_top c top own =
+    ap (λ (o : Option ℕ). option_map_or (λ r. least (λ a. not (comes_to c r a)) (length c.nodes)) o (Some 0))
+    (least_is (is_own_head c) (length c.nodes) top own.within (not_false (is_own_head c top) own.fails) (λ x below. not-true (is_own_head c x) (own.before x below)))
 
 pub heads_sound : (c : Certificate) → head_fault c ≡ None → AreHeadsSound c
-heads_sound c none = own (least (is_own_head c) (length c.nodes)) refl (least_tells (is_own_head c) (length c.nodes))
-  where
-    own : (o : Option ℕ) → least (is_own_head c) (length c.nodes) ≡ o → Tells (is_own_head c) (length c.nodes) o → AreHeadsSound c
-    own None found told = let fault : head_fault c ≡ Some 0 = rw found refl in cc
-    own (Some r) found told =
-        let stray : least (λ a. not (comes_to c r a)) (length c.nodes) ≡ None =
-        sym (ap (λ (o : Option ℕ). option_map_or (λ r. least (λ a. not (comes_to c r a)) (length c.nodes)) o (Some 0)) found) ∙ none in
-        record {
-          top = r;
-          least = record { within = told.within; fails = ap not told.passes; before = λ a below. ap not (told.before a below) };
-          chains = chains r (least (λ a. not (comes_to c r a)) (length c.nodes)) stray (least_tells (λ a. not (comes_to c r a)) (length c.nodes));
-        }
-      where
-        chains : (r : ℕ) (o : Option ℕ) → o ≡ None → Tells (λ a. not (comes_to c r a)) (length c.nodes) o → Each (comes_to c r) (length c.nodes)
-        chains r None is told = λ a within. not_false (comes_to c r a) (told a within)
-        chains r (Some a) is told = cc
+heads_sound c none = elim (each_first (λ a. not (is_own_head c a)) (length c.nodes)) [
+  | inl each ↦
+      let fault : head_fault c ≡ Some 0 = rw (least_none (is_own_head c) (length c.nodes) (λ x below. not-true (is_own_head c x) (each x below))) refl in
+      absurd cc
+  | inr own ↦ elim (each_first (comes_to c own.0) (length c.nodes)) [
+    | inl chains ↦ record { top = own.0; least = own.1; chains = chains }
+    | inr stray ↦
+        let fault : head_fault c ≡ Some stray.0 = under_top c own.0 own.1
+        ∙ least_is (λ a. not (comes_to c own.0 a)) (length c.nodes) stray.0 stray.1.within (ap not stray.1.fails) (λ x below. ap not (stray.1.before x below)) in
+        absurd cc
+  ]
+]
 
 pub no_head_fault : (c : Certificate) → AreHeadsSound c → head_fault c ≡ None
-no_head_fault c sound =
-    let n = length c.nodes in
-    let top : least (is_own_head c) n ≡ Some sound.top =
-    least_is (is_own_head c) n sound.top (record {
-      within = sound.least.within;
-      passes = not_false_at (is_own_head c sound.top) sound.least.fails;
-      before = λ x below. not-true (is_own_head c x) (sound.least.before x below);
-    }) in
-    ap (λ (o : Option ℕ). option_map_or (λ r. least (λ a. not (comes_to c r a)) n) o (Some 0)) top
-    ∙ none_is (λ a. not (comes_to c sound.top a)) n (λ x below. ap not (sound.chains x below))
+no_head_fault c sound = under_top c sound.top sound.least ∙ least_none (λ a. not (comes_to c sound.top a)) (length c.nodes) (λ x below. ap not (sound.chains x below))
+
+-- ---- chains of heads, step by step
+
+-- a node that was read
+pub head_read : (nodes : List CertNode) (v : ℕ) (node : CertNode) → v < length nodes → node ≡ get_or nodes v node → head_of (certificate_of nodes [] []) v ≡ Some node.head
+head_read nodes v node within is = ap (option_map (λ it. it.head)) (slice_get_read nodes (length nodes) v node refl within is)
+
+-- a chain stays among the nodes
+pub chain_within : (nodes : List CertNode) (k v x : ℕ) → AllByRecursion (IsCertNode (length nodes)) nodes → v < length nodes → in_chain (certificate_of nodes [] []) k v ≡ Some x → x < length nodes
+chain_within nodes zero v x kept within is = omega (arith, within, same_Some v x is)
+chain_within nodes (suc k) v x kept within is = mid (in_chain (certificate_of nodes [] []) k v) is
   where
-    not_false_at : (b : Bool) → not b ≡ false → b ≡ true
-    not_false_at b e = not_false b e
+    end : (y : ℕ) (o : Option CertNode) → slice_get nodes y ≡ o → option_map (λ node. node.head) o ≡ Some x → x < length nodes
+    end y None there head = absurd cc
+    end y (Some node) there head = omega (arith, (all_at (IsCertNode (length nodes)) nodes y node kept there).head, same_Some node.head x head)
+
+    mid : (o : Option ℕ) → option_and_then (head_of (certificate_of nodes [] [])) o ≡ Some x → x < length nodes
+    mid None head = absurd cc
+    mid (Some y) head = end y (slice_get nodes y) refl head
+
+-- more steps
+pub chain_on : (c : Certificate) (i j v x : ℕ) → in_chain c j v ≡ Some x → in_chain c (i + j) v ≡ in_chain c i x
+chain_on c zero j v x is = let none : 0 + j ≡ j = omega arith in ap (λ (k : ℕ). in_chain c k v) none ∙ is
+chain_on c (suc i) j v x is =
+    let one : suc i + j ≡ suc (i + j) = omega arith in
+    ap (λ (k : ℕ). in_chain c k v) one ∙ ap (option_and_then (head_of c)) (chain_on c i j v x is)
+
+-- twice as many steps, and one more where the number is odd
+pub chain_twice : (c : Certificate) (steps v x y r : ℕ) → in_chain c (steps / 2) v ≡ Some x → in_chain c (steps / 2) x ≡ Some y
+    → Some r ≡ (if steps % 2 == 0 then Some y else head_of c y) → in_chain c steps v ≡ Some r
+chain_twice c steps v x y r one two last =
+    let half = steps / 2 in
+    let both : in_chain c (half + half) v ≡ Some y = chain_on c half half v x one ∙ two in
+    elim (cases_eq (steps % 2) 0) [
+      | inl even ↦
+          let all : steps ≡ half + half = omega (arith, even) in
+          let same : Some r ≡ Some y = rw even at last in
+          ap (λ (k : ℕ). in_chain c k v) all ∙ both ∙ sym same
+      | inr odd ↦
+          let all : steps ≡ suc (half + half) = omega (arith, odd) in
+          let same : Some r ≡ head_of c y = rw (ne_eqb (steps % 2) 0 odd) at last in
+          ap (λ (k : ℕ). in_chain c k v) all ∙ ap (option_and_then (head_of c)) both ∙ sym same
+    ]

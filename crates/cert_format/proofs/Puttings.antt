@@ -1,15 +1,14 @@
 -- Steps of a writer, one after another.
-use Rattle.std.proofs.Common.{◌≡◌, ◌∙◌, ◌<◌, ◌≤◌, ◌+◌, ◌-◌, ◌^◌, ◌++◌, ℕ, List, [], length, take, drop, Option, Some, None, Result, Ok, Err, refl, sym, ap, subst, arith, append_assoc, length-append, length-take, length-drop}
+use Rattle.std.proofs.Common.{◌≡◌, ◌∙◌, ◌<◌, ◌≤◌, ◌+◌, ◌-◌, ◌^◌, ◌++◌, ℕ, List, [], length, take, drop, Option, Some, None, Result, Ok, Err, refl, sym, ap, subst, arith, append_assoc, length-append, length-drop}
 use Rattle.std.specs.Prelude.{IfErr, OnOk}
-use Rattle.std.proofs.lemmas.List.{append-nil, take_at, drop_all, drop_at}
+use Rattle.std.proofs.Math.Seq.{take-add}
+use Rattle.std.proofs.lemmas.List.{append-nil, take-append-le, take_at, drop_at}
 use Rattle.mrt_io.proofs.Gaining.{Gained-append}
 use Rattle.mrt_io.specs.Counts.{Rose, last_count}
 use Rattle.mrt_io.specs.Writing.{Gained, GainedPart}
 use Rattle.mrt_io.specs.declared.device.PutError.{PutError}
 use Rattle.mrt_io.specs.declared.device.PutError.TheVariants.{Failed}
-use Rattle.cert_format.specs.Buffer.{IsFilled, piece_length}
 use Rattle.cert_format.specs.Putting.{IsFailedWithin, IsGiven, Puts, Writer, later_error}
-use Rattle.cert_format.proofs.Buffers.{gained_part}
 
 -- more bytes are held, and the sink is left alone
 pub puts_held : (told : Option (List ℕ)) (was : ℕ) (healthy : ℕ → Type 0) (more : List ℕ) (old new : Writer) → new.version ≡ old.version → new.gone ≡ old.gone → new.held ≡ old.held ++ more
@@ -33,6 +32,11 @@ puts_held told was healthy more old new version gone held = record {
 
 pub puts_none : (told : Option (List ℕ)) (was : ℕ) (healthy : ℕ → Type 0) (writer : Writer) → Puts told told was was healthy healthy [] writer writer (Ok tt)
 puts_none told was healthy writer = puts_held told was healthy [] writer writer refl refl (sym (append-nil writer.held))
+
+-- the same bytes, told otherwise
+pub puts_as : (told tells : Option (List ℕ)) (was is : ℕ) (healthy stays : ℕ → Type 0) (a b : List ℕ) (old new : Writer) (result : Result Unit PutError) → a ≡ b
+    → Puts told tells was is healthy stays a old new result → Puts told tells was is healthy stays b old new result
+puts_as told tells was is healthy stays a b old new result same step = subst (λ (it : List ℕ). Puts told tells was is healthy stays it old new result) same step
 
 -- the second of two steps begins where the first one ended
 module _ (t0 t1 t2 : Option (List ℕ)) (f0 f1 f2 : ℕ) (h0 h1 h2 : ℕ → Type 0) (a b : List ℕ) (old mid new : Writer)
@@ -98,48 +102,52 @@ puts_failed told tells was is healthy stays a b old new e step = record {
     less : (n : ℕ) → old.gone + length (old.held ++ (a ++ b)) ≤ n → old.gone + length (old.held ++ a) ≤ n
     less n enough = omega (arith, enough, length-append old.held (a ++ b), length-append a b, length-append old.held a)
 
--- the first bytes that are held went out
-pub puts_front : (told tells : Option (List ℕ)) (was is : ℕ) (healthy stays : ℕ → Type 0) (piece : List ℕ) (old new : Writer) → new.version ≡ old.version
-    → new.gone ≡ old.gone + length piece → old.held ≡ piece ++ new.held → Gained told piece tells → was ≤ is
-    → ((n : ℕ) → healthy n → length piece ≤ n → is ≡ was) → ((n : ℕ) → healthy n → length piece ≤ n → stays (n - length piece))
+-- the sink gained the first i bytes, and then a part of the next ones
+gained_part : (i : ℕ) (error : PutError) (all piece more : List ℕ) (old mid new : Option (List ℕ)) → drop i all ≡ piece ++ more → i ≤ length all
+    → Gained old (take i all) mid → GainedPart mid piece new error → GainedPart old all new (later_error i error)
+gained_part i (Failed part) all piece more old mid new e within first then_it =
+    let front : take part (drop i all) ≡ take part piece = ap (take part) e ∙ take-append-le part piece more (omega (arith, then_it.0)) in
+    let left : length all - i ≡ length piece + length more = sym (length-drop i all) ∙ ap length e ∙ length-append piece more in (
+      omega (arith, left, then_it.0, within),
+      subst (λ (it : List ℕ). Gained old it new) (sym (take-add i part all ∙ ap (λ (it : List ℕ). take i all ++ it) front)) (Gained-append (take i all) (take part piece) old mid new first then_it.1),
+    )
+
+-- what is held went out
+pub puts_out : (told tells : Option (List ℕ)) (was is : ℕ) (healthy stays : ℕ → Type 0) (old new : Writer) → new.version ≡ old.version
+    → new.gone ≡ old.gone + length old.held → new.held ≡ [] → Gained told old.held tells → was ≤ is
+    → ((n : ℕ) → healthy n → length old.held ≤ n → is ≡ was) → ((n : ℕ) → healthy n → length old.held ≤ n → stays (n - length old.held))
     → Puts told tells was is healthy stays [] old new (Ok tt)
-puts_front told tells was is healthy stays piece old new version gone held gained count no_fault stays_healthy = record {
+puts_out told tells was is healthy stays old new version gone none gained count no_fault stays_healthy = record {
   given = λ before bytes so. record {
-    first = so.first ++ piece;
-    parts = append-nil bytes ∙ so.parts ∙ ap (λ (it : List ℕ). so.first ++ it) held ∙ sym (append_assoc so.first piece new.held);
-    gained = Gained-append so.first piece before told tells so.gained gained;
-    counted = omega (arith, gone, so.counted, length-append so.first piece);
+    first = so.first ++ old.held;
+    parts = append-nil bytes ∙ so.parts ∙ sym (append-nil (so.first ++ old.held)) ∙ ap (λ (it : List ℕ). (so.first ++ old.held) ++ it) (sym none);
+    gained = Gained-append so.first old.held before told tells so.gained gained;
+    counted = omega (arith, gone, so.counted, length-append so.first old.held);
   };
   part = λ before bytes later so. tt;
   cause = tt;
   count = count;
   succeeds = λ n well enough. refl;
-  no_fault = λ n well enough. no_fault (n - old.gone) well (fits n enough);
+  no_fault = λ n well enough. no_fault (n - old.gone) well (omega (arith, enough, length-append old.held []));
   stays_healthy = λ n well enough.
-      let less : n - old.gone - length piece ≡ n - new.gone = omega (arith, gone) in
-      subst stays less (stays_healthy (n - old.gone) well (fits n enough));
-  size = omega (arith, gone, ap length held, length-append piece new.held, length-append old.held []);
+      let less : n - old.gone - length old.held ≡ n - new.gone = omega (arith, gone) in
+      subst stays less (stays_healthy (n - old.gone) well (omega (arith, enough, length-append old.held [])));
+  size = omega (arith, gone, ap length none, length-append old.held []);
   same = version;
 }
-  where
-    fits : (n : ℕ) → old.gone + length (old.held ++ []) ≤ n → length piece ≤ n - old.gone
-    fits n enough = omega (arith, enough, length-append old.held [], ap length held, length-append piece new.held)
 
 -- the sink failed
-pub puts_fails : (told tells : Option (List ℕ)) (was is : ℕ) (healthy stays : ℕ → Type 0) (piece rest : List ℕ) (old new : Writer) (error : PutError) → new.version ≡ old.version
-    → old.held ≡ piece ++ rest → GainedPart told piece tells error → Rose was is → was ≤ is → ((n : ℕ) → healthy n → was < last_count)
-    → ((n : ℕ) → healthy n → length piece ≤ n → is ≡ was) → Puts told tells was is healthy stays [] old new (Err (later_error old.gone error))
-puts_fails told tells was is healthy stays piece rest old new error version held gained cause count below no_fault = record {
+pub puts_fails : (told tells : Option (List ℕ)) (was is : ℕ) (healthy stays : ℕ → Type 0) (old new : Writer) (error : PutError) → new.version ≡ old.version
+    → GainedPart told old.held tells error → Rose was is → was ≤ is → ((n : ℕ) → healthy n → was < last_count)
+    → ((n : ℕ) → healthy n → length old.held ≤ n → is ≡ was) → Puts told tells was is healthy stays [] old new (Err (later_error old.gone error))
+puts_fails told tells was is healthy stays old new error version gained cause count below no_fault = record {
   given = λ before bytes so. tt;
   part = λ before bytes later so.
-      let all : bytes ++ ([] ++ later) ≡ so.first ++ (piece ++ (rest ++ later)) =
-      ap (λ (it : List ℕ). it ++ later) (so.parts ∙ ap (λ (it : List ℕ). so.first ++ it) held) ∙ append_assoc so.first (piece ++ rest) later
-      ∙ ap (λ (it : List ℕ). so.first ++ it) (append_assoc piece rest later) in
-      let left : drop old.gone (bytes ++ ([] ++ later)) ≡ piece ++ (rest ++ later) =
-      ap (drop old.gone) all ∙ drop_at so.first (piece ++ (rest ++ later)) old.gone (sym so.counted) in
-      let front : take old.gone (bytes ++ ([] ++ later)) ≡ so.first = ap (take old.gone) all ∙ take_at so.first (piece ++ (rest ++ later)) old.gone (sym so.counted) in
-      gained_part old.gone error (bytes ++ ([] ++ later)) piece (rest ++ later) before told tells left
-      (omega (arith, so.counted, ap length all, length-append so.first (piece ++ (rest ++ later))))
+      let all : bytes ++ later ≡ so.first ++ (old.held ++ later) = ap (λ (it : List ℕ). it ++ later) so.parts ∙ append_assoc so.first old.held later in
+      let left : drop old.gone (bytes ++ later) ≡ old.held ++ later = ap (drop old.gone) all ∙ drop_at so.first (old.held ++ later) old.gone (sym so.counted) in
+      let front : take old.gone (bytes ++ later) ≡ so.first = ap (take old.gone) all ∙ take_at so.first (old.held ++ later) old.gone (sym so.counted) in
+      gained_part old.gone error (bytes ++ later) old.held later before told tells left
+      (omega (arith, so.counted, ap length all, length-append so.first (old.held ++ later)))
       (subst (λ (it : List ℕ). Gained before it told) (sym front) so.gained) gained;
   cause = cause;
   count = count;
@@ -151,42 +159,27 @@ puts_fails told tells was is healthy stays piece rest old new error version held
 }
   where
     never : (n : ℕ) → healthy (n - old.gone) → old.gone + length (old.held ++ []) ≤ n → ⊥
-    never n well enough =
-        let fits : length piece ≤ n - old.gone = omega (arith, enough, length-append old.held [], ap length held, length-append piece rest) in
-        omega (arith, cause, no_fault (n - old.gone) well fits, below (n - old.gone) well)
-
-pub piece_fits : (held piece : List ℕ) → piece ≡ take piece_length held → length piece ≤ length held
-piece_fits held piece is = omega (arith, ap length is, length-take piece_length held)
+    never n well enough = omega (arith, cause, no_fault (n - old.gone) well (omega (arith, enough, length-append old.held [])), below (n - old.gone) well)
 
 -- the error's number of bytes has 64 bits
 pub fails_within : (i : ℕ) (error : PutError) (piece : List ℕ) (old new : Option (List ℕ)) → i + length piece < 2 ^ 64 → GainedPart old piece new error → IsFailedWithin i error
 fails_within i (Failed part) piece old new few part_of = omega (arith, few, part_of.0)
 
--- what is left of so many bytes is less than a piece
-pub fewer_held : (result : Result Unit PutError) (old new : List ℕ) → length old ≤ piece_length + 14 → OnOk result (new ≡ drop piece_length old) → OnOk result (length new < piece_length)
-fewer_held (Ok x) old new within is = omega (arith, ap length is, length-drop piece_length old, within)
-fewer_held (Err e) old new within is = tt
+-- what is given comes in parts: of some that were given, the next one, and those that are left
+pub turn_fits : (done one rest all : List ℕ) (old mid : Writer) → done ++ (one ++ rest) ≡ all → mid.gone + length mid.held ≡ old.gone + length (old.held ++ done)
+    → old.gone + length (old.held ++ all) < 2 ^ 64 → mid.gone + length (mid.held ++ one) < 2 ^ 64
+turn_fits done one rest all old mid parts size small =
+    omega (arith, small, size, ap length parts, length-append old.held all, length-append done (one ++ rest), length-append one rest, length-append old.held done, length-append mid.held one)
 
--- a turn that failed: all that was to come failed
-pub turn_failed : (t0 t1 t2 : Option (List ℕ)) (f0 f1 f2 : ℕ) (h0 h1 h2 : ℕ → Type 0) (done left all : List ℕ) (old mid new : Writer) (e : PutError) → done ++ left ≡ all
-    → Puts t0 t1 f0 f1 h0 h1 done old mid (Ok tt) → Puts t1 t2 f1 f2 h1 h2 [] mid new (Err e) → Puts t0 t2 f0 f2 h0 h2 all old new (Err e)
-turn_failed t0 t1 t2 f0 f1 f2 h0 h1 h2 done left all old mid new e parts one two =
-    let both = puts_then t0 t1 t2 f0 f1 f2 h0 h1 h2 done [] old mid new one (Err e) two in
-    let same : (done ++ []) ++ left ≡ all = ap (λ (it : List ℕ). it ++ left) (append-nil done) ∙ parts in
-    subst (λ (it : List ℕ). Puts t0 t2 f0 f2 h0 h2 it old new (Err e)) same (puts_failed t0 t2 f0 f2 h0 h2 (done ++ []) left old new e both)
+module _ (t0 t1 t2 : Option (List ℕ)) (f0 f1 f2 : ℕ) (h0 h1 h2 : ℕ → Type 0) (done one rest all : List ℕ) (old mid new : Writer)
+    (parts : done ++ (one ++ rest) ≡ all) (before : Puts t0 t1 f0 f1 h0 h1 done old mid (Ok tt)) where
+  pub turn_done : Puts t1 t2 f1 f2 h1 h2 one mid new (Ok tt) → (so_far : List ℕ) × (so_far ++ rest ≡ all) × Puts t0 t2 f0 f2 h0 h2 so_far old new (Ok tt)
+  turn_done step = (done ++ one, append_assoc done one rest ∙ parts, puts_then t0 t1 t2 f0 f1 f2 h0 h1 h2 done one old mid new before (Ok tt) step)
 
--- a turn: a piece went out, and more bytes are held
-pub turn_done : (t0 t1 t2 : Option (List ℕ)) (f0 f1 f2 : ℕ) (h0 h1 h2 : ℕ → Type 0) (done left rest all : List ℕ) (old mid after new : Writer) → done ++ left ≡ all
-    → Puts t0 t1 f0 f1 h0 h1 done old mid (Ok tt) → Puts t1 t2 f1 f2 h1 h2 [] mid after (Ok tt) → new.version ≡ after.version → new.gone ≡ after.gone → IsFilled after.held new.held left rest
-    → (so_far : List ℕ) × (so_far ++ rest ≡ all) × Puts t0 t2 f0 f2 h0 h2 so_far old new (Ok tt)
-turn_done t0 t1 t2 f0 f1 f2 h0 h1 h2 done left rest all old mid after new parts one two version gone filled =
-    let both = puts_then t0 t1 t2 f0 f1 f2 h0 h1 h2 done [] old mid after one (Ok tt) two in
-    let more = filled.more in
-    let last = puts_then t0 t2 t2 f0 f2 f2 h0 h2 h2 (done ++ []) more old after new both (Ok tt) (puts_held t2 f2 h2 more after new version gone filled.adds) in (
-      (done ++ []) ++ more,
-      append_assoc (done ++ []) more rest ∙ ap (λ (it : List ℕ). it ++ (more ++ rest)) (append-nil done) ∙ ap (λ (it : List ℕ). done ++ it) filled.parts ∙ parts,
-      last,
-    )
+  pub turn_failed : (e : PutError) → Puts t1 t2 f1 f2 h1 h2 one mid new (Err e) → Puts t0 t2 f0 f2 h0 h2 all old new (Err e)
+  turn_failed e step =
+      subst (λ (it : List ℕ). Puts t0 t2 f0 f2 h0 h2 it old new (Err e)) (append_assoc done one rest ∙ parts)
+      (puts_failed t0 t2 f0 f2 h0 h2 (done ++ one) rest old new e (puts_then t0 t1 t2 f0 f1 f2 h0 h1 h2 done one old mid new before (Err e) step))
 
 -- a writer whose bytes are all gone
 pub all_gone : (before tells : Option (List ℕ)) (bytes : List ℕ) (new : Writer) → new.held ≡ [] → IsGiven before tells bytes new → Gained before bytes tells
@@ -222,11 +215,6 @@ begun told writer none = record { first = []; parts = refl; gained = gained_none
     gained_none : (told : Option (List ℕ)) → Gained told [] told
     gained_none None = refl
     gained_none (Some before) = ap (λ (it : List ℕ). Some it) (sym (append-nil before))
-
--- less than a piece is held, so none is left
-pub none_held : (result : Result Unit PutError) (old new : List ℕ) → length old < piece_length → OnOk result (new ≡ drop piece_length old) → OnOk result (new ≡ [])
-none_held (Ok x) old new few is = is ∙ drop_all piece_length old (omega (arith, few))
-none_held (Err e) old new few is = tt
 
 -- all parts of a file, one after another
 module _ (t0 t1 t2 t3 : Option (List ℕ)) (f0 f1 f2 f3 : ℕ) (h0 h1 h2 h3 : ℕ → Type 0) (a b c : List ℕ) (w0 w1 w2 w3 : Writer)

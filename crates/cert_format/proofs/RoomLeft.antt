@@ -13,12 +13,6 @@ pub rest_fits : (old new : Writer) (a b : List ℕ) → new.gone + length new.he
     → new.gone + length (new.held ++ b) < 2 ^ 64
 rest_fits old new a b size small = omega (arith, size, small, length-append old.held (a ++ b), length-append a b, length-append old.held a, length-append new.held b)
 
--- what is held, once a part was given
-pub held_fits : (old new : Writer) (done rest all : List ℕ) → done ++ rest ≡ all → new.gone + length new.held ≡ old.gone + length (old.held ++ done) → old.gone + length (old.held ++ all) < 2 ^ 64
-    → new.gone + length new.held < 2 ^ 64
-held_fits old new done rest all parts size small =
-    omega (arith, size, small, ap length parts, length-append done rest, length-append old.held done, length-append old.held all)
-
 -- all was given, where nothing is left
 pub all_given : (P : List ℕ → Type 0) (done rest all : List ℕ) → done ++ rest ≡ all → rest ≡ [] → P done → P all
 all_given P done rest all parts none is = subst P (sym (append-nil done) ∙ ap (λ (it : List ℕ). done ++ it) (sym none) ∙ parts) is

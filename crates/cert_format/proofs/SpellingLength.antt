@@ -1,5 +1,5 @@
 -- How many bytes a certificate file has.
-use Rattle.std.proofs.Common.{◌≡◌, ◌≤◌, ◌+◌, ◌*◌, ℕ, suc, List, [], ◌∷◌, ◌++◌, length, inl, inr, refl, arith}
+use Rattle.std.proofs.Common.{◌≡◌, ◌≤◌, ◌+◌, ◌*◌, ℕ, ◌++◌, length, inl, inr, refl, arith}
 use Rattle.std.specs.List.{flat_map}
 use Rattle.std.proofs.lemmas.List.{length-append}
 use Rattle.mrt_graph.specs.Certificate.{IsCertificate}
@@ -7,28 +7,18 @@ use Rattle.mrt_graph.specs.declared.cert.CertFile.{CertFile}
 use Rattle.cert_format.specs.CertText.{cert_text, header_text, link_text, node_text, row_text}
 use Rattle.cert_format.specs.Limits.{IsCertFile, IsOfVersion}
 use Rattle.cert_format.specs.Versions.{all_rows, rows_in, stands_in}
-use Rattle.cert_format.proofs.PartsText.{few_rows}
+use Rattle.cert_format.proofs.GoesOn.{few_rows}
+use Rattle.cert_format.proofs.Lists.{length_texts}
 use Rattle.std.proofs.lemmas.List.Sums.{count_by-le-length, length-filter}
-
--- parts of so many bytes each
-parts_length : {A : Type 0} (text : A → List ℕ) (size : ℕ) → ((x : A) → length (text x) ≡ size) → (xs : List A)
-    → length (flat_map text xs) ≡ size * length xs
-parts_length text size sized [] = omega arith
-parts_length text size sized (x ∷ xs) =
-    let here = sized x in
-    let rest = parts_length text size sized xs in
-    let both = length-append (text x) (flat_map text xs) in
-    let product : size * suc (length xs) ≡ size + size * length xs = grind arith in
-    omega (arith, here, rest, both, product)
 
 pub spelling_length : (f : CertFile) → length (cert_text f)
     ≡ 14 + 11 * length f.cert.nodes + 7 * length f.cert.links + 5 * length (rows_in f.version f.cert.rows)
 spelling_length f =
     let rows_text = flat_map row_text (rows_in f.version f.cert.rows) in
     let header : length (header_text f.version (length f.cert.nodes) (length f.cert.links) f.root) ≡ 14 = refl in
-    let nodes = parts_length node_text 11 (λ x. refl) f.cert.nodes in
-    let links = parts_length link_text 7 (λ x. refl) f.cert.links in
-    let rows = parts_length row_text 5 (λ x. refl) (rows_in f.version f.cert.rows) in
+    let nodes = length_texts node_text 11 f.cert.nodes (λ x. refl) in
+    let links = length_texts link_text 7 f.cert.links (λ x. refl) in
+    let rows = length_texts row_text 5 (rows_in f.version f.cert.rows) (λ x. refl) in
     let first = length-append (header_text f.version (length f.cert.nodes) (length f.cert.links) f.root)
     (flat_map node_text f.cert.nodes ++ (flat_map link_text f.cert.links ++ rows_text)) in
     let second = length-append (flat_map node_text f.cert.nodes) (flat_map link_text f.cert.links ++ rows_text) in

@@ -1,40 +1,41 @@
 -- Parts taken off the rest of a stream.
-use Rattle.std.proofs.Common.{◌≡◌, ◌+◌, ◌-◌, ◌*◌, ◌<◌, ◌≤◌, ℕ, suc, true, List, [], ◌∷◌, ◌++◌, length, Option, Some, None, Result, Ok, Err, inl, inr, refl, sym, ap, subst, ◌∙◌, arith, append_assoc, length-append}
+use Rattle.std.proofs.Common.{◌≡◌, ◌+◌, ◌-◌, ◌*◌, ◌<◌, ◌≤◌, ℕ, List, [], ◌++◌, length, Option, Some, None, Result, Ok, Err, refl, sym, ap, subst, ◌∙◌, arith, append_assoc, length-append}
 use Rattle.std.specs.List.{flat_map, AllByRecursion}
-use Rattle.std.proofs.lemmas.Bool.{cases_Bool, lt-ltb, le-ltb}
+use Rattle.std.proofs.lemmas.Bool.{both_ways}
 use Rattle.std.proofs.lemmas.List.{append-nil}
 use Rattle.std.proofs.lemmas.List.Concat.{flat_map-append}
 use Rattle.mrt_graph.specs.Certificate.{IsCertLink}
+use Rattle.mrt_graph.specs.Kin.{Kin}
 use Rattle.mrt_graph.specs.declared.cert.CertNode.{CertNode}
 use Rattle.mrt_graph.specs.declared.cert.CertLink.{CertLink}
 use Rattle.mrt_graph.specs.declared.cert.Row.{Row}
 use Rattle.mrt_graph.proofs.Members.{all_append}
 use Rattle.cert_format.specs.declared.error.CertFault.{CertFault}
+use Rattle.cert_format.specs.declared.error.CertKind.{CertKind}
 use Rattle.cert_format.specs.declared.error.CertKind.TheVariants.{Heads, Trailing}
 use Rattle.cert_format.specs.declared.error.CertError.{CertError}
 use Rattle.cert_format.specs.declared.error.CertError.TheVariants as errors
 use Rattle.cert_format.specs.declared.header.Header.{Header}
-use Rattle.cert_format.specs.CertText.{node_text, link_text, row_text}
-use Rattle.cert_format.specs.Layout.{Form, End, repeated, cert_form, head_place, header_form, node_form, link_form, row_form}
+use Rattle.cert_format.specs.CertText.{header_text, node_text, link_text, row_text}
+use Rattle.cert_format.specs.Layout.{End, Form, after_links, after_nodes, cert_form, collected, header_form, node_form, link_form, row_form}
 use Rattle.cert_format.specs.FirstFault.{fault_in, first_fault}
-use Rattle.cert_format.specs.Reading.{Rest, Names, Took, IsFileRow, IsListOf, IsNode}
-use Rattle.cert_format.specs.Versions.{stray_head, tag_count}
-use Rattle.cert_format.specs.Parts.{Parts, AreParts, AreBelow, AreUnder, Begins, Grew, text_of_header, text_of, next_size, IsShape}
-use Rattle.cert_format.specs.Stream.{is_cut, certain_fault}
-use Rattle.cert_format.specs.Taking.{Takes, TookParts, CutIn, CutOr, Ends}
-use Rattle.cert_format.proofs.Certain.{certain_is, cut_is, none_is}
-use Rattle.cert_format.proofs.Files.{head_fails, nodes_pass, trailing}
-use Rattle.cert_format.proofs.Files.{ended as nothing_left}
-use Rattle.cert_format.proofs.Lists.{length_texts}
-use Rattle.cert_format.proofs.Forms.{cut_short, header_spans, node_spans, link_spans, row_spans, rows_span, repeated_more}
-use Rattle.cert_format.proofs.GoesOn.{none_read, node_next, link_next, rows_next}
-use Rattle.cert_format.proofs.PartsText.{under}
+use Rattle.cert_format.specs.Reading.{Ends, IsFileRow, IsHeader, IsNode, Names, ReadsList, Rest, Took, TookMore}
+use Rattle.cert_format.specs.Steps.{AreBelow, AreFirst, AreKnown, AreParts, AreUnder, AreWhole, Begins, Grew, Knows, Parts, ReadsOn, Stops, Takes, TookParts, text_of, text_of_header}
+use Rattle.cert_format.specs.Stream.{is_cut}
+use Rattle.cert_format.specs.Versions.{row_count, tag_count}
+use Rattle.cert_format.proofs.Files.{all_nodes_pass, few_most_links, few_most_nodes, head_fails, trailing}
+use Rattle.cert_format.proofs.Forms.{cut_short, header_spans}
+use Rattle.cert_format.proofs.GoesOn.{are_under, links_left, nodes_left, none_read, rows_left}
+use Rattle.cert_format.proofs.Lists.{IsPart, Took-then, next_fails, none_left}
+use Rattle.cert_format.proofs.Parts.{node_part, link_part, row_part}
+
+-- ---- nothing is lost
 
 pub begins_all : {A : Type 0} (xs : List A) → Begins xs xs
 begins_all xs = ([], sym (append-nil xs))
 
 pub grew_none : (parts : Parts) → Grew parts parts
-grew_none parts = record { nodes = begins_all parts.nodes; links = begins_all parts.links; rows = begins_all parts.rows; down = begins_all parts.down }
+grew_none parts = record { nodes = begins_all parts.nodes; links = begins_all parts.links; rows = begins_all parts.rows; kin = λ kin is. is }
 
 begins_then : {A : Type 0} (xs ys zs : List A) → Begins xs ys → Begins ys zs → Begins xs zs
 begins_then xs ys zs a b = (a.0 ++ b.0, b.1 ∙ ap (λ (it : List _). it ++ b.0) a.1 ∙ append_assoc xs a.0 b.0)
@@ -44,330 +45,292 @@ grew_then a b c x y = record {
   nodes = begins_then a.nodes b.nodes c.nodes x.nodes y.nodes;
   links = begins_then a.links b.links c.links x.links y.links;
   rows = begins_then a.rows b.rows c.rows x.rows y.rows;
-  down = begins_then a.down b.down c.down x.down y.down;
+  kin = λ kin is. y.kin kin (x.kin kin is);
 }
 
--- the bytes of parts that follow those that were read
-pub took : (old new : Parts) (text : List ℕ) (before after : Rest) → AreParts new → Grew old new → text_of new ≡ text_of old ++ text → Took text before after
-    → before.at ≡ length (text_of old) → next_size old ≤ length text → 0 < length text → TookParts old before new after
-took old new text before after are grew more took_it place size some =
-    let bytes : length before.bytes ≡ length text + length after.bytes = ap length took_it.parts ∙ length-append text after.bytes in
-    record {
-      are = are;
-      grew = grew;
-      stream = ap (λ (it : List ℕ). it ++ after.bytes) more ∙ append_assoc (text_of old) text after.bytes ∙ ap (λ (it : List ℕ). text_of old ++ it) (sym took_it.parts);
-      place = omega (arith, took_it.place, place, ap length more, length-append (text_of old) text);
-      whole = omega (arith, bytes, size);
-      fewer = omega (arith, bytes, some);
-    }
+-- a list of parts that was read on
+pub begins_read : {A : Type 0} (part : (A → Form) → Form) (text : A → List ℕ) (Keeps : A → Type 0) (count : ℕ) (old new : List A) (before : Rest) (result : Result Rest CertError)
+    → ReadsList part text Keeps count old new before result → Begins old new
+begins_read part text Keeps count old new before (Ok after) read = (read.0.more, read.0.adds)
+begins_read part text Keeps count old new before (Err (errors.Fault at kind)) read = (read.1.more, read.1.adds)
+begins_read part text Keeps count old new before (Err errors.NoMemory) read = ([], read ∙ sym (append-nil old))
 
--- a fault of the next part, or its cut
-pub refused : (parts : Parts) (before : Rest) (fault : CertFault) (answer : Result (Option Rest) CertError)
-    → Names fault (first_fault (text_of parts ++ before.bytes)) → (is_cut fault.kind ≡ true → length before.bytes < next_size parts)
-    → CutOr fault answer → Takes parts before parts answer
-refused parts before fault (Ok (Some after)) named short cut = absurd cut
-refused parts before fault (Ok None) named short cut =
-    (refl, record { faultless = cut_is (text_of parts ++ before.bytes) fault.at fault.kind named cut; short = inr (short cut) })
-refused parts before fault (Err (errors.Fault at kind)) named short cut =
-    rw (cut.0, cut.1) (certain_is (text_of parts ++ before.bytes) fault.at fault.kind named cut.2)
-refused parts before fault (Err errors.NoMemory) named short cut = absurd cut
+-- ---- parts taken, and then more
 
-pub node_size : (parts : Parts) (header : Header) → parts.header ≡ Some header → length parts.nodes < header.nodes → next_size parts ≡ 11
-node_size parts header is lacks = rw (is, lt-ltb _ _ lacks) refl
+pub took_none : (parts : Parts) (rest : Rest) → TookParts parts rest parts rest
+took_none parts rest = record { text = []; adds = sym (append-nil (text_of parts)); took = record { parts = refl; place = omega arith } }
 
-pub link_size : (parts : Parts) (header : Header) → parts.header ≡ Some header → length parts.nodes ≡ header.nodes → length parts.links < header.links → next_size parts ≡ 7
-link_size parts header is nodes lacks =
-    let no_node = le-ltb (length parts.nodes) header.nodes (omega (arith, nodes)) in
-    rw (is, no_node, lt-ltb _ _ lacks) refl
+pub took_then : (a b c : Parts) (x y z : Rest) → TookParts a x b y → TookParts b y c z → TookParts a x c z
+took_then a b c x y z one two = record {
+  text = one.text ++ two.text;
+  adds = two.adds ∙ ap (λ (it : List ℕ). it ++ two.text) one.adds ∙ append_assoc (text_of a) one.text two.text;
+  took = Took-then one.text two.text x y z one.took two.took;
+}
 
-pub row_size : (parts : Parts) (header : Header) → parts.header ≡ Some header → length parts.nodes ≡ header.nodes → length parts.links ≡ header.links
-    → length parts.rows < parts.row_count → next_size parts ≡ 5
-row_size parts header is nodes links lacks =
-    let no_node = le-ltb (length parts.nodes) header.nodes (omega (arith, nodes)) in
-    let no_link = le-ltb (length parts.links) header.links (omega (arith, links)) in
-    rw (is, no_node, no_link, lt-ltb _ _ lacks) refl
+-- where the rest is
+pub place_then : (old new : Parts) (before after : Rest) → TookParts old before new after → before.at ≡ length (text_of old) → after.at ≡ length (text_of new)
+place_then old new before after it place = omega (arith, it.took.place, place, ap length it.adds, length-append (text_of old) it.text)
 
-pub node_named : (parts : Parts) (header : Header) (before : Rest) (fault : CertFault) → parts.header ≡ Some header → AreParts parts
-    → length parts.nodes < header.nodes → before.at ≡ length (text_of parts) → ((next : CertNode → Form) → Names fault (fault_in (node_form header.nodes next) before.at before.bytes))
-    → Names fault (first_fault (text_of parts ++ before.bytes))
-node_named parts header before fault is are lacks place named =
-    let next = node_next parts header is are lacks in
-    next.1 before.bytes ∙ ap (λ (a : ℕ). fault_in (node_form header.nodes next.0) a before.bytes) (sym place) ∙ named next.0
+stops_then : (a b c : Parts) (x y : Rest) (at : ℕ) (kind : CertKind) → TookParts a x b y → Stops b y c at kind → Stops a x c at kind
+stops_then a b c x y at kind took stops =
+    record { left = stops.left; took = took_then a b c x y stops.left took stops.took; first = stops.first; cut = stops.cut }
 
-pub link_named : (parts : Parts) (header : Header) (before : Rest) (fault : CertFault) → parts.header ≡ Some header → AreParts parts
-    → length parts.nodes ≡ header.nodes → length parts.links < header.links → before.at ≡ length (text_of parts)
-    → ((next : Form) → Names fault (fault_in (link_form header.nodes next) before.at before.bytes)) → Names fault (first_fault (text_of parts ++ before.bytes))
-link_named parts header before fault is are nodes lacks place named =
-    let next = link_next parts header is are nodes lacks in
-    next.1 before.bytes ∙ ap (λ (a : ℕ). fault_in (link_form header.nodes next.0) a before.bytes) (sym place) ∙ named next.0
+pub on_error : (a b c : Parts) (x y : Rest) (e : CertError) → TookParts a x b y → Takes b y c (Err e) → ReadsOn a x c (Err e)
+on_error a b c x y (errors.Fault at kind) took stops = stops_then a b c x y at kind took stops
+on_error a b c x y errors.NoMemory took stops = tt
 
-pub row_named : (parts : Parts) (header : Header) (before : Rest) (fault : CertFault) → parts.header ≡ Some header → AreParts parts
-    → length parts.nodes ≡ header.nodes → length parts.links ≡ header.links → length parts.rows < parts.row_count → before.at ≡ length (text_of parts)
-    → ((next : Form) → Names fault (fault_in (row_form (tag_count header.version) header.links next) before.at before.bytes)) → Names fault (first_fault (text_of parts ++ before.bytes))
-row_named parts header before fault is are nodes links lacks place named =
-    let left = parts.row_count - length parts.rows in
-    let one : left ≡ suc (left - 1) = omega (arith, lacks) in
-    rows_next parts header is are nodes links before.bytes
-    ∙ ap (λ (a : ℕ). fault_in (repeated left (row_form (tag_count header.version) header.links) End) a before.bytes) (sym place)
-    ∙ ap (λ (n : ℕ). fault_in (repeated n (row_form (tag_count header.version) header.links) End) before.at before.bytes) one
-    ∙ named (repeated (left - 1) (row_form (tag_count header.version) header.links) End)
+pub whole_then : (a b : Parts) (x y : Rest) → TookParts a x b y → ReadsOn b y b (Ok tt) → ReadsOn a x b (Ok tt)
+whole_then a b x y took reads = (reads.0, reads.1 ∙ ap (λ (it : List ℕ). it ++ y.bytes) took.adds ∙ append_assoc (text_of a) took.text y.bytes ∙ ap (λ (it : List ℕ). text_of a ++ it) (sym took.took.parts))
 
-pub header_named : (parts : Parts) (before : Rest) (fault : CertFault) → parts.header ≡ None → AreParts parts → before.at ≡ length (text_of parts)
-    → ((next : ℕ → ℕ → ℕ → Form) → Names fault (fault_in (header_form next) before.at before.bytes)) → Names fault (first_fault (text_of parts ++ before.bytes))
-header_named parts before fault is are place named =
+-- ---- parts of one kind
+
+module _ {A : Type 0} (part : (A → Form) → Form) (text : A → List ℕ) (Keeps : A → Type 0) (size : ℕ) (is : IsPart part text Keeps size) (count : ℕ) (xs ys : List A) (old new : Parts)
+    (grows : (more : List A) → ys ≡ xs ++ more → text_of new ≡ text_of old ++ flat_map text more) where
+  pub list_took : (before after : Rest) → TookMore text Keeps xs ys before after → TookParts old before new after
+  list_took before after it = record { text = flat_map text it.more; adds = grows it.more it.adds; took = it.took }
+
+  -- a fault of the next part is the first fault
+  pub list_stops : (next : List A → Form) → AreParts new → ((bytes : List ℕ) → first_fault (text_of new ++ bytes) ≡ fault_in (collected (count - length ys) part next) (length (text_of new)) bytes)
+      → (before left : Rest) (at : ℕ) (kind : CertKind) → before.at ≡ length (text_of old) → TookMore text Keeps xs ys before left → length ys < count
+      → ((after : A → Form) → fault_in (part after) left.at left.bytes ≡ Some (at, kind)) → Stops old before new at kind
+  list_stops next are goes_on before left at kind place it lacks fault = record {
+    left = left;
+    took = list_took before left it;
+    first =
+        let here = place_then old new before left (list_took before left it) place in
+        goes_on left.bytes ∙ ap (λ (a : ℕ). fault_in (collected (count - length ys) part next) a left.bytes) (sym here)
+        ∙ next_fails part next (count - length ys) left.at left.bytes (at, kind) (omega (arith, lacks)) fault;
+    cut = λ is_cut. (are, omega (arith, cut_short (part (λ x. End)) size left.at left.bytes at kind is.spans (fault (λ x. End)) is_cut, is.short));
+  }
+
+-- ---- the header
+
+abbrev pub with_header : Parts → Header → Parts
+with_header parts header = record { header = Some header; nodes = parts.nodes; links = parts.links; rows = parts.rows; kin = parts.kin }
+
+pub header_took : (parts : Parts) (header : Header) (before after : Rest) → parts.header ≡ None → AreParts parts
+    → Took (header_text header.version header.nodes header.links header.root) before after → IsHeader header.version header.nodes header.links header.root
+    → TookParts parts before (with_header parts header) after × AreParts (with_header parts header)
+header_took parts header before after is are took within =
+    let none = subst (λ (it : Option Header). AreBelow it parts) is are in
+    let bare = none.1 in (
+      record {
+        text = header_text header.version header.nodes header.links header.root;
+        adds = rw (is, none.0, bare.links, bare.rows) (append-nil (header_text header.version header.nodes header.links header.root));
+        took = took;
+      },
+      record {
+        header = within;
+        nodes = rw none.0 (record { few = omega arith; each = tt });
+        links = rw bare.links (record { few = omega arith; each = tt });
+        rows = rw bare.rows (record { few = omega arith; each = tt });
+        nodes_first = λ fewer. record { links = bare.links; rows = bare.rows; kin = bare.kin };
+        links_first = λ fewer. bare.rows;
+        known = λ all. absurd (omega (arith, all, ap length none.0, within.some_node));
+      },
+    )
+
+pub header_stops : (parts : Parts) (before : Rest) (fault : CertFault) → parts.header ≡ None → AreParts parts → before.at ≡ length (text_of parts)
+    → ((next : ℕ → ℕ → ℕ → Form) → Names fault (fault_in (header_form next) before.at before.bytes)) → Stops parts before parts fault.at fault.kind
+header_stops parts before fault is are place named =
     let none = none_read parts is are in
     let start : 0 ≡ before.at = sym (place ∙ ap length none) in
-    ap (λ (it : List ℕ). first_fault (it ++ before.bytes)) none ∙ ap (λ (a : ℕ). fault_in cert_form a before.bytes) start ∙ named _
-
-pub header_refused : (parts : Parts) (before : Rest) (fault : CertFault) (answer : Result (Option Rest) CertError) → parts.header ≡ None → AreParts parts → before.at ≡ length (text_of parts)
-    → ((next : ℕ → ℕ → ℕ → Form) → Names fault (fault_in (header_form next) before.at before.bytes)) → CutOr fault answer → Takes parts before parts answer
-header_refused parts before fault answer is are place named cut =
-    refused parts before fault answer (header_named parts before fault is are place named)
-    (λ is_short. rw is (cut_short (header_form (λ version nodes links. End)) 14 before.at before.bytes fault.at fault.kind header_spans (named (λ version nodes links. End)) is_short))
-    cut
-
-pub node_refused : (parts : Parts) (header : Header) (before : Rest) (fault : CertFault) (answer : Result (Option Rest) CertError) → parts.header ≡ Some header → AreParts parts
-    → length parts.nodes < header.nodes → before.at ≡ length (text_of parts) → ((next : CertNode → Form) → Names fault (fault_in (node_form header.nodes next) before.at before.bytes))
-    → CutOr fault answer → Takes parts before parts answer
-node_refused parts header before fault answer is are lacks place named cut =
-    refused parts before fault answer (node_named parts header before fault is are lacks place named)
-    (λ is_short. rw (node_size parts header is lacks) (cut_short (node_form header.nodes (λ node. End)) 11 before.at before.bytes fault.at fault.kind (node_spans header.nodes) (named (λ node. End)) is_short))
-    cut
-
-pub link_refused : (parts : Parts) (header : Header) (before : Rest) (fault : CertFault) (answer : Result (Option Rest) CertError) → parts.header ≡ Some header → AreParts parts
-    → length parts.nodes ≡ header.nodes → length parts.links < header.links → before.at ≡ length (text_of parts)
-    → ((next : Form) → Names fault (fault_in (link_form header.nodes next) before.at before.bytes)) → CutOr fault answer → Takes parts before parts answer
-link_refused parts header before fault answer is are nodes lacks place named cut =
-    refused parts before fault answer (link_named parts header before fault is are nodes lacks place named)
-    (λ is_short. rw (link_size parts header is nodes lacks) (cut_short (link_form header.nodes End) 7 before.at before.bytes fault.at fault.kind (link_spans header.nodes) (named End) is_short))
-    cut
-
--- one more node
-abbrev pub with_node : Parts → CertNode → Parts
-with_node parts node = record { header = parts.header; nodes = parts.nodes ++ node ∷ []; links = parts.links; rows = parts.rows; row_count = parts.row_count; down = parts.down }
-
-one_more : {A : Type 0} (text : A → List ℕ) (xs : List A) (x : A) → flat_map text (xs ++ x ∷ []) ≡ flat_map text xs ++ text x
-one_more text xs x = flat_map-append text xs (x ∷ []) ∙ ap (λ (it : List ℕ). flat_map text xs ++ it) (append-nil (text x))
-
-after_nodes : (h n t : List ℕ) → h ++ ((n ++ t) ++ []) ≡ (h ++ (n ++ [])) ++ t
-after_nodes h n t = rw (append-nil (n ++ t), append-nil n) (sym (append_assoc h n t))
-
-node_text_more : (parts : Parts) (node : CertNode) → parts.links ≡ [] → parts.rows ≡ [] → text_of (with_node parts node) ≡ text_of parts ++ node_text node
-node_text_more parts node no_links no_rows =
-    let nothing : flat_map link_text parts.links ++ flat_map row_text parts.rows ≡ [] = rw (no_links, no_rows) refl in
-    ap (λ (it : List ℕ). text_of_header parts.header ++ (flat_map node_text (parts.nodes ++ node ∷ []) ++ it)) nothing
-    ∙ ap (λ (it : List ℕ). text_of_header parts.header ++ (it ++ [])) (one_more node_text parts.nodes node)
-    ∙ after_nodes (text_of_header parts.header) (flat_map node_text parts.nodes) (node_text node)
-    ∙ sym (ap (λ (it : List ℕ). (text_of_header parts.header ++ (flat_map node_text parts.nodes ++ it)) ++ node_text node) nothing)
-
--- a node that is not the last one
-node_under : (parts : Parts) (header : Header) (node : CertNode) → AreUnder header parts → length parts.nodes + 1 < header.nodes → IsNode header.nodes node → AreUnder header (with_node parts node)
-node_under parts header node are lacks keeps = record {
-  header = are.header;
-  few_nodes = omega (arith, lacks, length-append parts.nodes (node ∷ []));
-  few_links = are.few_links;
-  few_rows = are.few_rows;
-  nodes = all_append (IsNode header.nodes) parts.nodes (node ∷ []) are.nodes (keeps, tt);
-  links = are.links;
-  rows = are.rows;
-  nodes_first = λ _. let bare = are.nodes_first (omega (arith, lacks)) in record { links = bare.links; rows = bare.rows; row_count = bare.row_count; down = bare.down };
-  links_first = are.links_first;
-  shape = λ whole. absurd (omega (arith, whole, lacks, length-append parts.nodes (node ∷ [])));
-}
-
--- the last node, after which more is known
-abbrev pub with_last : Parts → CertNode → ℕ → List ℕ → Parts
-with_last parts node count down = record { header = parts.header; nodes = parts.nodes ++ node ∷ []; links = parts.links; rows = parts.rows; row_count = count; down = down }
-
-last_under : (parts : Parts) (header : Header) (node : CertNode) (count : ℕ) (down : List ℕ) → AreUnder header parts → length parts.nodes + 1 ≡ header.nodes → IsNode header.nodes node
-    → IsShape header.version (parts.nodes ++ node ∷ []) count down → AreUnder header (with_last parts node count down)
-last_under parts header node count down are last keeps shape =
-    let bare = are.nodes_first (omega (arith, last)) in
     record {
-      header = are.header;
-      few_nodes = omega (arith, last, length-append parts.nodes (node ∷ []));
-      few_links = are.few_links;
-      few_rows = rw bare.rows (omega arith);
-      nodes = all_append (IsNode header.nodes) parts.nodes (node ∷ []) are.nodes (keeps, tt);
-      links = are.links;
-      rows = are.rows;
-      nodes_first = λ fewer. absurd (omega (arith, fewer, last, length-append parts.nodes (node ∷ [])));
-      links_first = are.links_first;
-      shape = λ _. shape;
+      left = before;
+      took = took_none parts before;
+      first = ap (λ (it : List ℕ). first_fault (it ++ before.bytes)) none ∙ ap (λ (a : ℕ). fault_in cert_form a before.bytes) start ∙ named _;
+      cut = λ is_cut. (are, cut_short (header_form (λ version nodes links. End)) 14 before.at before.bytes fault.at fault.kind header_spans (named (λ version nodes links. End)) is_cut);
     }
 
-back : (parts : Parts) (header : Header) → parts.header ≡ Some header → AreUnder header parts → AreParts parts
-back parts header is are = subst (λ (it : Option Header). AreBelow it parts) (sym is) are
+-- ---- nodes, links and rows
 
-pub node_taken : (parts : Parts) (header : Header) (node : CertNode) (before after : Rest) → parts.header ≡ Some header → AreParts parts → length parts.nodes + 1 < header.nodes
-    → before.at ≡ length (text_of parts) → Took (node_text node) before after → IsNode header.nodes node → TookParts parts before (with_node parts node) after
-node_taken parts header node before after is are lacks place took_it keeps =
-    let so = under parts header is are in
-    let none = so.nodes_first (omega (arith, lacks)) in
-    took parts (with_node parts node) (node_text node) before after (back (with_node parts node) header is (node_under parts header node so lacks keeps))
-    (record { nodes = (node ∷ [], refl); links = begins_all parts.links; rows = begins_all parts.rows; down = begins_all parts.down })
-    (node_text_more parts node none.links none.rows) took_it place (rw (node_size parts header is (omega (arith, lacks))) (omega arith)) (omega arith)
+abbrev pub with_links : Parts → List CertLink → Parts
+with_links parts links = record { header = parts.header; nodes = parts.nodes; links = links; rows = parts.rows; kin = parts.kin }
 
-begins_none : {A : Type 0} (xs ys : List A) → xs ≡ [] → Begins xs ys
-begins_none xs ys none = (ys, ap (λ (it : List _). it ++ ys) (sym none))
-
-pub last_taken : (parts : Parts) (header : Header) (node : CertNode) (count : ℕ) (down : List ℕ) (before after : Rest) → parts.header ≡ Some header → AreParts parts → length parts.nodes + 1 ≡ header.nodes
-    → before.at ≡ length (text_of parts) → Took (node_text node) before after → IsNode header.nodes node
-    → IsShape header.version (parts.nodes ++ node ∷ []) count down → TookParts parts before (with_last parts node count down) after
-last_taken parts header node count down before after is are last place took_it keeps shape =
-    let so = under parts header is are in
-    let none = so.nodes_first (omega (arith, last)) in
-    took parts (with_last parts node count down) (node_text node) before after (back (with_last parts node count down) header is (last_under parts header node count down so last keeps shape))
-    (record { nodes = (node ∷ [], refl); links = begins_all parts.links; rows = begins_all parts.rows; down = begins_none parts.down down none.down })
-    (node_text_more parts node none.links none.rows) took_it place (rw (node_size parts header is (omega (arith, last))) (omega arith)) (omega arith)
-
--- a head is at fault, which is seen with the last node
-pub head_refused : (parts : Parts) (header : Header) (node : CertNode) (a : ℕ) (before after : Rest) → parts.header ≡ Some header → AreParts parts → length parts.nodes + 1 ≡ header.nodes
-    → Took (node_text node) before after → IsNode header.nodes node → stray_head header.version (parts.nodes ++ node ∷ []) ≡ Some a
-    → certain_fault (text_of parts ++ before.bytes) ≡ Some (head_place a, Heads)
-head_refused parts header node a before after is are last took_it keeps stray =
-    let so = under parts header is are in
-    let none = so.nodes_first (omega (arith, last)) in
-    let nothing : flat_map link_text parts.links ++ flat_map row_text parts.rows ≡ [] = rw (none.links, none.rows) refl in
-    let nodes = parts.nodes ++ node ∷ [] in
-    let many : length nodes ≡ header.nodes = omega (arith, last, length-append parts.nodes (node ∷ [])) in
-    let each : AllByRecursion (IsNode header.nodes) nodes = all_append (IsNode header.nodes) parts.nodes (node ∷ []) so.nodes (keeps, tt) in
-    let text : text_of parts ++ before.bytes ≡ text_of_header (Some header) ++ (flat_map node_text nodes ++ after.bytes) =
-    ap (λ (it : List ℕ). text_of parts ++ it) took_it.parts
-    ∙ ap (λ (it : List ℕ). (text_of_header parts.header ++ (flat_map node_text parts.nodes ++ it)) ++ (node_text node ++ after.bytes)) nothing
-    ∙ ap (λ (it : Option Header). (text_of_header it ++ (flat_map node_text parts.nodes ++ [])) ++ (node_text node ++ after.bytes)) is
-    ∙ before_node (text_of_header (Some header)) (flat_map node_text parts.nodes) (node_text node) after.bytes
-    ∙ ap (λ (it : List ℕ). text_of_header (Some header) ++ (it ++ after.bytes)) (sym (one_more node_text parts.nodes node)) in
-    let first : first_fault (text_of parts ++ before.bytes) ≡ Some (head_place a, Heads) =
-    ap first_fault text ∙ nodes_pass header.version header.nodes header.links header.root nodes after.bytes so.header many each
-    ∙ head_fails header.version header.links (14 + 11 * length nodes) a nodes after.bytes stray in
-    certain_is (text_of parts ++ before.bytes) (head_place a) Heads first refl
-  where
-    before_node : (h n t r : List ℕ) → (h ++ (n ++ [])) ++ (t ++ r) ≡ h ++ ((n ++ t) ++ r)
-    before_node h n t r = rw (append-nil n) (append_assoc h n (t ++ r) ∙ ap (λ (it : List ℕ). h ++ it) (sym (append_assoc n t r)))
-
--- one more link
-abbrev pub with_link : Parts → CertLink → Parts
-with_link parts link = record { header = parts.header; nodes = parts.nodes; links = parts.links ++ link ∷ []; rows = parts.rows; row_count = parts.row_count; down = parts.down }
-
-after_links : (h n l t : List ℕ) → h ++ (n ++ ((l ++ t) ++ [])) ≡ (h ++ (n ++ (l ++ []))) ++ t
-after_links h n l t =
-    rw (append-nil (l ++ t), append-nil l) (sym (append_assoc h (n ++ l) t ∙ ap (λ (it : List ℕ). h ++ it) (append_assoc n l t)))
-
-link_text_more : (parts : Parts) (link : CertLink) → parts.rows ≡ [] → text_of (with_link parts link) ≡ text_of parts ++ link_text link
-link_text_more parts link no_rows =
-    let nothing : flat_map row_text parts.rows ≡ [] = rw no_rows refl in
-    ap (λ (it : List ℕ). text_of_header parts.header ++ (flat_map node_text parts.nodes ++ (flat_map link_text (parts.links ++ link ∷ []) ++ it))) nothing
-    ∙ ap (λ (it : List ℕ). text_of_header parts.header ++ (flat_map node_text parts.nodes ++ (it ++ []))) (one_more link_text parts.links link)
-    ∙ after_links (text_of_header parts.header) (flat_map node_text parts.nodes) (flat_map link_text parts.links) (link_text link)
-    ∙ sym (ap (λ (it : List ℕ). (text_of_header parts.header ++ (flat_map node_text parts.nodes ++ (flat_map link_text parts.links ++ it))) ++ link_text link) nothing)
-
-link_under : (parts : Parts) (header : Header) (link : CertLink) → AreUnder header parts → length parts.nodes ≡ header.nodes → length parts.links < header.links → IsCertLink header.nodes link → AreUnder header (with_link parts link)
-link_under parts header link are nodes lacks keeps = record {
-  header = are.header;
-  few_nodes = are.few_nodes;
-  few_links = omega (arith, lacks, length-append parts.links (link ∷ []));
-  few_rows = are.few_rows;
-  nodes = are.nodes;
-  links = all_append (IsCertLink header.nodes) parts.links (link ∷ []) are.links (keeps, tt);
-  rows = are.rows;
-  nodes_first = λ fewer. absurd (omega (arith, fewer, nodes));
-  links_first = λ _. are.links_first lacks;
-  shape = are.shape;
-}
-
-pub link_taken : (parts : Parts) (header : Header) (link : CertLink) (before after : Rest) → parts.header ≡ Some header → AreParts parts → length parts.nodes ≡ header.nodes → length parts.links < header.links
-    → before.at ≡ length (text_of parts) → Took (link_text link) before after → IsCertLink header.nodes link → TookParts parts before (with_link parts link) after
-link_taken parts header link before after is are nodes lacks place took_it keeps =
-    let so = under parts header is are in
-    took parts (with_link parts link) (link_text link) before after (back (with_link parts link) header is (link_under parts header link so nodes lacks keeps))
-    (record { nodes = begins_all parts.nodes; links = (link ∷ [], refl); rows = begins_all parts.rows; down = begins_all parts.down })
-    (link_text_more parts link (so.links_first lacks)) took_it place (rw (link_size parts header is nodes lacks) (omega arith)) (omega arith)
-
--- more rows
 abbrev pub with_rows : Parts → List Row → Parts
-with_rows parts rows = record { header = parts.header; nodes = parts.nodes; links = parts.links; rows = parts.rows ++ rows; row_count = parts.row_count; down = parts.down }
+with_rows parts rows = record { header = parts.header; nodes = parts.nodes; links = parts.links; rows = rows; kin = parts.kin }
 
-rows_text_more : (parts : Parts) (rows : List Row) → text_of (with_rows parts rows) ≡ text_of parts ++ flat_map row_text rows
-rows_text_more parts rows =
-    let h = text_of_header parts.header in
-    let n = flat_map node_text parts.nodes in
-    let l = flat_map link_text parts.links in
-    let r = flat_map row_text parts.rows in
-    ap (λ (it : List ℕ). h ++ (n ++ (l ++ it))) (flat_map-append row_text parts.rows rows)
-    ∙ sym (append_assoc h (n ++ (l ++ r)) (flat_map row_text rows)
-    ∙ ap (λ (it : List ℕ). h ++ it) (append_assoc n (l ++ r) (flat_map row_text rows) ∙ ap (λ (it : List ℕ). n ++ it) (append_assoc l r (flat_map row_text rows))))
+abbrev pub with_nodes : Parts → List CertNode → Option Kin → Parts
+with_nodes parts nodes kin = record { header = parts.header; nodes = nodes; links = parts.links; rows = parts.rows; kin = kin }
 
-rows_under : (parts : Parts) (header : Header) (rows : List Row) → AreUnder header parts → length parts.nodes ≡ header.nodes → length parts.links ≡ header.links
-    → length parts.rows + length rows ≤ parts.row_count → AllByRecursion (IsFileRow (tag_count header.version) header.links) rows → AreUnder header (with_rows parts rows)
-rows_under parts header rows are nodes links within all = record {
-  header = are.header;
-  few_nodes = are.few_nodes;
-  few_links = are.few_links;
-  few_rows = rw (length-append parts.rows rows) within;
-  nodes = are.nodes;
-  links = are.links;
-  rows = all_append (IsFileRow (tag_count header.version) header.links) parts.rows rows are.rows all;
-  nodes_first = λ fewer. absurd (omega (arith, fewer, nodes));
-  links_first = λ fewer. absurd (omega (arith, fewer, links));
-  shape = are.shape;
+pub first_more : {A : Type 0} (count most : ℕ) (Keeps : A → Type 0) (xs more ys : List A) → AreFirst count Keeps xs → ys ≡ xs ++ more → AllByRecursion Keeps more → length ys ≤ most → AreFirst most Keeps ys
+first_more count most Keeps xs more ys first e all few = record { few = few; each = subst (AllByRecursion Keeps) (sym e) (all_append Keeps xs more first.each all) }
+
+pub grew_nodes : (parts : Parts) (nodes : List CertNode) (kin : Option Kin) → parts.kin ≡ None → Begins parts.nodes nodes → Grew parts (with_nodes parts nodes kin)
+grew_nodes parts nodes kin none begins =
+    record { nodes = begins; links = begins_all parts.links; rows = begins_all parts.rows; kin = λ some is. let other : ◌≡◌ {A = Option Kin} None (Some some) = sym none ∙ is in absurd cc }
+
+pub grew_links : (parts : Parts) (links : List CertLink) → Begins parts.links links → Grew parts (with_links parts links)
+grew_links parts links begins = record { nodes = begins_all parts.nodes; links = begins; rows = begins_all parts.rows; kin = λ kin is. is }
+
+pub grew_rows : (parts : Parts) (rows : List Row) → Begins parts.rows rows → Grew parts (with_rows parts rows)
+grew_rows parts rows begins = record { nodes = begins_all parts.nodes; links = begins_all parts.links; rows = begins; kin = λ kin is. is }
+
+module _ (parts : Parts) (header : Header) (is : parts.header ≡ Some header) (so : AreUnder header parts) where
+  few_links : header.links ≤ 65535
+  few_links = omega (arith, so.header.few_links, few_most_links header.version)
+
+  module _ (nodes : List CertNode) (kin : Option Kin) (lacks : length parts.nodes < header.nodes) where
+    pub nodes_grow : (more : List CertNode) → nodes ≡ parts.nodes ++ more → text_of (with_nodes parts nodes kin) ≡ text_of parts ++ flat_map node_text more
+    nodes_grow more e =
+        let bare = so.nodes_first lacks in
+        rw (bare.links, bare.rows, e) (ap (λ (it : List ℕ). text_of_header parts.header ++ it) (append-nil (flat_map node_text (parts.nodes ++ more)) ∙ flat_map-append node_text parts.nodes more)
+        ∙ sym (append_assoc (text_of_header parts.header) (flat_map node_text parts.nodes) (flat_map node_text more))
+        ∙ ap (λ (it : List ℕ). (text_of_header parts.header ++ it) ++ flat_map node_text more) (sym (append-nil (flat_map node_text parts.nodes))))
+
+    pub nodes_under : (more : List CertNode) → nodes ≡ parts.nodes ++ more → AllByRecursion (IsNode header.nodes) more → length nodes ≤ header.nodes
+        → (length nodes < header.nodes → kin ≡ None) → (length nodes ≡ header.nodes → AreKnown header.version nodes kin) → AreUnder header (with_nodes parts nodes kin)
+    nodes_under more e all few none known =
+        let bare = so.nodes_first lacks in
+        record {
+          header = so.header;
+          nodes = first_more header.nodes header.nodes (IsNode header.nodes) parts.nodes more nodes so.nodes e all few;
+          links = so.links;
+          rows = rw bare.rows (record { few = omega arith; each = tt });
+          nodes_first = λ fewer. record { links = bare.links; rows = bare.rows; kin = none fewer };
+          links_first = λ fewer. bare.rows;
+          known = known;
+        }
+
+    few_nodes : header.nodes ≤ 65535
+    few_nodes = omega (arith, so.header.few_nodes, few_most_nodes header.version)
+
+    -- not all nodes are there
+    pub nodes_stop : kin ≡ None → (before : Rest) (e : CertError) → before.at ≡ length (text_of parts)
+        → ReadsList (node_form header.nodes) node_text (IsNode header.nodes) header.nodes parts.nodes nodes before (Err e) → Takes parts before (with_nodes parts nodes kin) (Err e)
+    nodes_stop none before (errors.Fault at kind) place (left, it, fewer, fault) =
+        let so_far = nodes_under it.more it.adds it.each (omega (arith, fewer)) (λ few. none) (λ all. absurd (omega (arith, all, fewer))) in
+        let bare = so.nodes_first lacks in
+        let new = with_nodes parts nodes kin in
+        list_stops (node_form header.nodes) node_text (IsNode header.nodes) 11 (node_part header.nodes few_nodes) header.nodes parts.nodes nodes parts new nodes_grow
+        (λ more. after_nodes header.version header.links (nodes ++ more)) (are_under new header is so_far) (nodes_left new header is so_far bare.links bare.rows) before left at kind place it fewer fault
+    nodes_stop none before errors.NoMemory place same = tt
+
+    -- all nodes are there
+    pub nodes_done : (before after : Rest) → TookMore node_text (IsNode header.nodes) parts.nodes nodes before after → length nodes ≡ header.nodes → AreKnown header.version nodes kin
+        → Takes parts before (with_nodes parts nodes kin) (Ok after)
+    nodes_done before after it all known = (
+      list_took (node_form header.nodes) node_text (IsNode header.nodes) 11 (node_part header.nodes few_nodes) header.nodes parts.nodes nodes parts (with_nodes parts nodes kin) nodes_grow before after it,
+      are_under (with_nodes parts nodes kin) header is (nodes_under it.more it.adds it.each (omega (arith, all)) (λ few. absurd (omega (arith, all, few))) (λ every. known)),
+    )
+
+    -- a head is at fault
+    pub heads_stop : (before after : Rest) (e : CertError) → TookMore node_text (IsNode header.nodes) parts.nodes nodes before after → length nodes ≡ header.nodes
+        → Knows header.version nodes kin (Err e) → Takes parts before (with_nodes parts nodes kin) (Err e)
+    heads_stop before after (errors.Fault at kind) it all knows =
+        let bare = so.nodes_first lacks in
+        let new = with_nodes parts nodes kin in
+        let head = knows.0 in
+        let first : AreFirst header.nodes (IsNode header.nodes) nodes = first_more header.nodes header.nodes (IsNode header.nodes) parts.nodes it.more nodes so.nodes it.adds it.each (omega (arith, all)) in
+        let none : flat_map link_text parts.links ++ flat_map row_text parts.rows ≡ [] = rw (bare.links, bare.rows) refl in
+        let text : text_of new ++ after.bytes ≡ header_text header.version header.nodes header.links header.root ++ (flat_map node_text nodes ++ after.bytes) =
+        ap (λ (it : List ℕ). (text_of_header parts.header ++ (flat_map node_text nodes ++ it)) ++ after.bytes) none
+        ∙ ap (λ (it : List ℕ). (text_of_header parts.header ++ it) ++ after.bytes) (append-nil (flat_map node_text nodes))
+        ∙ ap (λ (it : Option Header). (text_of_header it ++ flat_map node_text nodes) ++ after.bytes) is
+        ∙ append_assoc (header_text header.version header.nodes header.links header.root) (flat_map node_text nodes) after.bytes in
+        record {
+          left = after;
+          took = list_took (node_form header.nodes) node_text (IsNode header.nodes) 11 (node_part header.nodes few_nodes) header.nodes parts.nodes nodes parts new nodes_grow before after it;
+          first = rw (knows.2, knows.3) (ap first_fault text ∙ all_nodes_pass header.version header.nodes header.links header.root nodes after.bytes so.header first all
+              ∙ head_fails header.version header.links (14 + 11 * length nodes) head nodes after.bytes knows.1);
+          cut = λ cut. absurd (both_ways (is_cut Heads) refl (ap is_cut (sym knows.3) ∙ cut));
+        }
+    heads_stop before after errors.NoMemory it all knows = tt
+
+  -- ---- links
+
+  module _ (nodes : length parts.nodes ≡ header.nodes) where
+    module _ (links : List CertLink) (lacks : length parts.links < header.links) where
+      links_grow : (more : List CertLink) → links ≡ parts.links ++ more → text_of (with_links parts links) ≡ text_of parts ++ flat_map link_text more
+      links_grow more e =
+          let h = text_of_header parts.header in
+          let n = flat_map node_text parts.nodes in
+          let l = flat_map link_text parts.links in
+          rw (so.links_first lacks, e) (ap (λ (it : List ℕ). h ++ (n ++ it)) (append-nil (flat_map link_text (parts.links ++ more)) ∙ flat_map-append link_text parts.links more)
+          ∙ sym (append_assoc h (n ++ (l ++ [])) (flat_map link_text more) ∙ ap (λ (it : List ℕ). h ++ it) (append_assoc n (l ++ []) (flat_map link_text more)
+          ∙ ap (λ (it : List ℕ). n ++ (it ++ flat_map link_text more)) (append-nil l))))
+
+      links_under : (more : List CertLink) → links ≡ parts.links ++ more → AllByRecursion (IsCertLink header.nodes) more → length links ≤ header.links → AreUnder header (with_links parts links)
+      links_under more e all few = record {
+        header = so.header;
+        nodes = so.nodes;
+        links = first_more header.links header.links (IsCertLink header.nodes) parts.links more links so.links e all few;
+        rows = so.rows;
+        nodes_first = λ fewer. absurd (omega (arith, fewer, nodes));
+        links_first = λ fewer. so.links_first lacks;
+        known = so.known;
+      }
+
+      pub links_taken : (before : Rest) (result : Result Rest CertError) → before.at ≡ length (text_of parts)
+          → ReadsList (link_form header.nodes) link_text (IsCertLink header.nodes) header.links parts.links links before result → Takes parts before (with_links parts links) result
+      links_taken before (Ok after) place (it, all) = (
+        list_took (link_form header.nodes) link_text (IsCertLink header.nodes) 7 (link_part header.nodes (omega (arith, so.header.few_nodes, few_most_nodes header.version))) header.links parts.links links parts (with_links parts links) links_grow before after it,
+        are_under (with_links parts links) header is (links_under it.more it.adds it.each (omega (arith, all))),
+      )
+      links_taken before (Err (errors.Fault at kind)) place (left, it, fewer, fault) =
+          let new = with_links parts links in
+          let so_far = links_under it.more it.adds it.each (omega (arith, fewer)) in
+          list_stops (link_form header.nodes) link_text (IsCertLink header.nodes) 7 (link_part header.nodes (omega (arith, so.header.few_nodes, few_most_nodes header.version))) header.links parts.links links parts new links_grow
+          (λ all. after_links header.version header.links parts.nodes) (are_under new header is so_far) (links_left new header is so_far nodes (so.links_first lacks)) before left at kind place it fewer fault
+      links_taken before (Err errors.NoMemory) place same = tt
+
+    -- ---- rows
+
+    module _ (links : length parts.links ≡ header.links) where
+      module _ (rows : List Row) where
+        rows_grow : (more : List Row) → rows ≡ parts.rows ++ more → text_of (with_rows parts rows) ≡ text_of parts ++ flat_map row_text more
+        rows_grow more e =
+            let h = text_of_header parts.header in
+            let n = flat_map node_text parts.nodes in
+            let l = flat_map link_text parts.links in
+            let r = flat_map row_text parts.rows in
+            rw e (ap (λ (it : List ℕ). h ++ (n ++ (l ++ it))) (flat_map-append row_text parts.rows more)
+            ∙ sym (append_assoc h (n ++ (l ++ r)) (flat_map row_text more) ∙ ap (λ (it : List ℕ). h ++ it) (append_assoc n (l ++ r) (flat_map row_text more)
+            ∙ ap (λ (it : List ℕ). n ++ it) (append_assoc l r (flat_map row_text more)))))
+
+        rows_under : (more : List Row) → rows ≡ parts.rows ++ more → AllByRecursion (IsFileRow (tag_count header.version) header.links) more → length rows ≤ row_count header.version parts.nodes
+            → AreUnder header (with_rows parts rows)
+        rows_under more e all few = record {
+          header = so.header;
+          nodes = so.nodes;
+          links = so.links;
+          rows = first_more (row_count header.version parts.nodes) (row_count header.version parts.nodes) (IsFileRow (tag_count header.version) header.links) parts.rows more rows so.rows e all few;
+          nodes_first = λ fewer. absurd (omega (arith, fewer, nodes));
+          links_first = λ fewer. absurd (omega (arith, fewer, links));
+          known = so.known;
+        }
+
+        pub rows_taken : (before : Rest) (result : Result Rest CertError) → before.at ≡ length (text_of parts)
+            → ReadsList (row_form (tag_count header.version) header.links) row_text (IsFileRow (tag_count header.version) header.links) (row_count header.version parts.nodes) parts.rows rows before result
+            → Takes parts before (with_rows parts rows) result
+        rows_taken before (Ok after) place (it, all) = (
+          list_took (row_form (tag_count header.version) header.links) row_text (IsFileRow (tag_count header.version) header.links) 5 (row_part (tag_count header.version) header.links few_links) (row_count header.version parts.nodes) parts.rows rows parts (with_rows parts rows) rows_grow before after it,
+          are_under (with_rows parts rows) header is (rows_under it.more it.adds it.each (omega (arith, all))),
+        )
+        rows_taken before (Err (errors.Fault at kind)) place (left, it, fewer, fault) =
+            let new = with_rows parts rows in
+            let so_far = rows_under it.more it.adds it.each (omega (arith, fewer)) in
+            list_stops (row_form (tag_count header.version) header.links) row_text (IsFileRow (tag_count header.version) header.links) 5 (row_part (tag_count header.version) header.links few_links) (row_count header.version parts.nodes) parts.rows rows parts new rows_grow
+            (λ every. End) (are_under new header is so_far) (rows_left new header is so_far nodes links) before left at kind place it fewer fault
+        rows_taken before (Err errors.NoMemory) place same = tt
+
+-- ---- the end
+
+at_end : (header : Header) (parts : Parts) → AreWhole header parts → (bytes : List ℕ) → first_fault (text_of parts ++ bytes) ≡ fault_in End (length (text_of parts)) bytes
+at_end header parts whole bytes =
+    rows_left parts header whole.header whole.under whole.nodes whole.links bytes
+    ∙ none_left (row_form (tag_count header.version) header.links) (λ every. End) (row_count header.version parts.nodes - length parts.rows) (length (text_of parts)) bytes (omega (arith, whole.rows))
+
+-- nothing follows
+pub whole_read : (header : Header) (parts : Parts) → AreWhole header parts → (rest : Rest) → rest.bytes ≡ [] → ReadsOn parts rest parts (Ok tt)
+whole_read header parts whole rest none = ((header, whole), sym (ap (λ (it : List ℕ). text_of parts ++ it) none ∙ append-nil (text_of parts)))
+
+-- something does
+pub end_stops : (header : Header) (parts : Parts) → AreWhole header parts → (rest : Rest) (fault : CertFault) → rest.at ≡ length (text_of parts) → Ends rest (Err fault)
+    → Takes parts rest parts (Err (errors.Fault fault.at fault.kind))
+end_stops header parts whole rest fault place (some, at, kind) = record {
+  left = rest;
+  took = took_none parts rest;
+  first = rw (at, kind, place) (at_end header parts whole rest.bytes ∙ trailing (length (text_of parts)) rest.bytes some);
+  cut = λ cut. absurd (both_ways (is_cut Trailing) refl (ap is_cut (sym kind) ∙ cut));
 }
-
-pub rows_taken : (parts : Parts) (header : Header) (rows : List Row) (count : ℕ) (before after : Rest) → parts.header ≡ Some header → AreParts parts
-    → length parts.nodes ≡ header.nodes → length parts.links ≡ header.links → length parts.rows < parts.row_count → length parts.rows + count ≤ parts.row_count → 1 ≤ count
-    → before.at ≡ length (text_of parts) → Took (flat_map row_text rows) before after → IsListOf count (IsFileRow (tag_count header.version) header.links) rows → TookParts parts before (with_rows parts rows) after
-rows_taken parts header rows count before after is are nodes links lacks within some place took_it so =
-    let size = length_texts row_text 5 rows (λ x. refl) in
-    took parts (with_rows parts rows) (flat_map row_text rows) before after
-    (back (with_rows parts rows) header is (rows_under parts header rows (under parts header is are) nodes links (omega (arith, within, so.many)) so.each))
-    (record { nodes = begins_all parts.nodes; links = begins_all parts.links; rows = (rows, refl); down = begins_all parts.down })
-    (rows_text_more parts rows) took_it place (rw (row_size parts header is nodes links lacks) (omega (arith, size, so.many, some))) (omega (arith, size, so.many, some))
-
--- a fault of the rows that are whole
-pub rows_refused : (parts : Parts) (header : Header) (count : ℕ) (before : Rest) (fault : CertFault) → parts.header ≡ Some header → AreParts parts
-    → length parts.nodes ≡ header.nodes → length parts.links ≡ header.links → length parts.rows + count ≤ parts.row_count → 5 * count ≤ length before.bytes
-    → before.at ≡ length (text_of parts) → ((next : Form) → Names fault (fault_in (repeated count (row_form (tag_count header.version) header.links) next) before.at before.bytes))
-    → certain_fault (text_of parts ++ before.bytes) ≡ Some (fault.at, fault.kind)
-rows_refused parts header count before fault is are nodes links within whole place named =
-    let left = parts.row_count - length parts.rows in
-    let more = left - count in
-    let all : left ≡ count + more = omega (arith, within) in
-    let first : first_fault (text_of parts ++ before.bytes) ≡ Some (fault.at, fault.kind) =
-    rows_next parts header is are nodes links before.bytes
-    ∙ ap (λ (a : ℕ). fault_in (repeated left (row_form (tag_count header.version) header.links) End) a before.bytes) (sym place)
-    ∙ ap (λ (n : ℕ). fault_in (repeated n (row_form (tag_count header.version) header.links) End) before.at before.bytes) all
-    ∙ ap (λ (form : Form). fault_in form before.at before.bytes) (repeated_more count more (row_form (tag_count header.version) header.links) End)
-    ∙ named (repeated more (row_form (tag_count header.version) header.links) End) in
-    elim (cases_Bool (is_cut fault.kind)) [
-      | inl cut ↦ absurd (let few = cut_short (repeated count (row_form (tag_count header.version) header.links) End) (5 * count) before.at before.bytes fault.at fault.kind (rows_span (tag_count header.version) header.links count) (named End) cut in omega (arith, few, whole))
-      | inr certain ↦ certain_is (text_of parts ++ before.bytes) fault.at fault.kind first certain
-    ]
-
--- less than a row is left
-pub row_refused : (parts : Parts) (header : Header) (before : Rest) (answer : Result (Option Rest) CertError) → parts.header ≡ Some header → AreParts parts
-    → length parts.nodes ≡ header.nodes → length parts.links ≡ header.links → length parts.rows < parts.row_count → before.at ≡ length (text_of parts)
-    → CutIn (row_form (tag_count header.version) header.links) before answer → Takes parts before parts answer
-row_refused parts header before answer is are nodes links lacks place cut =
-    refused parts before cut.0 answer (row_named parts header before cut.0 is are nodes links lacks place cut.1)
-    (λ is_short. rw (row_size parts header is nodes links lacks) (cut_short (row_form (tag_count header.version) header.links End) 5 before.at before.bytes cut.0.at cut.0.kind (row_spans (tag_count header.version) header.links End 0 refl) (cut.1 End) is_short))
-    cut.2
-
-end_form : (parts : Parts) (header : Header) (before : Rest) → parts.header ≡ Some header → AreParts parts
-    → length parts.nodes ≡ header.nodes → length parts.links ≡ header.links → length parts.rows ≡ parts.row_count → before.at ≡ length (text_of parts)
-    → first_fault (text_of parts ++ before.bytes) ≡ fault_in End before.at before.bytes
-end_form parts header before is are nodes links rows place =
-    let none : parts.row_count - length parts.rows ≡ 0 = omega (arith, rows) in
-    rows_next parts header is are nodes links before.bytes
-    ∙ ap (λ (a : ℕ). fault_in (repeated (parts.row_count - length parts.rows) (row_form (tag_count header.version) header.links) End) a before.bytes) (sym place)
-    ∙ ap (λ (n : ℕ). fault_in (repeated n (row_form (tag_count header.version) header.links) End) before.at before.bytes) none
-
--- a byte after the last row
-pub ended : (parts : Parts) (header : Header) (before : Rest) (answer : Result (Option Rest) CertError) → parts.header ≡ Some header → AreParts parts
-    → length parts.nodes ≡ header.nodes → length parts.links ≡ header.links → length parts.rows ≡ parts.row_count → before.at ≡ length (text_of parts)
-    → Ends before answer → Takes parts before parts answer
-ended parts header before (Ok (Some after)) is are nodes links rows place ends = absurd ends
-ended parts header before (Ok None) is are nodes links rows place ends =
-    (refl, record { faultless = none_is (text_of parts ++ before.bytes) (end_form parts header before is are nodes links rows place ∙ ap (fault_in End before.at) ends ∙ nothing_left before.at); short = inl ends })
-ended parts header before (Err (errors.Fault at kind)) is are nodes links rows place ends =
-    rw (ends.0, ends.1) (certain_is (text_of parts ++ before.bytes) before.at Trailing (end_form parts header before is are nodes links rows place ∙ trailing before.at before.bytes ends.2) refl)
-ended parts header before (Err errors.NoMemory) is are nodes links rows place ends = absurd ends

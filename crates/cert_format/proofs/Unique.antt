@@ -1,32 +1,28 @@
 -- No two files have one spelling.
-use Rattle.std.proofs.Common.{◌≡◌, inl, inr, ℕ, zero, suc, ◌-◌, ◌*◌, ◌^◌, ◌<◌, ◌≤◌, List, [], ◌∷◌, ◌++◌, length, take, drop, refl, sym, ap, subst, ◌∙◌, append_assoc, arith}
+use Rattle.std.proofs.Common.{◌≡◌, inl, inr, ℕ, ◌-◌, ◌*◌, ◌^◌, ◌<◌, ◌≤◌, List, [], ◌∷◌, ◌++◌, length, take, drop, refl, sym, ap, subst, ◌∙◌, append_assoc, arith}
 use Rattle.std.specs.Int.{Width, w8, w16, w32, byte_len, from_be_bytes, to_be_bytes}
 use Rattle.std.specs.List.{flat_map, AllByRecursion}
 use Rattle.std.specs.Prelude.{codes}
 use Rattle.std.proofs.lemmas.List.{take_at, drop_at, append-nil}
 use Rattle.mrt_graph.specs.Certificate.{IsCertLink, certificate_of}
 use Rattle.mrt_graph.specs.Foldable.{IsFoldable}
-use Rattle.mrt_graph.specs.declared.node_id.Kind.{Kind}
-use Rattle.mrt_graph.specs.declared.node_id.Kind.TheVariants as kinds
-use Rattle.mrt_graph.specs.declared.cert.Role.{Role}
-use Rattle.mrt_graph.specs.declared.cert.Role.TheVariants as roles
-use Rattle.mrt_graph.specs.declared.cert.Tag.{Tag}
-use Rattle.mrt_graph.specs.declared.cert.Tag.TheVariants as tags
 use Rattle.mrt_graph.specs.declared.cert.Row.{Row}
 use Rattle.mrt_graph.specs.declared.cert.CertNode.{CertNode}
 use Rattle.mrt_graph.specs.declared.cert.CertLink.{CertLink}
 use Rattle.mrt_graph.specs.declared.cert.CertFile.{CertFile}
 use Rattle.mrt_graph.specs.Tags.{tag_number}
 use Rattle.cert_format.specs.CertText.{kind_number, role_number, node_text, link_text, row_text, cert_text}
+use Rattle.cert_format.specs.Layout.{kind_named, role_named, tag_named}
 use Rattle.cert_format.specs.Limits.{IsCertFile, IsOfVersion}
 use Rattle.cert_format.specs.Reading.{IsNode}
 use Rattle.cert_format.specs.Versions.{row_count}
+use Rattle.cert_format.proofs.Parts.{kind_again, role_again, tag_again}
 use Rattle.cert_format.proofs.Fields.{IsWide, wide8, wide16, wide32, kind_small, role_small, tag_small}
 use Rattle.cert_format.specs.Reading.{IsFileRow}
 use Rattle.cert_format.specs.Versions.{rows_in, tag_count}
 use Rattle.cert_format.proofs.FileRows.{all_stand, file_rows_count}
-use Rattle.cert_format.proofs.Files.{file_header, file_nodes, file_rows, small_version}
-use Rattle.cert_format.proofs.OneUnfolding.{one_unfolding}
+use Rattle.cert_format.proofs.Files.{file_header, file_nodes, file_rows}
+use Rattle.mrt_graph.proofs.OneUnfolding.{one_unfolding}
 
 -- two lists that begin with pieces of one length are one piece by piece
 pub pieces : (n : ℕ) (a : List ℕ) (b : List ℕ) (r : List ℕ) (s : List ℕ) → length a ≡ n → length b ≡ n → a ++ r ≡ b ++ s → (a ≡ b) × (r ≡ s)
@@ -38,73 +34,14 @@ numbers w x y r s wide lx ly e =
     let p = pieces (byte_len w) (to_be_bytes w x) (to_be_bytes w y) r s (wide.len x) (wide.len y) e in
     (sym (wide.again x lx) ∙ ap (from_be_bytes w) p.0 ∙ wide.again y ly, p.1)
 
-kind_back : ℕ → Kind
-kind_back zero = kinds.Router
-kind_back (suc zero) = kinds.Router
-kind_back (suc (suc n)) = kinds.Network
-
-role_back : ℕ → Role
-role_back zero = roles.Plain
-role_back (suc zero) = roles.Sole
-role_back (suc (suc n)) = roles.Closing
-
-tag_back : ℕ → Tag
-tag_back zero = tags.Sole
-tag_back (suc zero) = tags.Head
-tag_back (suc (suc zero)) = tags.Top
-tag_back (suc (suc (suc zero))) = tags.Below
-tag_back (suc (suc (suc (suc zero)))) = tags.Above
-tag_back (suc (suc (suc (suc (suc zero))))) = tags.Unordered
-tag_back (suc (suc (suc (suc (suc (suc n)))))) = tags.Carried
-
-kind_again : (kind : Kind) → kind_back (kind_number kind) ≡ kind
-unfolding kind_back
-kind_again kinds.Router = refl
-kind_again kinds.Network = refl
-
-role_again : (role : Role) → role_back (role_number role) ≡ role
-unfolding role_back
-role_again roles.Plain = refl
-role_again roles.Sole = refl
-role_again roles.Closing = refl
-
-tag_again : (tag : Tag) → tag_back (tag_number tag) ≡ tag
-unfolding tag_back
-tag_again tags.Sole = refl
-tag_again tags.Head = refl
-tag_again tags.Top = refl
-tag_again tags.Below = refl
-tag_again tags.Above = refl
-tag_again tags.Unordered = refl
-tag_again tags.Carried = refl
-
-node_of : Kind → ℕ → ℕ → ℕ → ℕ → CertNode
-node_of kind number order head block = record { id = record { kind = kind; number = number }; order = order; head = head; block = block }
-
 node_is : (x y : CertNode) → x.id.kind ≡ y.id.kind → x.id.number ≡ y.id.number → x.order ≡ y.order → x.head ≡ y.head → x.block ≡ y.block → x ≡ y
-unfolding node_of
-node_is x y k i o h b =
-    ap (λ (v : Kind). node_of v x.id.number x.order x.head x.block) k
-    ∙ ap (λ (v : ℕ). node_of y.id.kind v x.order x.head x.block) i
-    ∙ ap (λ (v : ℕ). node_of y.id.kind y.id.number v x.head x.block) o
-    ∙ ap (λ (v : ℕ). node_of y.id.kind y.id.number y.order v x.block) h
-    ∙ ap (λ (v : ℕ). node_of y.id.kind y.id.number y.order y.head v) b
-
-link_of : ℕ → ℕ → ℕ → Role → CertLink
-link_of a b block role = record { a = a; b = b; block = block; role = role }
+node_is x y kind number order head block = λ i. record { id = record { kind = kind i; number = number i }; order = order i; head = head i; block = block i }
 
 link_is : (x y : CertLink) → x.a ≡ y.a → x.b ≡ y.b → x.block ≡ y.block → x.role ≡ y.role → x ≡ y
-unfolding link_of
-link_is x y a b k r =
-    ap (λ (v : ℕ). link_of v x.b x.block x.role) a
-    ∙ ap (λ (v : ℕ). link_of y.a v x.block x.role) b
-    ∙ ap (λ (v : ℕ). link_of y.a y.b v x.role) k
-    ∙ ap (λ (v : Role). link_of y.a y.b y.block v) r
+link_is x y a b block role = λ i. record { a = a i; b = b i; block = block i; role = role i }
 
 row_is : (x y : Row) → x.blue ≡ y.blue → x.red ≡ y.red → x.tag ≡ y.tag → x ≡ y
-row_is x y b r t =
-    let made : ℕ → ℕ → Tag → Row = λ blue red tag. record { blue = blue; red = red; tag = tag } in
-    ap (λ (v : ℕ). made v x.red x.tag) b ∙ ap (λ (v : ℕ). made y.blue v x.tag) r ∙ ap (λ (v : Tag). made y.blue y.red v) t
+row_is x y blue red tag = λ i. record { blue = blue i; red = red i; tag = tag i }
 
 nodes_one : (n : ℕ) → n ≤ 65535 → (x y : CertNode) → IsNode n x → IsNode n y → node_text x ≡ node_text y → x ≡ y
 nodes_one n few x y kx ky e =
@@ -113,7 +50,7 @@ nodes_one n few x y kx ky e =
     let o = numbers w16 x.order y.order _ _ wide16 (omega arith) (omega arith) i.1 in
     let h = numbers w16 x.head y.head _ _ wide16 (omega arith) (omega arith) o.1 in
     let b = numbers w16 x.block y.block [] [] wide16 (omega arith) (omega arith) h.1 in
-    node_is x y (sym (kind_again x.id.kind) ∙ ap kind_back k.0 ∙ kind_again y.id.kind) i.0 o.0 h.0 b.0
+    node_is x y (sym (kind_again x.id.kind) ∙ ap kind_named k.0 ∙ kind_again y.id.kind) i.0 o.0 h.0 b.0
 
 links_one : (n : ℕ) → n ≤ 65535 → (x y : CertLink) → IsCertLink n x → IsCertLink n y → link_text x ≡ link_text y → x ≡ y
 links_one n few x y kx ky e =
@@ -121,14 +58,14 @@ links_one n few x y kx ky e =
     let b = numbers w16 x.b y.b _ _ wide16 (omega arith) (omega arith) a.1 in
     let k = numbers w16 x.block y.block _ _ wide16 (omega arith) (omega arith) b.1 in
     let r = numbers w8 (role_number x.role) (role_number y.role) [] [] wide8 (role_small x.role) (role_small y.role) k.1 in
-    link_is x y a.0 b.0 k.0 (sym (role_again x.role) ∙ ap role_back r.0 ∙ role_again y.role)
+    link_is x y a.0 b.0 k.0 (sym (role_again x.role) ∙ ap role_named r.0 ∙ role_again y.role)
 
 rows_one : (tags m : ℕ) → m ≤ 65535 → (x y : Row) → IsFileRow tags m x → IsFileRow tags m y → row_text x ≡ row_text y → x ≡ y
 rows_one tags m few x y kx ky e =
     let b = numbers w16 x.blue y.blue _ _ wide16 (omega (arith, kx.kept.blue)) (omega (arith, ky.kept.blue)) e in
     let r = numbers w16 x.red y.red _ _ wide16 (omega (arith, kx.kept.red)) (omega (arith, ky.kept.red)) b.1 in
     let t = numbers w8 (tag_number x.tag) (tag_number y.tag) [] [] wide8 (tag_small x.tag) (tag_small y.tag) r.1 in
-    row_is x y b.0 r.0 (sym (tag_again x.tag) ∙ ap tag_back t.0 ∙ tag_again y.tag)
+    row_is x y b.0 r.0 (sym (tag_again x.tag) ∙ ap tag_named t.0 ∙ tag_again y.tag)
 
 lists_one : {A : Type 0} (text : A → List ℕ) (Keeps : A → Type 0) (size : ℕ) → ((x : A) → length (text x) ≡ size) → ((x y : A) → Keeps x → Keeps y → text x ≡ text y → x ≡ y)
     → (xs ys : List A) (r s : List ℕ) → length xs ≡ length ys → AllByRecursion Keeps xs → AllByRecursion Keeps ys → flat_map text xs ++ r ≡ flat_map text ys ++ s → (xs ≡ ys) × (r ≡ s)
@@ -145,13 +82,7 @@ lists_one text Keeps size sized one (x ∷ xs) (y ∷ ys) r s same kx ky e =
     (cc, others.1)
 
 file_is : (f g : CertFile) → f.version ≡ g.version → f.root ≡ g.root → f.cert.nodes ≡ g.cert.nodes → f.cert.links ≡ g.cert.links → f.cert.rows ≡ g.cert.rows → f ≡ g
-file_is f g v r n l w =
-    let made : ℕ → ℕ → List CertNode → List CertLink → List Row → CertFile = λ version root nodes links rows. record { version = version; root = root; cert = certificate_of nodes links rows } in
-    ap (λ (it : ℕ). made it f.root f.cert.nodes f.cert.links f.cert.rows) v
-    ∙ ap (λ (it : ℕ). made g.version it f.cert.nodes f.cert.links f.cert.rows) r
-    ∙ ap (λ (it : List CertNode). made g.version g.root it f.cert.links f.cert.rows) n
-    ∙ ap (λ (it : List CertLink). made g.version g.root g.cert.nodes it f.cert.rows) l
-    ∙ ap (λ (it : List Row). made g.version g.root g.cert.nodes g.cert.links it) w
+file_is f g version root nodes links rows = λ i. record { version = version i; root = root i; cert = record { nodes = nodes i; links = links i; rows = rows i } }
 
 one_or_two : ◌≡◌ {A = ℕ} 1 2 → ⊥
 one_or_two e = omega (arith, e)
@@ -180,7 +111,7 @@ one_file f g kf kg e =
     let hf = file_header f kf in
     let hg = file_header g kg in
     let magic = pieces 4 (codes "MRTC") (codes "MRTC") _ _ refl refl e in
-    let v = numbers w16 f.version g.version _ _ wide16 (small_version f.version hf.known) (small_version g.version hg.known) magic.1 in
+    let v = numbers w16 f.version g.version _ _ wide16 (omega (arith, hf.to_two)) (omega (arith, hg.to_two)) magic.1 in
     let n = numbers w16 (length f.cert.nodes) (length g.cert.nodes) _ _ wide16 (omega (arith, kf.certificate.few_nodes)) (omega (arith, kg.certificate.few_nodes)) v.1 in
     let m = numbers w16 (length f.cert.links) (length g.cert.links) _ _ wide16 (omega (arith, kf.certificate.few_links)) (omega (arith, kg.certificate.few_links)) n.1 in
     let r = numbers w32 f.root g.root _ _ wide32 kf.root kg.root m.1 in

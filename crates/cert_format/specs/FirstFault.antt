@@ -3,7 +3,7 @@ use Rattle.std.specs.Prelude.{ℕ, ◌+◌, nat_lt, List, [], ◌∷◌, length,
 use Rattle.std.specs.Int.{byte_len, from_be_bytes}
 use Rattle.cert_format.specs.declared.error.CertKind.{CertKind}
 use Rattle.cert_format.specs.declared.error.CertKind.TheVariants.{Truncated, Trailing}
-use Rattle.cert_format.specs.Layout.{Field, Form, End, Then, Fails, cert_form}
+use Rattle.cert_format.specs.Layout.{Field, Form, allows, End, Then, Fails, cert_form}
 
 -- the field's number, which the bytes begin with
 abbrev pub number_of : Field → List ℕ → ℕ
@@ -16,7 +16,7 @@ fault_in End at [] = None
 fault_in End at (byte ∷ bytes) = Some (at, Trailing)
 fault_in (Then field next) at bytes =
     if nat_lt (length bytes) (byte_len field.width) then Some (at, Truncated)
-    else (if field.allows (number_of field bytes)
+    else (if allows field (number_of field bytes)
     then fault_in (next (number_of field bytes)) (at + byte_len field.width) (drop (byte_len field.width) bytes)
     else Some (at, field.fault))
 fault_in (Fails place fault) at bytes = Some (place, fault)

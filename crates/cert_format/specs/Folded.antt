@@ -1,10 +1,10 @@
--- What a file of version 2 leaves out, and which node's head is at fault.
-use Rattle.std.specs.Prelude.{◌==◌, ℕ, zero, suc, Bool, List, Option, Some, None, not, filter, length, map, if◌then◌else◌}
-use Rattle.std.specs.List.{flat_map, range_with_len}
+-- Which node's head is at fault.
+use Rattle.std.specs.Prelude.{◌≡◌, ◌<◌, ℕ, zero, suc, Bool, List, [], Option, Some, None, not, length, if◌then◌else◌}
+use Rattle.std.specs.List.{slice_index_or}
 use Rattle.std.specs.Option.{option_map_or, option_or}
-use Rattle.mrt_graph.specs.Certificate.{Certificate}
-use Rattle.mrt_graph.specs.Foldable.{comes_to, is_own_head}
-use Rattle.mrt_graph.specs.Related.{are_unrelated}
+use Rattle.mrt_graph.specs.Certificate.{Certificate, certificate_of}
+use Rattle.mrt_graph.specs.Foldable.{comes_to, in_chain, is_own_head}
+use Rattle.mrt_graph.specs.declared.cert.CertNode.{CertNode}
 
 -- the least number below n that passes a test
 abbrev pub least : (ℕ → Bool) → ℕ → Option ℕ
@@ -17,11 +17,7 @@ abbrev pub head_fault : Certificate → Option ℕ
 head_fault c =
     option_map_or (λ r. least (λ a. not (comes_to c r a)) (length c.nodes)) (least (is_own_head c) (length c.nodes)) (Some 0)
 
--- of each node but s whether s is related to it, by ascending number
-abbrev pub related_to : Certificate → ℕ → List Bool
-related_to c s =
-    map (λ t. not (are_unrelated c s t)) (filter (λ t. not (t == s)) (range_with_len 0 (length c.nodes)))
-
--- of each node and each other one whether they are related, by ascending source, then by ascending destination
-abbrev pub related_pairs : Certificate → List Bool
-related_pairs c = flat_map (related_to c) (range_with_len 0 (length c.nodes))
+-- of each node the one to which its chain of heads comes after so many steps
+pub record AreEnds (nodes : List CertNode) (steps : ℕ) (ends : List ℕ) : Type 0 where
+  pub many : length ends ≡ length nodes
+  pub each : (v : ℕ) → v < length nodes → in_chain (certificate_of nodes [] []) steps v ≡ Some (slice_index_or ends v 0)

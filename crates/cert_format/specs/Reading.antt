@@ -1,5 +1,5 @@
 -- What the steps of reading answer.
-use Rattle.std.specs.Prelude.{◌≡◌, ℕ, ◌+◌, ◌<◌, ◌≤◌, ◌^◌, true, List, ◌++◌, length, Option, Some, Result, Ok, Err}
+use Rattle.std.specs.Prelude.{◌≡◌, ◌≢◌, ℕ, ◌+◌, ◌<◌, ◌≤◌, ◌^◌, List, [], ◌++◌, length, Option, Some, Result, Ok, Err}
 use Rattle.std.specs.Int.{Width, byte_len, to_be_bytes}
 use Rattle.std.specs.List.{AllByRecursion, flat_map}
 use Rattle.mrt_graph.specs.Certificate.{IsCertNode, IsCertRow}
@@ -7,10 +7,12 @@ use Rattle.mrt_graph.specs.Tags.{tag_number}
 use Rattle.mrt_graph.specs.declared.cert.Row.{Row}
 use Rattle.mrt_graph.specs.declared.cert.CertNode.{CertNode}
 use Rattle.cert_format.specs.Limits.{HasNumber}
-use Rattle.cert_format.specs.Versions.{is_version, most_links, most_nodes}
+use Rattle.cert_format.specs.Versions.{most_links, most_nodes}
 use Rattle.cert_format.specs.declared.error.CertKind.{CertKind}
-use Rattle.cert_format.specs.declared.error.CertKind.TheVariants.{Truncated}
+use Rattle.cert_format.specs.declared.error.CertKind.TheVariants.{Trailing, Truncated}
 use Rattle.cert_format.specs.declared.error.CertFault.{CertFault}
+use Rattle.cert_format.specs.declared.error.CertError.{CertError}
+use Rattle.cert_format.specs.declared.error.CertError.TheVariants as errors
 use Rattle.cert_format.specs.declared.header.Header.{Header}
 use Rattle.cert_format.specs.CertText.{header_text}
 use Rattle.cert_format.specs.Layout.{Field, Form, Then, header_form}
@@ -43,18 +45,19 @@ ReadsNumber width before (Err e) = Names e (Some (before.at, Truncated)) × (len
 pub record TookField (field : Field) (number : ℕ) (before after : Rest) : Type 0 where
   pub took : Took (to_be_bytes field.width number) before after
   pub fits : number < 256 ^ byte_len field.width
-  pub allowed : field.allows number ≡ true
+  pub least : field.least ≤ number
+  pub below : number < field.bound
   pub goes_on : (next : ℕ → Form) → fault_in (Then field next) before.at before.bytes ≡ fault_in (next number) after.at after.bytes
 
 -- a number that the field allows, or the field's fault
-abbrev pub ReadsField : {A : Type 0} → Field → (A → ℕ) → Rest → Result (A × Rest) CertFault → Type 0
-ReadsField field number before (Ok x) = TookField field (number x.0) before x.1
-ReadsField field number before (Err e) = (next : ℕ → Form) → Names e (fault_in (Then field next) before.at before.bytes)
+abbrev pub ReadsField : Field → Rest → Result (ℕ × Rest) CertFault → Type 0
+ReadsField field before (Ok x) = TookField field x.0 before x.1
+ReadsField field before (Err e) = (next : ℕ → Form) → Names e (fault_in (Then field next) before.at before.bytes)
 
 -- a part that is spelled so and keeps this; or the first fault in it
-abbrev pub ReadsPart : {A N : Type 0} → (N → Form) → (A → List ℕ) → (A → Type 0) → Rest → Result (A × Rest) CertFault → Type 0
+abbrev pub ReadsPart : {A : Type 0} → ((A → Form) → Form) → (A → List ℕ) → (A → Type 0) → Rest → Result (A × Rest) CertFault → Type 0
 ReadsPart part text Keeps before (Ok x) = Took (text x.0) before x.1 × Keeps x.0
-ReadsPart {N = N} part text Keeps before (Err e) = (next : N) → Names e (fault_in (part next) before.at before.bytes)
+ReadsPart {A} part text Keeps before (Err e) = (next : A → Form) → Names e (fault_in (part next) before.at before.bytes)
 
 -- what each node keeps
 pub record IsNode (nodes : ℕ) (node : CertNode) : Type 0 where
@@ -73,7 +76,8 @@ pub record IsListOf {A : Type 0} (count : ℕ) (Keeps : A → Type 0) (xs : List
 
 -- what a header says is within the limits of its version
 pub record IsHeader (version nodes links root : ℕ) : Type 0 where
-  pub known : is_version version ≡ true
+  pub from_one : 1 ≤ version
+  pub to_two : version ≤ 2
   pub some_node : 1 ≤ nodes
   pub few_nodes : nodes ≤ most_nodes version
   pub few_links : links ≤ most_links version
@@ -90,7 +94,22 @@ abbrev pub ReadsHeader : Rest → Result (Header × Rest) CertFault → Type 0
 ReadsHeader before (Ok x) = TookHeader x.0.version x.0.nodes x.0.links x.0.root before x.1
 ReadsHeader before (Err e) = (next : ℕ → ℕ → ℕ → Form) → Names e (fault_in (header_form next) before.at before.bytes)
 
--- so many more were read, each of which is spelled so and keeps this
-abbrev pub TookMore : {A : Type 0} → (A → List ℕ) → (A → Type 0) → ℕ → List A → List A → Rest → Rest → Type 0
-TookMore {A} text Keeps count old new before after =
-    (more : List A) × (new ≡ old ++ more) × Took (flat_map text more) before after × IsListOf count Keeps more
+-- some more were read, each of which is spelled so and keeps this
+pub record TookMore {A : Type 0} (text : A → List ℕ) (Keeps : A → Type 0) (old new : List A) (before after : Rest) : Type 0 where
+  pub more : List A
+  pub adds : new ≡ old ++ more
+  pub took : Took (flat_map text more) before after
+  pub each : AllByRecursion Keeps more
+
+-- parts are read until there are so many; or until the first fault, or none where there is no memory
+abbrev pub ReadsList : {A : Type 0} → ((A → Form) → Form) → (A → List ℕ) → (A → Type 0) → ℕ → List A → List A → Rest → Result Rest CertError → Type 0
+ReadsList part text Keeps count old new before (Ok after) = TookMore text Keeps old new before after × (length new ≡ count)
+ReadsList {A} part text Keeps count old new before (Err (errors.Fault at kind)) =
+    (left : Rest) × TookMore text Keeps old new before left × (length new < count)
+    × ((next : A → Form) → fault_in (part next) left.at left.bytes ≡ Some (at, kind))
+ReadsList part text Keeps count old new before (Err errors.NoMemory) = new ≡ old
+
+-- nothing is left, or this is the fault
+abbrev pub Ends : Rest → Result Unit CertFault → Type 0
+Ends before (Ok _) = before.bytes ≡ []
+Ends before (Err fault) = (before.bytes ≢ []) × (fault.at ≡ before.at) × (fault.kind ≡ Trailing)

@@ -4,11 +4,8 @@ use Rattle.mrt_graph.specs.declared.cert.CertNode.{CertNode}
 use Rattle.mrt_graph.specs.declared.cert.Row.{Row}
 use Rattle.mrt_graph.specs.Certificate.{certificate_of}
 use Rattle.mrt_graph.specs.Tags.{is_near}
-use Rattle.cert_format.specs.Folded.{head_fault, related_pairs}
-
--- the two versions
-abbrev pub is_version : ℕ → Bool
-is_version number = (number == 1) || (number == 2)
+use Rattle.cert_format.specs.Folded.{head_fault}
+use Rattle.mrt_graph.specs.RelatedPairs.{related_pairs}
 
 -- how many nodes a file has at most
 abbrev pub most_nodes : ℕ → ℕ

@@ -1,18 +1,13 @@
 //! Certificate files read from a stream that comes in pieces.
 
-ghost use Rattle.std.specs.Prelude.{◌≡◌, ◌≤◌, ◌++◌, ℕ, Ok, Err, IsOk, IfOk, IfErr, OnOk, Some, length};
+ghost use Rattle.std.specs.Prelude.{◌≡◌, ℕ, Ok, Err, IsOk, IfOk, IfErr, OnOk, Some};
 ghost use Rattle.mrt_graph.specs.declared.cert.CertFile.{CertFile};
 ghost use Rattle.cert_format.specs.{declared.error.CertKind.CertKind, CertText.cert_text, Limits.IsCertFile, Stream.end_fault, Stream.fed};
-ghost use Rattle.cert_format.specs.{Held.held_of, Room.HasRoom, Room.KeepsRoom, Finishing.Finishes};
-ghost use Rattle.cert_format.specs.Parts.{AreParts, parts_of, text_of};
-ghost use Rattle.cert_format.specs.Taking.{IsTail, ReadsCut, ReadsOn, ReadsOrStays, fault_of_answer};
+ghost use Rattle.cert_format.specs.Steps.{Finishes};
 
 use crate::error::{CertError, CertFault};
-use crate::held::Held;
-use crate::kept::Kept;
-use crate::rest::Rest;
-use crate::unfold::unfold;
-use mrt_graph::{Cert, CertFile};
+use crate::state::State;
+use mrt_graph::CertFile;
 use std::alloc::Global;
 use std::marker::Model;
 
@@ -24,32 +19,27 @@ use std::marker::Model;
 /// The file is the one that [`read_cert`](crate::read_cert) reads from the whole stream, and the fault is the same,
 /// however the stream is cut.
 ///
-/// It keeps room for all nodes once the header is there, and for all links and rows once all nodes are: with other pieces no
-/// memory is taken. No clause says with which piece `NoMemory` can come.
+/// It takes room for all nodes, for all links and for all rows in the file, each where the first of them may follow, and for
+/// an index with the last node of version 2: with other pieces no memory is taken. No clause says with which piece
+/// `NoMemory` can come.
 pub struct CertReader {
-    kept: Kept,
-    held: Held,
-    fault: Option<CertFault>,
+    state: State,
 }
 
 impl Drop for CertReader {
     fn drop(self) {
-        let Self {
-            kept: _,
-            held: _,
-            fault: _,
-        } = self;
+        let Self { state: _ } = self;
     }
 }
 
 impl Model for CertReader {
-    ghost use Rattle.cert_format.specs.{Held.held_of, Parts.parts_of, Stream.Progress, Progress.IsReading, Progress.progress_of, Room.HasRoom};
+    ghost use Rattle.cert_format.specs.{Steps.IsReading, Steps.progress_of, Stream.Progress};
 
     ghost Value = { Progress };
 
-    ghost view = { λ r. progress_of r.fault (parts_of r.kept) (held_of r.held) };
+    ghost view = { λ r. progress_of r.state };
 
-    ghost invariant = { λ r. IsReading r.fault (parts_of r.kept) r.held × HasRoom r.kept };
+    ghost invariant = { λ r. IsReading r.state };
 }
 
 impl CertReader {
@@ -61,16 +51,14 @@ impl CertReader {
         ensures { result ≡ Ok [] }
     {
         CertReader {
-            kept: Kept::new(alloc),
-            held: Held::new(),
-            fault: None,
+            state: State::new(alloc),
         }
     }
 
     /// Takes the next piece of the stream.
     ///
     /// It takes time in proportion to the piece, and a constant; of version 2, besides, with the last node's last byte in
-    /// proportion to all pairs of nodes.
+    /// proportion to the nodes, some 13 times.
     ///
     /// # Errors
     ///
@@ -90,16 +78,13 @@ impl CertReader {
         // Want of memory changes nothing.
         ensures memory { result ≡ Err CertError.NoMemory → self.new ≡ self.old }
     {
-        if let Some(fault) = self.fault {
-            return Err(CertError::from(fault));
-        }
-        let answer = read_or_stay(&mut self.kept, &mut self.held, piece);
-        self.fault = fault_of(&answer);
-        answer
+        self.state.answer()?;
+        self.state.read_or_stay(piece)?;
+        self.state.answer()
     }
 
-    /// The certificate file that the stream spells, which ends here. It takes no memory, and of version 2 time in proportion
-    /// to all rows, as it fills in those that the file leaves out.
+    /// The certificate file that the stream spells, which ends here. It takes no memory, and no time in
+    /// proportion to the file: of version 2 the rows are held as they stand there.
     ///
     /// # Errors
     ///
@@ -121,107 +106,7 @@ impl CertReader {
     fn end(self) -> Result<CertFile, CertFault>
         ensures { Finishes self result }
     {
-        let Self { kept, held, fault } = self;
-        if let Some(fault) = fault {
-            return Err(fault);
-        }
-        file_of(kept, &held)
+        let Self { state } = self;
+        state.end()
     }
-}
-
-/// The file that is kept, where all of it is.
-fn file_of(kept: Kept, held: &Held) -> Result<CertFile, CertFault>
-    requires parts { AreParts (parts_of kept) }
-    requires tail { IsTail (parts_of kept) (held_of held.now) }
-    requires small { held.now.len ≤ 14 }
-    requires room { HasRoom kept }
-    ensures { Finishes (Ok (text_of (parts_of kept) ++ held_of held.now)) result }
-{
-    let header = kept.end(Rest::new(kept.size(), held.bytes()))?;
-    let mut rows = kept.rows;
-    if header.version != 1 {
-        unfold(&mut rows, &kept.nodes, &kept.down);
-    }
-    Ok(CertFile {
-        version: header.version,
-        root: header.root,
-        cert: Cert::new(kept.nodes, kept.links, rows),
-    })
-}
-
-/// The fault that was answered.
-fn fault_of(answer: &Result<(), CertError>) -> Option<CertFault>
-    ensures { result ≡ fault_of_answer answer.now }
-{
-    match answer {
-        Err(CertError::Fault { at, kind }) => Some(CertFault {
-            at: *at,
-            kind: *kind,
-        }),
-        _ => None,
-    }
-}
-
-/// Reads on, or stays where it was for want of memory.
-fn read_or_stay(kept: &mut Kept, held: &mut Held, piece: &[u8]) -> Result<(), CertError>
-    requires parts { AreParts (parts_of kept.old) }
-    requires tail { IsTail (parts_of kept.old) (held_of held.old) }
-    requires small { held.old.len ≤ 14 }
-    requires room { HasRoom kept.old }
-    ensures reads { ReadsOrStays (parts_of kept.old) held.old piece.now (parts_of kept.new) held.new result }
-    ensures room { HasRoom kept.new }
-{
-    let mark = kept.mark();
-    let before = *held;
-    match read_on(kept, held, piece) {
-        Err(CertError::NoMemory) => {
-            kept.back_to(mark);
-            *held = before;
-            Err(CertError::NoMemory)
-        }
-        answer => answer,
-    }
-}
-
-/// Takes the part that is cut, and gives what is left of the piece. None where the part is cut still.
-fn read_cut<'a>(
-    kept: &mut Kept,
-    held: &mut Held,
-    piece: &'a [u8],
-) -> Result<Option<Rest<'a>>, CertError>
-    requires parts { AreParts (parts_of kept.old) }
-    requires tail { IsTail (parts_of kept.old) (held_of held.old) }
-    requires small { held.old.len ≤ 14 }
-    requires room { HasRoom kept.old }
-    ensures reads { ReadsCut (parts_of kept.old) (held_of held.old) piece.now (parts_of kept.new) held.new result }
-    ensures room { HasRoom kept.new }
-    ensures keeps { KeepsRoom kept.old kept.new }
-{
-    let rest = held.fill(kept.next_size(), piece);
-    if held.is_empty() {
-        return Ok(Some(Rest::new(kept.size(), rest)));
-    }
-    let Some(_) = kept.take(Rest::new(kept.size(), held.bytes()))? else {
-        return Ok(None);
-    };
-    *held = Held::new();
-    Ok(Some(Rest::new(kept.size(), rest)))
-}
-
-/// Takes all whole parts of what is held and of the piece, and holds what is left.
-fn read_on(kept: &mut Kept, held: &mut Held, piece: &[u8]) -> Result<(), CertError>
-    requires parts { AreParts (parts_of kept.old) }
-    requires tail { IsTail (parts_of kept.old) (held_of held.old) }
-    requires small { held.old.len ≤ 14 }
-    requires room { HasRoom kept.old }
-    ensures reads { ReadsOn (parts_of kept.old) (held_of held.old) piece.now (parts_of kept.new) held.new result }
-    ensures room { HasRoom kept.new }
-    ensures keeps { KeepsRoom kept.old kept.new }
-{
-    let Some(rest) = read_cut(kept, held, piece)? else {
-        return Ok(());
-    };
-    let rest = kept.take_all(rest)?;
-    held.push(rest.bytes());
-    Ok(())
 }

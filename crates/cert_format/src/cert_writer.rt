@@ -1,21 +1,28 @@
 //! Certificate files written to a sink in steps.
 
-ghost use Rattle.std.specs.Prelude.{◌≡◌, ◌<◌, ◌≤◌, ◌+◌, ◌-◌, ◌^◌, ◌++◌, ℕ, List, [], Option, drop, length, IsOk, IfOk, IfErr, OnOk};
+ghost use Rattle.std.specs.Prelude.{◌≡◌, ◌<◌, ◌≤◌, ◌+◌, ◌-◌, ◌^◌, ◌++◌, ℕ, List, [], Option, length, IsOk, IfOk, IfErr, OnOk};
 ghost use Rattle.std.specs.List.{flat_map};
 ghost use Rattle.mrt_io.specs.{Counts.Rose, Writing.Gained, Writing.GainedPart};
-ghost use Rattle.cert_format.specs.{Buffer.piece_length, Versions.rows_in};
+ghost use Rattle.cert_format.specs.{Versions.rows_in};
 ghost use Rattle.cert_format.specs.CertText.{header_text, link_text, node_text, row_text};
 ghost use Rattle.cert_format.specs.Putting.{IsFailedWithin, IsGiven, Puts, later_error, parts_text};
 
-use crate::buffer::Buffer;
-use crate::writing::header_bytes;
-use mrt_graph::{CertLink, CertNode, NoMemory, Row};
+use crate::header::header_bytes;
+use crate::list::put_parts;
+use crate::part::Part;
+use mrt_graph::{Cert, CertLink, CertNode, NoMemory, Row};
 use mrt_io::{PutError, Sink, put_all};
 use std::alloc::Global;
 use std::marker::Model;
 
-/// Writes a certificate file to a sink, 65,536 bytes at a time: its header, then its nodes, its links and its rows, each as
-/// they come. What is fewer is held for the next piece. Writing takes no memory: the room for a piece is there before.
+/// How many bytes have room.
+const ROOM: usize = 65536;
+
+/// How many parts are put at once, each of at most 14 bytes.
+const MOST: usize = 1024;
+
+/// Writes a certificate file to a sink, at most 65,536 bytes at a time: its header, then its nodes, its links and its rows,
+/// each as they come. What is fewer is held. Writing takes no memory: the room is there before.
 ///
 /// The bytes are those that a [`WritableCert`](crate::WritableCert) puts, where the header announces the nodes and the links that
 /// are put, and the rows that are put stand by ascending source, then by ascending destination.
@@ -23,24 +30,25 @@ use std::marker::Model;
 /// After an error it is to be given up.
 #[derive(Drop)]
 pub struct CertWriter {
-    buffer: Buffer,
+    bytes: Vec<u8>,
     version: u16,
     gone: u64,
 }
 
 impl Model for CertWriter {
-    ghost use Rattle.cert_format.specs.{Buffer.IsBuffer, Buffer.buffer_of, Putting.Writer};
+    ghost use Rattle.std.specs.Prelude.{◌≤◌, vec_capacity};
+    ghost use Rattle.cert_format.specs.Putting.{Writer};
 
     ghost Value = { Writer };
 
-    ghost view = { λ w. record { version = w.version; gone = w.gone; held = buffer_of w.buffer } };
+    ghost view = { λ w. record { version = w.version; gone = w.gone; held = w.bytes.items } };
 
-    ghost invariant = { λ w. IsBuffer w.buffer };
+    ghost invariant = { λ w. 65536 ≤ vec_capacity w.bytes };
 }
 
 impl CertWriter {
     /// A writer that was given the header of a file of this version, of so many nodes and links, with this root.
-    /// The room for a piece is taken here.
+    /// The room for 65,536 bytes is taken here.
     ///
     /// # Errors
     ///
@@ -55,10 +63,12 @@ impl CertWriter {
         ensures { IfOk result (λ writer.
             writer ≡ record { version = version; gone = 0; held = header_text version nodes links root }) }
     {
-        let mut buffer = Buffer::new(alloc)?;
-        buffer.push(&header_bytes(version, nodes, links, root));
+        let mut bytes = Vec::with_capacity(alloc, ROOM)?;
+        bytes
+            .extend_from_slice(&header_bytes(version, nodes, links, root))
+            .unwrap();
         Ok(CertWriter {
-            buffer,
+            bytes,
             version,
             gone: 0,
         })
@@ -74,12 +84,7 @@ impl CertWriter {
         ensures { Puts (K.written sink.old) (K.written sink.new) (K.faults sink.old) (K.faults sink.new)
             (K.healthy_for sink.old) (K.healthy_for sink.new) (flat_map node_text nodes.now) self.old self.new result }
     {
-        let mut nodes = nodes;
-        while !nodes.is_empty() {
-            self.put_piece(sink)?;
-            nodes = self.buffer.fill_nodes(nodes);
-        }
-        Ok(())
+        self.put_list(sink, nodes)
     }
 
     /// Writes links.
@@ -92,12 +97,7 @@ impl CertWriter {
         ensures { Puts (K.written sink.old) (K.written sink.new) (K.faults sink.old) (K.faults sink.new)
             (K.healthy_for sink.old) (K.healthy_for sink.new) (flat_map link_text links.now) self.old self.new result }
     {
-        let mut links = links;
-        while !links.is_empty() {
-            self.put_piece(sink)?;
-            links = self.buffer.fill_links(links);
-        }
-        Ok(())
+        self.put_list(sink, links)
     }
 
     /// Writes those of the rows that stand in a file of its version: of version 1 all, of version 2 those that are not
@@ -112,12 +112,7 @@ impl CertWriter {
             (K.healthy_for sink.old) (K.healthy_for sink.new) (flat_map row_text (rows_in self.old.version rows.now))
             self.old self.new result }
     {
-        let mut rows = rows;
-        while !rows.is_empty() {
-            self.put_piece(sink)?;
-            rows = self.buffer.fill_rows(self.version, rows);
-        }
-        Ok(())
+        self.put_list(sink, rows)
     }
 
     /// Writes what is held, the last bytes of the file.
@@ -142,7 +137,7 @@ impl CertWriter {
             → K.healthy_for sink.new (n - (self.gone + length self.held)) }
     {
         let mut writer = self;
-        writer.close(sink)
+        writer.put_held(sink)
     }
 
     /// Writes a whole file, of which it was given the header.
@@ -151,27 +146,27 @@ impl CertWriter {
         sink: &mut K,
         nodes: &[CertNode],
         links: &[CertLink],
-        rows: &[Row],
+        cert: &Cert,
     ) -> Result<(), PutError>
         requires none { self.gone ≡ 0 }
-        requires small { length (self.held ++ parts_text self.version nodes.now links.now rows.now) < 2 ^ 64 }
+        requires small { length (self.held ++ parts_text self.version nodes.now links.now cert.now.rows) < 2 ^ 64 }
         ensures gained { OnOk result (Gained (K.written sink.old)
-            (self.held ++ parts_text self.version nodes.now links.now rows.now) (K.written sink.new)) }
+            (self.held ++ parts_text self.version nodes.now links.now cert.now.rows) (K.written sink.new)) }
         ensures part { IfErr result (GainedPart (K.written sink.old)
-            (self.held ++ parts_text self.version nodes.now links.now rows.now) (K.written sink.new)) }
+            (self.held ++ parts_text self.version nodes.now links.now cert.now.rows) (K.written sink.new)) }
         ensures cause { IfErr result (λ _. Rose (K.faults sink.old) (K.faults sink.new)) }
         ensures count { K.faults sink.old ≤ K.faults sink.new }
         ensures succeeds { (n : ℕ) → K.healthy_for sink.old n
-            → length (self.held ++ parts_text self.version nodes.now links.now rows.now) ≤ n → IsOk result }
+            → length (self.held ++ parts_text self.version nodes.now links.now cert.now.rows) ≤ n → IsOk result }
         ensures no_fault { (n : ℕ) → K.healthy_for sink.old n
-            → length (self.held ++ parts_text self.version nodes.now links.now rows.now) ≤ n
+            → length (self.held ++ parts_text self.version nodes.now links.now cert.now.rows) ≤ n
             → K.faults sink.new ≡ K.faults sink.old }
         ensures stays_healthy { (n : ℕ) → K.healthy_for sink.old n
-            → length (self.held ++ parts_text self.version nodes.now links.now rows.now) ≤ n
-            → K.healthy_for sink.new (n - length (self.held ++ parts_text self.version nodes.now links.now rows.now)) }
+            → length (self.held ++ parts_text self.version nodes.now links.now cert.now.rows) ≤ n
+            → K.healthy_for sink.new (n - length (self.held ++ parts_text self.version nodes.now links.now cert.now.rows)) }
     {
         let mut writer = self;
-        writer.put_parts(sink, nodes, links, rows)?;
+        writer.put_parts(sink, nodes, links, cert)?;
         writer.finish(sink)
     }
 
@@ -181,55 +176,90 @@ impl CertWriter {
         sink: &mut K,
         nodes: &[CertNode],
         links: &[CertLink],
-        rows: &[Row],
+        cert: &Cert,
     ) -> Result<(), PutError>
-        requires { self.old.gone + length (self.old.held ++ parts_text self.old.version nodes.now links.now rows.now) < 2 ^ 64 }
+        requires { self.old.gone + length (self.old.held ++ parts_text self.old.version nodes.now links.now cert.now.rows) < 2 ^ 64 }
         ensures { Puts (K.written sink.old) (K.written sink.new) (K.faults sink.old) (K.faults sink.new)
             (K.healthy_for sink.old) (K.healthy_for sink.new)
-            (parts_text self.old.version nodes.now links.now rows.now) self.old self.new result }
+            (parts_text self.old.version nodes.now links.now cert.now.rows) self.old self.new result }
     {
         self.put_nodes(sink, nodes)?;
         self.put_links(sink, links)?;
-        self.put_rows(sink, rows)
+        self.put_rows_of(sink, cert)
     }
 
-    /// Writes all that is held.
-    fn close<K: Sink>(&mut self, sink: &mut K) -> Result<(), PutError>
+    /// Writes those of a certificate's rows that stand in a file of its version.
+    fn put_rows_of<K: Sink>(&mut self, sink: &mut K, cert: &Cert) -> Result<(), PutError>
+        requires { self.old.gone + length (self.old.held ++ flat_map row_text (rows_in self.old.version cert.now.rows)) < 2 ^ 64 }
+        ensures { Puts (K.written sink.old) (K.written sink.new) (K.faults sink.old) (K.faults sink.new)
+            (K.healthy_for sink.old) (K.healthy_for sink.new) (flat_map row_text (rows_in self.old.version cert.now.rows))
+            self.old self.new result }
+    {
+        if self.version != 1 {
+            return self.put_rows(sink, cert.held_rows());
+        }
+        for place in 0..cert.row_count() {
+            self.put_few(sink, &[cert.row_at(place)])?;
+        }
+        Ok(())
+    }
+
+    /// Writes parts, as many at a time as have room.
+    fn put_list<K: Sink, P: Part>(&mut self, sink: &mut K, parts: &[P]) -> Result<(), PutError>
+        requires short { (part : P) → length (P.text_in self.old.version part) ≤ 14 }
+        requires small { self.old.gone + length (self.old.held ++ flat_map (P.text_in self.old.version) parts.now) < 2 ^ 64 }
+        ensures { Puts (K.written sink.old) (K.written sink.new) (K.faults sink.old) (K.faults sink.new)
+            (K.healthy_for sink.old) (K.healthy_for sink.new) (flat_map (P.text_in self.old.version) parts.now)
+            self.old self.new result }
+    {
+        let mut parts = parts;
+        while !parts.is_empty() {
+            let (few, rest) = parts.split_at(parts.len().min(MOST));
+            self.put_few(sink, few)?;
+            parts = rest;
+        }
+        Ok(())
+    }
+
+    /// Holds parts, once what is held went out, if they have no room beside it.
+    fn put_few<K: Sink, P: Part>(&mut self, sink: &mut K, parts: &[P]) -> Result<(), PutError>
+        requires short { (part : P) → length (P.text_in self.old.version part) ≤ 14 }
+        requires few { length parts.now ≤ 1024 }
+        requires small { self.old.gone + length (self.old.held ++ flat_map (P.text_in self.old.version) parts.now) < 2 ^ 64 }
+        ensures { Puts (K.written sink.old) (K.written sink.new) (K.faults sink.old) (K.faults sink.new)
+            (K.healthy_for sink.old) (K.healthy_for sink.new) (flat_map (P.text_in self.old.version) parts.now)
+            self.old self.new result }
+    {
+        self.make_room(sink)?;
+        put_parts(&mut self.bytes, self.version, parts);
+        Ok(())
+    }
+
+    /// Writes what is held, if it leaves no room for as many parts as are put at once.
+    fn make_room<K: Sink>(&mut self, sink: &mut K) -> Result<(), PutError>
+        requires { self.old.gone + length self.old.held < 2 ^ 64 }
+        ensures puts { Puts (K.written sink.old) (K.written sink.new) (K.faults sink.old) (K.faults sink.new)
+            (K.healthy_for sink.old) (K.healthy_for sink.new) [] self.old self.new result }
+        ensures room { OnOk result (length self.new.held ≤ 51200) }
+    {
+        if self.bytes.len() > ROOM - 14 * MOST {
+            return self.put_held(sink);
+        }
+        Ok(())
+    }
+
+    /// Writes what is held.
+    fn put_held<K: Sink>(&mut self, sink: &mut K) -> Result<(), PutError>
         requires { self.old.gone + length self.old.held < 2 ^ 64 }
         ensures puts { Puts (K.written sink.old) (K.written sink.new) (K.faults sink.old) (K.faults sink.new)
             (K.healthy_for sink.old) (K.healthy_for sink.new) [] self.old self.new result }
         ensures none { OnOk result (self.new.held ≡ []) }
     {
-        self.put_piece(sink)?;
-        self.put_front(sink)
-    }
-
-    /// Writes the first piece, if there is one.
-    fn put_piece<K: Sink>(&mut self, sink: &mut K) -> Result<(), PutError>
-        requires { self.old.gone + length self.old.held < 2 ^ 64 }
-        ensures puts { Puts (K.written sink.old) (K.written sink.new) (K.faults sink.old) (K.faults sink.new)
-            (K.healthy_for sink.old) (K.healthy_for sink.new) [] self.old self.new result }
-        ensures fewer { OnOk result (length self.new.held < piece_length) }
-    {
-        if self.buffer.has_piece() {
-            return self.put_front(sink);
-        }
-        Ok(())
-    }
-
-    /// Writes the first piece, or all that is held where there is less.
-    fn put_front<K: Sink>(&mut self, sink: &mut K) -> Result<(), PutError>
-        requires { self.old.gone + length self.old.held < 2 ^ 64 }
-        ensures puts { Puts (K.written sink.old) (K.written sink.new) (K.faults sink.old) (K.faults sink.new)
-            (K.healthy_for sink.old) (K.healthy_for sink.new) [] self.old self.new result }
-        ensures held { OnOk result (self.new.held ≡ drop piece_length self.old.held) }
-    {
-        let piece = self.buffer.front();
-        match put_all(sink, piece) {
-            Ok(()) => self.gone += piece.len() as u64,
+        match put_all(sink, &self.bytes) {
+            Ok(()) => self.gone += self.bytes.len() as u64,
             Err(error) => return Err(failed_after(self.gone, error)),
         }
-        self.buffer.drop_front();
+        self.bytes.clear();
         Ok(())
     }
 }

@@ -3,6 +3,7 @@
 ghost use Rattle.std.specs.Prelude.{◌≡◌};
 ghost use Rattle.cert_format.specs.declared.error.CertError.TheVariants.{NoMemory as no_memory};
 
+use mrt_graph::NoMemory;
 use std::alloc::{AllocError, AllocFailed};
 use thiserror::Error;
 
@@ -52,6 +53,14 @@ impl From<CertFault> for CertError {
             at: fault.at,
             kind: fault.kind,
         }
+    }
+}
+
+impl From<NoMemory> for CertError {
+    ghost from_gives = { λ _ e. e ≡ no_memory };
+
+    fn from(_: NoMemory) -> CertError {
+        CertError::NoMemory
     }
 }
 

@@ -1,37 +1,26 @@
 //! The heads of the nodes, which lead to one top.
 
-ghost use Rattle.std.specs.Prelude.{◌≡◌, ◌<◌, ◌≤◌, ◌+◌, ◌++◌, ℕ, [], ◌∷◌, IsTrue, IsFalse, false, true, length, not, slice_set, vec_capacity};
+ghost use Rattle.std.specs.Prelude.{◌≡◌, ◌==◌, ◌<◌, ◌≤◌, ◌/◌, [], Some, IfOk, length, not, if◌then◌else◌};
 ghost use Rattle.std.specs.List.{AllByRecursion, slice_index_or};
-ghost use Rattle.mrt_graph.specs.{Certificate.IsCertNode, Certificate.certificate_of, Foldable.is_own_head, Search.IsMarked, Search.unmarked};
-ghost use Rattle.cert_format.specs.Folded.{least};
-ghost use Rattle.cert_format.specs.Placing.{IsClosed, IsHeeded, LooksDown, Places};
+ghost use Rattle.mrt_graph.specs.{Certificate.IsCertNode, Certificate.certificate_of, CertWords.head_of, Foldable.is_own_head};
+ghost use Rattle.cert_format.specs.Folded.{AreEnds, head_fault, least};
 
-use crate::error::CertError;
-use mrt_graph::{CertNode, NodeNo};
+use mrt_graph::{CertNode, NoMemory};
 use std::alloc::Global;
 
-/// Lists the nodes from the top down, each one after its head. Else gives the node whose head is at fault.
+/// The node whose head is at fault, if there is one.
 ///
-/// It takes time in proportion to the nodes for each round, of which there are at most as many as nodes: one for each
-/// node that stands before its head.
-pub fn look_down(
-    alloc: Global,
-    nodes: &[CertNode],
-    down: &mut Vec<NodeNo>,
-) -> Result<Option<u16>, CertError>
-    requires none { down.old.items ≡ [] }
+/// It takes time in proportion to the nodes, and as many times that as their number has binary digits.
+pub fn stray_head(alloc: Global, nodes: &[CertNode]) -> Result<Option<u16>, NoMemory>
     requires few { length nodes.now ≤ 65535 }
     requires kept { AllByRecursion (IsCertNode (length nodes.now)) nodes.now }
-    ensures { LooksDown nodes.now down.new.items result }
+    ensures { IfOk result (λ stray. stray ≡ head_fault (certificate_of nodes.now [] [])) }
 {
     let Some(top) = least_own_head(nodes) else {
         return Ok(Some(0));
     };
-    let mut placed = vec![in alloc; false; nodes.len()]?;
-    down.reserve_exact(nodes.len())?;
-    place(&mut placed, down, top);
-    place_all(nodes, &mut placed, down);
-    Ok(first_bare(&placed))
+    let ends = ends_of_chains(alloc, nodes, nodes.len())?;
+    Ok(first_other(&ends, top))
 }
 
 /// The least node that is its own head.
@@ -47,77 +36,69 @@ fn least_own_head(nodes: &[CertNode]) -> Option<u16>
     None
 }
 
-/// Places all nodes whose chains of heads come to the top, which is placed.
-fn place_all(nodes: &[CertNode], placed: &mut Vec<bool>, down: &mut Vec<NodeNo>)
-    requires many { length placed.old.items ≡ length nodes.now }
+/// Of each node the one to which its chain of heads comes after so many steps.
+fn ends_of_chains(alloc: Global, nodes: &[CertNode], steps: usize) -> Result<Vec<u16>, NoMemory>
     requires few { length nodes.now ≤ 65535 }
     requires kept { AllByRecursion (IsCertNode (length nodes.now)) nodes.now }
-    requires room { unmarked placed.old.items + length down.old.items ≤ vec_capacity down.old }
-    ensures places { Places (certificate_of nodes.now [] []) placed.old.items down.old.items placed.new.items down.new.items }
-    ensures closed { IsClosed (certificate_of nodes.now [] []) placed.new.items }
+    ensures { IfOk result (λ ends. AreEnds nodes.now steps ends.items) }
 {
-    while place_more(nodes, placed, down) {}
+    if steps == 0 {
+        return all_numbers(alloc, nodes);
+    }
+    let half = ends_of_chains(alloc, nodes, steps / 2)?;
+    twice(alloc, nodes, &half, steps)
 }
 
-/// Places the nodes whose heads are placed, by ascending number. Whether there were some.
-fn place_more(nodes: &[CertNode], placed: &mut Vec<bool>, down: &mut Vec<NodeNo>) -> bool
-    requires many { length placed.old.items ≡ length nodes.now }
-    requires few { length nodes.now ≤ 65535 }
-    requires kept { AllByRecursion (IsCertNode (length nodes.now)) nodes.now }
-    requires room { unmarked placed.old.items + length down.old.items ≤ vec_capacity down.old }
-    ensures places { Places (certificate_of nodes.now [] []) placed.old.items down.old.items placed.new.items down.new.items }
-    ensures room { vec_capacity down.old ≤ vec_capacity down.new }
-    ensures fewer { IsTrue result → unmarked placed.new.items < unmarked placed.old.items }
-    ensures closed { IsFalse result → IsClosed (certificate_of nodes.now [] []) placed.new.items }
+/// After no step.
+fn all_numbers(alloc: Global, nodes: &[CertNode]) -> Result<Vec<u16>, NoMemory>
+    requires { length nodes.now ≤ 65535 }
+    ensures { IfOk result (λ ends. AreEnds nodes.now 0 ends.items) }
 {
-    let before = down.len();
+    let mut ends = Vec::with_capacity(alloc, nodes.len())?;
     for v in 0..nodes.len() {
-        place_if_head(nodes, placed, down, v);
+        ends.push_reserved(v as u16);
     }
-    before < down.len()
+    Ok(ends)
 }
 
-/// Places a node, if its head is placed and it is not.
-fn place_if_head(nodes: &[CertNode], placed: &mut Vec<bool>, down: &mut Vec<NodeNo>, v: usize)
-    requires many { length placed.old.items ≡ length nodes.now }
+/// After so many steps, where half of them lead so far.
+fn twice(
+    alloc: Global,
+    nodes: &[CertNode],
+    half: &[u16],
+    steps: usize,
+) -> Result<Vec<u16>, NoMemory>
     requires few { length nodes.now ≤ 65535 }
     requires kept { AllByRecursion (IsCertNode (length nodes.now)) nodes.now }
+    requires half { AreEnds nodes.now (steps / 2) half.now }
+    ensures { IfOk result (λ ends. AreEnds nodes.now steps ends.items) }
+{
+    let mut ends = Vec::with_capacity(alloc, nodes.len())?;
+    for v in 0..nodes.len() {
+        let end = half[half[v] as usize];
+        ends.push_reserved(one_more(nodes, end, steps % 2));
+    }
+    Ok(ends)
+}
+
+/// A node after no step, or after one.
+fn one_more(nodes: &[CertNode], v: u16, step: usize) -> u16
     requires within { v < length nodes.now }
-    requires room { unmarked placed.old.items + length down.old.items ≤ vec_capacity down.old }
-    ensures places { Places (certificate_of nodes.now [] []) placed.old.items down.old.items placed.new.items down.new.items }
-    ensures room { vec_capacity down.old ≤ vec_capacity down.new }
-    ensures here { IsHeeded (certificate_of nodes.now [] []) placed.new.items v }
-    ensures same { length down.new.items ≡ length down.old.items → placed.new.items ≡ placed.old.items }
+    ensures { Some result ≡ (if step == 0 then Some v else head_of (certificate_of nodes.now [] []) v) }
 {
-    if placed[v] {
-        return;
+    if step == 0 {
+        return v;
     }
-    if placed[nodes[v].head.get() as usize] {
-        place(placed, down, v as u16);
-    }
+    nodes[v as usize].head.get()
 }
 
-/// Places a node that was not placed.
-fn place(placed: &mut Vec<bool>, down: &mut Vec<NodeNo>, v: u16)
-    requires within { v < length placed.old.items }
-    requires bare { slice_index_or placed.old.items v false ≡ false }
-    requires room { unmarked placed.old.items + length down.old.items ≤ vec_capacity down.old }
-    ensures placed { placed.new.items ≡ slice_set placed.old.items v true }
-    ensures down { down.new.items ≡ down.old.items ++ v ∷ [] }
-    ensures room { vec_capacity down.old ≤ vec_capacity down.new }
-    ensures fewer { unmarked placed.new.items + 1 ≡ unmarked placed.old.items }
+/// The least node that ends elsewhere.
+fn first_other(ends: &[u16], top: u16) -> Option<u16>
+    requires { length ends.now ≤ 65535 }
+    ensures { result ≡ least (λ v. not (slice_index_or ends.now v 0 == top)) (length ends.now) }
 {
-    placed[v as usize] = true;
-    down.push_reserved(NodeNo::new(v));
-}
-
-/// The least node that is not placed.
-fn first_bare(placed: &[bool]) -> Option<u16>
-    requires { length placed.now ≤ 65535 }
-    ensures { result ≡ least (λ v. not (slice_index_or placed.now v false)) (length placed.now) }
-{
-    for v in 0..placed.len() {
-        if !placed[v] {
+    for v in 0..ends.len() {
+        if ends[v] != top {
             return Some(v as u16);
         }
     }

@@ -5,7 +5,6 @@
 //! has one spelling.
 #![tactic(auto)]
 
-mod buffer;
 mod cert_reader;
 mod cert_writer;
 mod error;
@@ -19,9 +18,8 @@ mod list;
 mod part;
 mod putting;
 mod reading;
-mod related;
 mod rest;
-mod unfold;
+mod state;
 mod versions;
 mod writing;
 

@@ -1,37 +1,45 @@
-//! Rows one after another, which are most of a certificate file.
+//! Parts of a certificate file one after another.
 
-ghost use Rattle.std.specs.Prelude.{◌≡◌, ◌<◌, ◌≤◌, ◌+◌, ◌-◌, ◌*◌, ◌^◌, IfOk, IfErr, length, vec_len, vec_capacity};
-ghost use Rattle.cert_format.specs.{CertText.row_text, FirstFault.fault_in};
-ghost use Rattle.cert_format.specs.Layout.{Form, repeated, row_form};
-ghost use Rattle.cert_format.specs.Reading.{IsFileRow, Names, TookMore};
+ghost use Rattle.std.specs.Prelude.{◌≡◌, ◌<◌, ◌≤◌, ◌+◌, ◌-◌, ◌*◌, ◌^◌, ◌++◌, length, vec_len, vec_capacity};
+ghost use Rattle.std.specs.List.{flat_map};
+ghost use Rattle.cert_format.specs.Reading.{ReadsList};
 
-use crate::error::CertFault;
-use crate::part::row;
+use crate::error::CertError;
+use crate::header::Header;
+use crate::part::Part;
 use crate::rest::Rest;
-use mrt_graph::Row;
 
-/// Adds so many rows, each of two of so many links with one of so many tags, to those that were read. There is room for them.
-pub fn rows<'a>(
-    rows: &mut Vec<Row>,
+/// Reads parts until there are so many. Room for all of them is taken before the first one is read.
+pub fn read_parts<'a, P: Part>(
+    parts: &mut Vec<P>,
     rest: Rest<'a>,
     count: usize,
-    tags: u8,
-    links: u16,
-) -> Result<Rest<'a>, CertFault>
-    requires room { vec_len rows.old + count ≤ vec_capacity rows.old }
-    requires tags { tags ≤ 7 }
-    requires place { rest.at + 5 * count < 2 ^ 32 - 16 }
-    ensures capacity { vec_capacity rows.new ≡ vec_capacity rows.old }
-    ensures read { IfOk result (λ after.
-        TookMore row_text (IsFileRow tags links) count rows.old.items rows.new.items rest.entry after) }
-    ensures fault { IfErr result (λ fault. (next : Form)
-        → Names fault (fault_in (repeated count (row_form tags links) next) rest.entry.at rest.entry.bytes)) }
+    header: Header,
+) -> Result<Rest<'a>, CertError>
+    requires sized { (part : P) → length (P.text part) ≡ P.size }
+    requires few { vec_len parts.old ≤ count }
+    requires place { rest.at + P.size * count < 2 ^ 32 - 16 }
+    ensures { ReadsList (P.form header) P.text (P.keeps header) count parts.old.items parts.new.items rest.entry result }
 {
+    let lacking = count - parts.len();
+    parts.reserve_exact(lacking)?;
     let mut rest = rest;
-    for _ in 0..count {
-        let (row, after) = row(rest, tags, links)?;
-        rows.push_reserved(row);
+    for _ in 0..lacking {
+        let (part, after) = P::read(rest.again(), header)?;
+        parts.push_reserved(part);
         rest = after;
     }
     Ok(rest)
+}
+
+/// Puts parts after the bytes that are there, where there is room for all of them.
+#[inline(never)]
+pub fn put_parts<P: Part>(out: &mut Vec<u8>, version: u16, parts: &[P])
+    requires { vec_len out.old + length (flat_map (P.text_in version) parts.now) ≤ vec_capacity out.old }
+    ensures text { out.new.items ≡ out.old.items ++ flat_map (P.text_in version) parts.now }
+    ensures capacity { vec_capacity out.old ≤ vec_capacity out.new }
+{
+    for part in parts {
+        part.put(version, out);
+    }
 }

@@ -60,7 +60,7 @@ impl WritableCert {
         Ok(WritableCert { file, writer })
     }
 
-    /// Writes the bytes of the file, 65,536 at a time, as [`write_cert`](crate::write_cert) gives them. It takes no
+    /// Writes the bytes of the file, at most 65,536 at a time, as [`write_cert`](crate::write_cert) gives them. It takes no
     /// memory.
     ///
     /// It takes time in proportion to the rows and to the bytes.
@@ -84,6 +84,6 @@ impl WritableCert {
     {
         let WritableCert { file, writer } = self;
         let cert = &file.cert;
-        writer.put_file(sink, cert.nodes(), cert.links(), cert.rows())
+        writer.put_file(sink, cert.nodes(), cert.links(), cert)
     }
 }

@@ -1,6 +1,6 @@
 //! One field after another.
 
-ghost use Rattle.std.specs.Prelude.{◌≡◌, ◌<◌, ◌^◌, ◌-◌, ◌↔◌, ◌/◌, IsTrue, [], length, min};
+ghost use Rattle.std.specs.Prelude.{◌≡◌, ◌<◌, ◌^◌, ◌-◌};
 
 use crate::error::{CertFault, CertKind};
 use std::marker::Model;
@@ -22,7 +22,7 @@ impl<'a> Model for Rest<'a> {
 
 impl<'a> Rest<'a> {
     ghost use Rattle.std.specs.Int.{w8, w16, w32};
-    ghost use Rattle.cert_format.specs.Reading.{ReadsNumber, rest_of};
+    ghost use Rattle.cert_format.specs.Reading.{Ends, ReadsNumber, rest_of};
 
     pub fn new(at: u32, bytes: &'a [u8]) -> Rest<'a>
         ensures { result ≡ rest_of at bytes.now }
@@ -40,12 +40,6 @@ impl<'a> Rest<'a> {
         }
     }
 
-    pub fn bytes(&self) -> &'a [u8]
-        ensures { result.now ≡ self.now.bytes }
-    {
-        self.bytes
-    }
-
     /// The place of the first byte that is left.
     pub fn at(&self) -> u32
         ensures { result ≡ self.now.at }
@@ -53,18 +47,17 @@ impl<'a> Rest<'a> {
         self.at
     }
 
-    pub fn is_empty(&self) -> bool
-        ensures { IsTrue result ↔ (self.now.bytes ≡ []) }
+    /// Nothing is left after the last part.
+    pub fn end(self) -> Result<(), CertFault>
+        ensures { Ends self.entry result }
     {
-        self.bytes.is_empty()
-    }
-
-    /// How many parts of so many bytes can follow, where `count` are to.
-    pub fn room(&self, count: usize, bytes: usize) -> usize
-        requires { 0 < bytes }
-        ensures { result ≡ min count (length self.now.bytes / bytes) }
-    {
-        count.min(self.bytes.len() / bytes)
+        if self.bytes.is_empty() {
+            return Ok(());
+        }
+        Err(CertFault {
+            at: self.at,
+            kind: CertKind::Trailing,
+        })
     }
 
     pub fn u8(self) -> Result<(u8, Rest<'a>), CertFault>

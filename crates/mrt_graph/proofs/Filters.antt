@@ -1,12 +1,13 @@
 -- Filters: what they keep, in which order, and sums over it.
-use Rattle.std.proofs.Common.{◌≡◌, ◌∙◌, ◌+◌, ℕ, zero, suc, Bool, true, false, cond, List, [], ◌∷◌, Some, slice_get, refl, sym, ap, subst, arith}
+use Rattle.std.proofs.Common.{◌≡◌, ◌∙◌, ◌+◌, ℕ, zero, suc, Bool, true, false, cond, inl, inr, length, not, List, [], ◌∷◌, Some, slice_get, refl, sym, ap, subst, arith}
 use Rattle.std.proofs.lemmas.List.Elements.{filter_passes}
+use Rattle.std.proofs.lemmas.List.Filters.{length-filter_both}
 use Rattle.std.proofs.lemmas.Option.{slice_get_within, get_or_from_slice_get}
 use Rattle.std.specs.declared.cmp.Ordering.{Ordering}
 use Rattle.std.specs.Cmp.{IsTotalOrder}
 use Rattle.std.specs.List.{AllByRecursion, Contains, filter, sum_by}
 use Rattle.std.specs.List.Sorted.{IsPermutation}
-use Rattle.std.proofs.lemmas.Bool.{both_ways}
+use Rattle.std.proofs.lemmas.Bool.{both_ways, cases_Bool}
 use Rattle.std.proofs.lemmas.List.Sorted.{sum_by-IsPermutation}
 use Rattle.std.proofs.lemmas.List.Sums.{sum_by-cons}
 use Rattle.mrt_graph.specs.InOrder.{in_order}
@@ -18,6 +19,18 @@ pub filter_agree_in : {X : Type 0} (p q : X → Bool) (xs : List X) → AllByRec
 filter_agree_in p q [] agree = refl
 filter_agree_in {X} p q (x ∷ xs) agree =
     ap (λ (b : Bool). cond b (x ∷ filter p xs) (filter p xs)) agree.0 ∙ ap (λ (r : List X). cond (q x) (x ∷ r) r) (filter_agree_in p q xs agree.1)
+
+-- a filter that keeps as many as there are keeps all
+pub all_pass : {X : Type 0} (p : X → Bool) (xs : List X) → length (filter p xs) ≡ length xs → filter p xs ≡ xs
+all_pass p [] all = refl
+all_pass {X} p (x ∷ xs) all = elim (cases_Bool (p x)) [
+  | inl passes ↦
+      let more : suc (length (filter p xs)) ≡ suc (length xs) = rw passes at all in
+      rw passes (ap (λ (ys : List X). x ∷ ys) (all_pass p xs (omega (arith, more))))
+  | inr fails ↦
+      let fewer : length (filter p xs) ≡ suc (length xs) = rw fails at all in
+      absurd (omega (arith, fewer, length-filter_both p (λ y. not (p y)) (λ y. refl) xs))
+]
 
 -- a sum over what a filter keeps
 sum_kept_by : {X : Type 0} (b : Bool) (f : X → ℕ) (x : X) (xs : List X) (rest : ℕ) → sum_by f xs ≡ rest → sum_by f (cond b (x ∷ xs) xs) ≡ cond b (f x) 0 + rest

@@ -1,29 +1,24 @@
 -- An accepted certificate is foldable.
-use Rattle.std.proofs.Common.{◌≡◌, ◌≢◌, ◌⊎◌, ◌∙◌, ◌==◌, ◌&&◌, ◌||◌, ◌<◌, ◌≤◌, ◌+◌, ℕ, zero, suc, Bool, true, false, not, List, Option, Some, None, length, slice_get, inl, inr, refl, sym, ap, subst, arith}
+use Rattle.std.proofs.Common.{◌≡◌, ◌≢◌, ◌⊎◌, ◌∙◌, ◌||◌, ◌<◌, ◌≤◌, ◌+◌, ℕ, zero, suc, Bool, true, false, Option, Some, slice_get, inl, inr, refl, sym, ap, subst, arith}
 use Rattle.std.proofs.lemmas.Bool.{and_parts, cases_Bool, cases_eq, eq-eqb, ne_eqb, false≢true, false_from_ne_true}
-use Rattle.std.proofs.lemmas.Option.{slice_get_within}
-use Rattle.std.specs.List.{AllByRecursion}
-use Rattle.std.specs.Option.{option_and_then, option_map, option_map_or, unwrap_or}
+use Rattle.std.specs.Option.{option_and_then, option_map, option_map_or}
 use Rattle.mrt_graph.specs.declared.cert.CertFile.{CertFile}
 use Rattle.mrt_graph.specs.declared.cert.CertNode.{CertNode}
 use Rattle.mrt_graph.specs.declared.cert.Row.{Row}
 use Rattle.mrt_graph.specs.declared.cert.Tag.TheVariants as tags
 use Rattle.mrt_graph.specs.Accepted.{Accepted}
-use Rattle.mrt_graph.specs.BothThere.{are_equal}
 use Rattle.mrt_graph.specs.Certificate.{IsCertificate, IsCertNode, row_of}
 use Rattle.mrt_graph.specs.CertWords.{head_of, order_of}
-use Rattle.mrt_graph.specs.Foldable.{IsFoldable, IsLeastOwnHead, comes_to, in_chain, is_folded, is_own_head, rows_folded}
+use Rattle.mrt_graph.specs.Foldable.{IsFoldable, IsLeastOwnHead, comes_to, in_chain, is_folded, rows_folded}
 use Rattle.mrt_graph.specs.Related.{are_unrelated}
-use Rattle.mrt_graph.specs.RootAndOrders.{RootAndOrders}
-use Rattle.mrt_graph.specs.RowRules.{row_rule, same_links}
-use Rattle.mrt_graph.specs.Rules.{OrderRule}
+use Rattle.mrt_graph.specs.RowRules.{row_rule}
 use Rattle.mrt_graph.specs.Tags.{same_tag}
 use Rattle.mrt_graph.specs.Topology.{Topology}
 use Rattle.mrt_graph.proofs.AcceptedBlocks.{blocks}
 use Rattle.mrt_graph.proofs.Blocks.{Words, Blocks}
 use Rattle.mrt_graph.proofs.ListTests.{all_at, there}
 use Rattle.mrt_graph.proofs.RowsHold.{carried, row, row_keeps, there as row_there}
-use Rattle.mrt_graph.proofs.TestFacts.{equal_numbers, number_is, tag_is, tag_itself, unrelated_apart}
+use Rattle.mrt_graph.proofs.TestFacts.{number_is, tag_is, unrelated_apart}
 use Rattle.mrt_graph.proofs.WordsOf.{words_of}
 
 module _ (g : Topology) (root : ℕ) (file : CertFile) (kept : IsCertificate file.cert) (accepted : Accepted g root file)

@@ -39,11 +39,6 @@ behind_all p (byte ∷ line) = elim (cases_Bool (p byte)) [
 filled : (word : List ℕ) (words : List (List ℕ)) → 0 < length word → filter (λ word. not (length word == 0)) (word ∷ words) ≡ word ∷ filter (λ word. not (length word == 0)) words
 filled word words some = elim (eqb_tells (length word) 0) [ inl none ↦ absurd (omega (arith, none.1)) | inr more ↦ rw more.0 refl ]
 
-first_part : (p : ℕ → Bool) (word line : List ℕ) (byte : ℕ) → 0 < length word → p byte ≡ true → slice_split p (word ++ byte ∷ line) ≡ word ∷ slice_split p line
-    → words_by p (word ++ byte ∷ line) ≡ word ∷ words_by p (byte ∷ line)
-first_part p word line byte some blank parts =
-    ap (filter (λ word. not (length word == 0))) parts ∙ filled word (slice_split p line) some ∙ ap (λ (words : List (List ℕ)). word ∷ words) (sym (behind_one p byte line blank))
-
 whole_part : (p : ℕ → Bool) (word : List ℕ) → 0 < length word → All (λ x. p x ≡ false) word → words_by p word ≡ word ∷ []
 whole_part p word some others = ap (filter (λ word. not (length word == 0))) (slice_split_none p word others) ∙ filled word [] some
 

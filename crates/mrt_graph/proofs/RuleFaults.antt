@@ -182,7 +182,7 @@ tag_few Unordered = omega arith
 tag_few Carried = omega arith
 
 -- a number is that of one rule
-one_rule : (rule other : Rule) → rule_number rule ≡ rule_number other → rule ≡ other
+pub one_rule : (rule other : Rule) → rule_number rule ≡ rule_number other → rule ≡ other
 one_rule GraphRule GraphRule same = refl
 one_rule OrderRule OrderRule same = refl
 one_rule HeadRule HeadRule same = refl

@@ -37,19 +37,6 @@ entering_none marks found = record {
   fresh = λ v c m. contains_none v c;
 }
 
--- coming on a node that has its mark changes nothing
-pub entering_marked : (marks : List Bool) (found : List ℕ) (u : ℕ) → IsMarked marks u → IsEntering (λ (v : ℕ). v ≡ u) marks found marks found
-entering_marked marks found u has = record {
-  added = [];
-  grows = sym (append-nil found);
-  kept = λ v m. m;
-  all_of_them = λ v same. subst (λ (w : ℕ). IsMarked marks w) (sym same) has;
-  only_them = λ v m. inl m;
-  listed = λ v m. inl m;
-  marked = λ v c. absurd (contains_none v c);
-  fresh = λ v c m. contains_none v c;
-}
-
 -- a mark set at u is u's, and each other mark is as before
 pub mark_set : (marks : List Bool) (u v : ℕ) → u < length marks → IsMarked (set marks u true) v → IsMarked marks v ⊎ (v ≡ u)
 mark_set marks u v within m = elim (cases_eq v u) [ inl same ↦ inr same | inr other ↦ inl (sym (get_or-set_other marks u v true false other) ∙ m) ]
@@ -183,11 +170,6 @@ entering_same Onto Onto' m0 f0 m1 f1 there back e = record {
   marked = e.marked;
   fresh = e.fresh;
 }
-
--- the list grows
-pub entering_longer : (Onto : ℕ → Type 0) (marks : List Bool) (found : List ℕ) (marks' : List Bool) (found' : List ℕ)
-    → IsEntering Onto marks found marks' found' → length found ≤ length found'
-entering_longer Onto marks found marks' found' e = omega (arith, ap (λ (f : List ℕ). length f) e.grows, length-append found e.added)
 
 -- the state of these parts
 abbrev pub state_of : List Bool → List ℕ → ℕ → SearchState

@@ -1,7 +1,6 @@
 -- How many members of a list pass a test.
-use Rattle.std.proofs.Common.{◌≡◌, ◌∙◌, ◌<◌, ◌≤◌, ◌+◌, ◌&&◌, ◌++◌, ℕ, zero, suc, Bool, true, false, cond, List, [], ◌∷◌, Option, Some, None, length, map, slice_get, inl, inr, refl, sym, ap, subst, arith}
-use Rattle.std.specs.List.{count_by, filter, filter_map, position, position_or_len}
-use Rattle.std.specs.Option.{option_map_or}
+use Rattle.std.proofs.Common.{◌≡◌, ◌∙◌, ◌<◌, ◌≤◌, ◌+◌, ◌&&◌, ◌++◌, ℕ, zero, suc, Bool, true, false, cond, List, [], ◌∷◌, Some, length, map, slice_get, inl, inr, refl, sym, ap, subst, arith}
+use Rattle.std.specs.List.{count_by, filter, position, position_or_len}
 use Rattle.std.proofs.lemmas.Bool.{cases_Bool, and_parts, lt-ltb}
 use Rattle.std.proofs.lemmas.List.Sums.{sum_by-cons}
 use Rattle.std.proofs.lemmas.Option.{same_Some, slice_get_within}
@@ -41,17 +40,6 @@ tally_filter p q (x ∷ xs) = elim (cases_Bool (q x)) [
   | inl passes ↦ rw passes (omega (arith, tally_filter p q xs))
   | inr fails ↦ rw fails (omega (arith, tally_filter p q xs))
 ]
-
-tally_given : {X Y : Type 0} (p : Y → Bool) (h : X → Option Y) (x : X) (xs : List X) (o : Option Y) → h x ≡ o
-    → tally p (filter_map h xs) ≡ tally (λ z. option_map_or p (h z) false) xs
-    → tally p (filter_map h (x ∷ xs)) ≡ one_if (option_map_or p (h x) false) + tally (λ z. option_map_or p (h z) false) xs
-tally_given p h x xs None is rest = rw is (omega (arith, rest))
-tally_given p h x xs (Some y) is rest = rw is (omega (arith, rest))
-
-pub tally_filter_map : {X Y : Type 0} (p : Y → Bool) (h : X → Option Y) (xs : List X)
-    → tally p (filter_map h xs) ≡ tally (λ x. option_map_or p (h x) false) xs
-tally_filter_map p h [] = refl
-tally_filter_map p h (x ∷ xs) = tally_given p h x xs (h x) refl (tally_filter_map p h xs)
 
 pub tally_alike : {X : Type 0} (p q : X → Bool) (xs : List X) → ((x : X) → Has xs x → p x ≡ q x) → tally p xs ≡ tally q xs
 tally_alike p q [] same = refl

@@ -1,10 +1,9 @@
 -- Walks: one link more, joined, what they meet; and walks as paths.
-use Rattle.std.proofs.Common.{◌≡◌, ◌↔◌, ℕ, List, [], ◌∷◌, ◌++◌, Option, Some, refl, sym, ◌∙◌, ap, subst}
+use Rattle.std.proofs.Common.{◌≡◌, ℕ, List, [], ◌∷◌, ◌++◌, Option, Some, refl, sym, ◌∙◌, ap, subst}
 use Rattle.std.specs.Prelude.{Contains}
 use Rattle.std.specs.Option.{option_map_or}
 use Rattle.mrt_graph.specs.declared.link.Link.{Link}
 use Rattle.mrt_graph.specs.Leads.{leads}
-use Rattle.mrt_graph.specs.Reachable.{Path, Reachable}
 use Rattle.mrt_graph.specs.Uses.{nodes_met}
 use Rattle.mrt_graph.specs.Walk.{Walk}
 use Rattle.mrt_graph.proofs.Members.{contains_first}
@@ -34,23 +33,3 @@ met_first links (e ∷ es) s = contains_first s _
 -- and then what the rest of it meets
 pub met_onward : (links : List Link) (u e v : ℕ) (rest : List ℕ) → leads links e u ≡ Some v → nodes_met links u (e ∷ rest) ≡ u ∷ nodes_met links v rest
 met_onward links u e v rest on = ap (λ (o : Option ℕ). u ∷ option_map_or (λ (x : ℕ). nodes_met links x rest) o []) on
-
--- some link leads from u to v
-abbrev pub IsJoined : List Link → ℕ → ℕ → Type 0
-IsJoined links u v = (e : ℕ) × (leads links e u ≡ Some v)
-
-path_of_walk : (links : List Link) (walk : List ℕ) (s t : ℕ) → Walk links s walk t → Reachable (IsJoined links) s t
-path_of_walk links [] s t w = ([], w)
-path_of_walk links (e ∷ es) s t w =
-    let rest : Reachable (IsJoined links) w.0 t = path_of_walk links es w.0 t w.2
-    in (w.0 ∷ rest.0, ((e, w.1), rest.1))
-
-walk_of_path : (links : List Link) (path : List ℕ) (s t : ℕ) → Path (IsJoined links) s path t → (walk : List ℕ) × Walk links s walk t
-walk_of_path links [] s t p = ([], p)
-walk_of_path links (v ∷ vs) s t p =
-    let rest : (walk : List ℕ) × Walk links v walk t = walk_of_path links vs v t p.1
-    in (p.0.0 ∷ rest.0, (v, p.0.1, rest.1))
-
--- a walk leads where a path along links does
-pub walk_is_path : (links : List Link) (s t : ℕ) → ((walk : List ℕ) × Walk links s walk t) ↔ Reachable (IsJoined links) s t
-walk_is_path links s t = (λ w. path_of_walk links w.0 s t w.1, λ r. walk_of_path links r.0 s t r.1)

@@ -14,13 +14,16 @@ pub mod EndsOfLinks
 pub mod FirstEnd
 pub mod FirstFault
 pub mod Foldable
+pub mod FoldedRows
 pub mod GadagLists
 pub mod GadagWords
 pub mod GraphInvariant
+pub mod Groups
 pub mod HeadsAndBlocks
 pub mod Hop
 pub mod InOrder
 pub mod InterfaceOrder
+pub mod Kin
 pub mod Leads
 pub mod NewGraph
 pub mod NodeIds
@@ -29,6 +32,7 @@ pub mod Places
 pub mod Reachable
 pub mod Reaches
 pub mod Related
+pub mod RelatedPairs
 pub mod Roles
 pub mod RootAndOrders
 pub mod RowPlace

@@ -1,11 +1,13 @@
 //! Certificates: what fixes every row of an island, and what a checker reads.
 
-ghost use Rattle.std.specs.Prelude.{◌≡◌, ◌≢◌, ◌<◌, ◌≤◌, ◌-◌, ◌*◌};
+ghost use Rattle.std.specs.Prelude.{◌≡◌, ◌≢◌, ◌<◌, ◌≤◌, ◌+◌, ◌-◌, ◌*◌, nat_lt, if◌then◌else◌};
 ghost use Rattle.mrt_graph.specs.RowPlace.{place_of_row};
 
 use crate::gadag::Place;
 use crate::node_id::NodeId;
 use crate::numbers::{LinkNo, NodeNo};
+use crate::relatives::Relatives;
+use crate::unfolded::unfolded_row;
 use std::marker::Model;
 
 /// One of the two Maximally Redundant Trees (RFC 7812, section 3).
@@ -103,11 +105,13 @@ pub struct CertLink {
 
 /// The nodes, links and rows of an island, each by number; of n nodes it has n times (n - 1) rows.
 ///
-/// The rows stand by ascending source, then by ascending destination, the source left out.
+/// It holds all rows, or those of related nodes with an index, from which the others follow. They stand by ascending
+/// source, then by ascending destination, the source left out.
 pub struct Cert {
     nodes: Vec<CertNode>,
     links: Vec<CertLink>,
     rows: Vec<Row>,
+    relatives: Option<Relatives>,
 }
 
 impl Drop for Cert {
@@ -116,18 +120,19 @@ impl Drop for Cert {
             nodes: _,
             links: _,
             rows: _,
+            relatives: _,
         } = self;
     }
 }
 
 impl Model for Cert {
-    ghost use Rattle.mrt_graph.specs.Certificate.{Certificate, IsCertificate, certificate_of};
+    ghost use Rattle.mrt_graph.specs.{Certificate.Certificate, FoldedRows.IsHeld, FoldedRows.held};
 
     ghost Value = { Certificate };
 
-    ghost view = { λ c. certificate_of c.nodes.items c.links.items c.rows.items };
+    ghost view = { λ c. held c.nodes.items c.links.items c.rows.items c.relatives };
 
-    ghost invariant = { λ c. IsCertificate (certificate_of c.nodes.items c.links.items c.rows.items) };
+    ghost invariant = { λ c. IsHeld c.nodes.items c.links.items c.rows.items c.relatives };
 }
 
 /// A certificate with the version of its file, 1 or 2, and the router ID of its root.
@@ -139,16 +144,56 @@ pub struct CertFile {
 }
 
 impl Cert {
-    ghost use Rattle.std.specs.Prelude.{◌≡◌, ◌≢◌, ◌<◌, Some, length, slice_get};
+    ghost use Rattle.std.specs.Prelude.{◌≡◌, ◌≢◌, ◌<◌, IfSome, Some, filter, length, slice_get};
     ghost use Rattle.std.specs.List.{AllByRecursion};
     ghost use Rattle.mrt_graph.specs.Certificate.{IsCertificate, IsCertNode, IsCertLink, IsCertRow, certificate_of, row_of};
+    ghost use Rattle.mrt_graph.specs.{Foldable.IsFoldable, FoldedRows.IsFolded, Kin.kin_of, Tags.is_near};
 
     /// A certificate of these nodes, links and rows.
     pub fn new(nodes: Vec<CertNode>, links: Vec<CertLink>, rows: Vec<Row>) -> Cert
         requires { IsCertificate (certificate_of nodes.items links.items rows.items) }
         ensures { result ≡ certificate_of nodes.items links.items rows.items }
     {
-        Cert { nodes, links, rows }
+        Cert {
+            nodes,
+            links,
+            rows,
+            relatives: None,
+        }
+    }
+
+    /// A certificate of these nodes and links, and of these rows of related nodes, from which the others follow. It takes no
+    /// memory.
+    pub fn folded(
+        nodes: Vec<CertNode>,
+        links: Vec<CertLink>,
+        near: Vec<Row>,
+        relatives: Relatives,
+    ) -> Cert
+        requires rows { IsFolded nodes.items links.items near.items }
+        requires index { relatives ≡ kin_of nodes.items }
+        ensures nodes { result.nodes ≡ nodes.items }
+        ensures links { result.links ≡ links.items }
+        ensures near { filter is_near result.rows ≡ near.items }
+        ensures foldable { IsFoldable result }
+        ensures kept { IsCertificate result }
+    {
+        let count = nodes.len();
+        if near.len() == count * (count - 1) {
+            // All nodes are related, so these are all rows, and their places need no index.
+            return Cert {
+                nodes,
+                links,
+                rows: near,
+                relatives: None,
+            };
+        }
+        Cert {
+            nodes,
+            links,
+            rows: near,
+            relatives: Some(relatives),
+        }
     }
 
     /// How many nodes it has.
@@ -182,11 +227,54 @@ impl Cert {
         &self.links
     }
 
-    /// The rows, by ascending source, then by ascending destination, the source left out.
-    pub fn rows(&self) -> &[Row]
-        ensures { result.now ≡ self.now.rows }
+    /// The rows that it holds, all or those of related nodes, by ascending source, then by ascending destination, the source
+    /// left out.
+    pub fn held_rows(&self) -> &[Row]
+        ensures near { filter is_near result.now ≡ filter is_near self.now.rows }
     {
         &self.rows
+    }
+
+    /// How many rows it has.
+    pub fn row_count(&self) -> usize
+        ensures { result ≡ length self.now.rows }
+    {
+        self.nodes.len() * (self.nodes.len() - 1)
+    }
+
+    /// The row at a place among all rows.
+    pub fn row_at(&self, place: usize) -> Row
+        requires { place < length self.now.rows }
+        ensures { slice_get self.now.rows place ≡ Some result }
+    {
+        match &self.relatives {
+            None => self.rows[place],
+            Some(_) => self.row_in(place),
+        }
+    }
+
+    /// The same, by its two nodes.
+    fn row_in(&self, place: usize) -> Row
+        requires { place < length self.now.rows }
+        ensures { slice_get self.now.rows place ≡ Some result }
+    {
+        let others = self.nodes.len() - 1;
+        let s = place / others;
+        self.row(
+            NodeNo::new(s as u16),
+            NodeNo::new(other_node(s, place % others) as u16),
+        )
+    }
+
+    /// The index of its nodes' relatives, where it holds the rows of related nodes alone.
+    pub fn relatives(&self) -> Option<&Relatives>
+        ensures index { IfSome result (λ relatives. relatives.now ≡ kin_of self.now.nodes) }
+        ensures foldable { IfSome result (λ _. IsFoldable self.now) }
+    {
+        match &self.relatives {
+            None => None,
+            Some(relatives) => Some(relatives),
+        }
     }
 
     /// What it says of a node.
@@ -208,6 +296,7 @@ impl Cert {
     }
 
     /// The row of `s` for `t`.
+    #[inline(always)]
     pub fn row(&self, s: NodeNo, t: NodeNo) -> Row
         requires source { s < length self.now.nodes }
         requires target { t < length self.now.nodes }
@@ -215,7 +304,10 @@ impl Cert {
         ensures value { row_of self.now s t ≡ Some result }
         ensures within { IsCertRow (length self.now.links) result }
     {
-        self.rows[row_place(self.nodes.len(), s, t)]
+        match &self.relatives {
+            None => self.rows[row_place(self.nodes.len(), s, t)],
+            Some(relatives) => unfolded_row(relatives, &self.nodes, &self.rows, s, t),
+        }
     }
 }
 
@@ -231,4 +323,15 @@ pub fn row_place(count: usize, s: NodeNo, t: NodeNo) -> usize
 {
     let column = if t < s { t.get() } else { t.get() - 1 };
     s.get() as usize * (count - 1) + column as usize
+}
+
+/// The node in a column among all nodes but `s`.
+fn other_node(s: usize, column: usize) -> usize
+    requires { column < 65535 }
+    ensures { result ≡ (if nat_lt column s then column else column + 1) }
+{
+    if column < s {
+        return column;
+    }
+    column + 1
 }

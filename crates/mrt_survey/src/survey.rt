@@ -39,7 +39,7 @@ pub fn survey_text(
     let _nodes = c.node_count();
     let blocks = blocks_with_links(alloc, c)?;
     let separating = separating_nodes(alloc, g, root, c)?;
-    let tally = tally_of(c.rows());
+    let tally = tally_of(c);
     let mut text = Vec::with_capacity(alloc, LONGEST)?;
     push_island(&mut text, number, g, g.id(root))?;
     push_blocks(&mut text, blocks, sole_links(c.links()), separating)?;

@@ -2,4 +2,6 @@ use Rattle.cert_format.proofs.PartsRead.{node_read}
 use Rattle.cert_format.proofs.part.node.Goals as goal
 
 pub returns : goal.returns
-returns c = rw (← c.from-nodes.ensures, c.new.ensures, c.new-2.ensures) (node_read c.from-nodes.result _ _ _ _ _ _ _ _ _ _ _ c.in_ok-kind.ensures c.in_ok-id.ensures c.in_ok-order.ensures c.in_ok-head.ensures c.in_ok-block.ensures)
+returns c =
+    rw (← c.from-nodes.ensures, c.new.ensures, c.new-2.ensures, c.kind_named.ensures)
+    (node_read c.from-nodes.result _ _ _ _ _ _ _ _ _ _ _ c.in_ok-kind.ensures c.in_ok-number.ensures c.in_ok-order.ensures c.in_ok-head.ensures c.in_ok-block.ensures)

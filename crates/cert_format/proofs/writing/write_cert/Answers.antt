@@ -1,18 +1,21 @@
-use Rattle.std.proofs.Common.{◌≡◌, ◌∙◌, ◌++◌, ℕ, List, length, ap, append_assoc, arith}
+use Rattle.std.proofs.Common.{◌≡◌, ◌∙◌, ◌+◌, ◌*◌, ◌++◌, ℕ, List, length, refl, ap, append_assoc, length-append, arith}
 use Rattle.std.specs.List.{flat_map}
+use Rattle.mrt_graph.specs.declared.cert.CertNode.{CertNode}
+use Rattle.mrt_graph.specs.declared.cert.CertLink.{CertLink}
+use Rattle.cert_format.proofs.Lists.{length_texts}
 use Rattle.cert_format.specs.CertText.{header_text, link_text, node_text, row_text}
 use Rattle.cert_format.specs.Versions.{rows_in}
 use Rattle.cert_format.proofs.SpellingLength.{longest_spelling, spelling_length}
 use Rattle.cert_format.proofs.writing.write_cert.Goals as goal
 
-pub overflow_mul-count_rows : goal.overflow_mul-count_rows
-overflow_mul-count_rows c =
-    let count = rw c.rows-rows.ensures at c.count_rows.ensures in
+pub overflow_mul-rows : goal.overflow_mul-rows
+overflow_mul-rows c =
+    let count = c.count_rows_of-rows.ensures in
     omega (arith, count, spelling_length c.args.f.now, longest_spelling c.args.f.now c.within_limits.ensures)
 
 pub overflow_add-nodes-3 : goal.overflow_add-nodes-3
 overflow_add-nodes-3 c =
-    let count = rw c.rows-rows.ensures at c.count_rows.ensures in
+    let count = c.count_rows_of-rows.ensures in
     let nodes : length c.nodes-nodes.result.now ≡ length c.args.f.now.cert.nodes = ap length c.nodes-nodes.ensures.value in
     let links : length c.links-links.result.now ≡ length c.args.f.now.cert.links = ap length c.links-links.ensures in
     omega (arith, count, nodes, links, spelling_length c.args.f.now, longest_spelling c.args.f.now c.within_limits.ensures)
@@ -21,20 +24,48 @@ pub unwrap-requires : goal.unwrap-requires
 unwrap-requires c =
     c.extend_from_slice.ensures.succeeds (omega (arith, c.in_ok-out.ensures.len, c.in_ok-out.ensures.capacity, ap length c.header_bytes-header.ensures))
 
-pub put_nodes-requires : goal.put_nodes-requires
-put_nodes-requires c =
+pub put_parts-requires : goal.put_parts-requires
+put_parts-requires c =
     let len = rw (c.unwrap.ensures, c.header_bytes-header.ensures) at c.extend_from_slice.ensures.len in
-    omega (arith, len, c.in_ok-out.ensures.len, c.in_ok-out.ensures.capacity, c.extend_from_slice.ensures.capacity)
+    omega (arith, len, c.in_ok-out.ensures.len, c.in_ok-out.ensures.capacity, c.extend_from_slice.ensures.capacity, length_texts node_text 11 c.nodes-nodes.result.now (λ x. refl))
 
-pub put_links-requires : goal.put_links-requires
-put_links-requires c =
-    let len = rw (c.unwrap.ensures, c.header_bytes-header.ensures) at c.extend_from_slice.ensures.len in
-    omega (arith, len, c.in_ok-out.ensures.len, c.in_ok-out.ensures.capacity, c.extend_from_slice.ensures.capacity, c.put_nodes.ensures.len, c.put_nodes.ensures.capacity)
+-- how many bytes are there once the nodes are put
+nodes_there : (nodes : List CertNode) (before now : List ℕ) → now ≡ before ++ flat_map node_text nodes → length now ≡ length before + 11 * length nodes
+nodes_there nodes before now e = omega (arith, ap length e, length-append before (flat_map node_text nodes), length_texts node_text 11 nodes (λ x. refl))
 
-pub put_rows-requires : goal.put_rows-requires
-put_rows-requires c =
+links_there : (links : List CertLink) (before now : List ℕ) → now ≡ before ++ flat_map link_text links → length now ≡ length before + 7 * length links
+links_there links before now e = omega (arith, ap length e, length-append before (flat_map link_text links), length_texts link_text 7 links (λ x. refl))
+
+pub put_parts-requires-2 : goal.put_parts-requires-2
+put_parts-requires-2 c =
     let len = rw (c.unwrap.ensures, c.header_bytes-header.ensures) at c.extend_from_slice.ensures.len in
-    omega (arith, len, c.in_ok-out.ensures.len, c.in_ok-out.ensures.capacity, c.extend_from_slice.ensures.capacity, c.put_nodes.ensures.len, c.put_nodes.ensures.capacity, c.put_links.ensures.len, c.put_links.ensures.capacity, c.count_rows.ensures)
+    omega (
+      arith,
+      len,
+      c.in_ok-out.ensures.len,
+      c.in_ok-out.ensures.capacity,
+      c.extend_from_slice.ensures.capacity,
+      c.put_parts.ensures.capacity,
+      nodes_there c.nodes-nodes.result.now c.extend_from_slice.new.self.items c.put_parts.new.out.items c.put_parts.ensures.text,
+      length_texts link_text 7 c.links-links.result.now (λ x. refl),
+    )
+
+pub put_rows_of-requires : goal.put_rows_of-requires
+put_rows_of-requires c =
+    let len = rw (c.unwrap.ensures, c.header_bytes-header.ensures) at c.extend_from_slice.ensures.len in
+    omega (
+      arith,
+      len,
+      c.in_ok-out.ensures.len,
+      c.in_ok-out.ensures.capacity,
+      c.extend_from_slice.ensures.capacity,
+      c.put_parts.ensures.capacity,
+      c.put_parts-2.ensures.capacity,
+      nodes_there c.nodes-nodes.result.now c.extend_from_slice.new.self.items c.put_parts.new.out.items c.put_parts.ensures.text,
+      links_there c.links-links.result.now c.put_parts.new.out.items c.put_parts-2.new.out.items c.put_parts-2.ensures.text,
+      c.count_rows_of-rows.ensures,
+      length_texts row_text 5 (rows_in c.args.f.now.version c.args.f.now.cert.rows) (λ x. refl),
+    )
 
 -- four parts, one after another
 joined : (head nodes links rows one two three four : List ℕ) → one ≡ head → two ≡ one ++ nodes → three ≡ two ++ links → four ≡ three ++ rows
@@ -49,7 +80,7 @@ returns c =
     let start = rw (c.unwrap.ensures, c.in_ok-out.ensures.items, c.header_bytes-header.ensures, c.node_count.ensures.count, c.link_count.ensures.count) at c.extend_from_slice.ensures.items in
     record {
       text = joined (header_text f.version (length f.cert.nodes) (length f.cert.links) f.root) (flat_map node_text f.cert.nodes) (flat_map link_text f.cert.links) (flat_map row_text (rows_in f.version f.cert.rows)) _ _ _ _ start
-          (rw c.nodes-nodes.ensures.value at c.put_nodes.ensures.text) (rw c.links-links.ensures at c.put_links.ensures.text) (rw c.rows-rows.ensures at c.put_rows.ensures.text);
+          (rw c.nodes-nodes.ensures.value at c.put_parts.ensures.text) (rw c.links-links.ensures at c.put_parts-2.ensures.text) c.put_rows_of.ensures;
       within = c.within_limits.ensures;
     }
 

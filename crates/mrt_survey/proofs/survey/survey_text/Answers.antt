@@ -19,7 +19,6 @@ returns c =
       separating = c.in_ok-separating.separating;
       separating_are = c.in_ok-separating.ensures;
       spelled = rw (
-        ← c.rows.ensures,
         ← c.links.ensures,
         ← c.tally_of-tally.ensures.common,
         ← c.tally_of-tally.ensures.carried,

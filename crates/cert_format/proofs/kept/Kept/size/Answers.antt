@@ -1,12 +1,10 @@
 use Rattle.std.proofs.Common.{◌∙◌, arith}
-use Rattle.cert_format.specs.Parts.{parts_of}
-use Rattle.cert_format.proofs.PartsText.{are_few, parts_length}
+use Rattle.cert_format.specs.Steps.{parts_of}
+use Rattle.cert_format.proofs.GoesOn.{are_few, parts_length}
 use Rattle.cert_format.proofs.kept.Kept.size.Goals as goal
 
 pub size_of-requires-clause-rows : goal.size_of-requires-clause-rows
-size_of-requires-clause-rows c =
-    let few = are_few (parts_of c.args.self.now) c.requires in
-    omega (arith, few.rows, few.row_count, c.len-3.ensures)
+size_of-requires-clause-rows c = omega (arith, (are_few (parts_of c.args.self.now) c.requires).rows, c.len-3.ensures)
 
 pub returns-clause-value : goal.returns-clause-value
 returns-clause-value c =

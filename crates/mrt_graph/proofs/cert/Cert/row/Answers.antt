@@ -1,16 +1,25 @@
-use Rattle.std.proofs.Common.{◌≡◌, ◌<◌, ◌∙◌, length, slice_get, refl, ap, sym, arith}
-use Rattle.std.proofs.lemmas.Option.{slice_get_read}
-use Rattle.mrt_graph.specs.Certificate.{Certificate}
-use Rattle.mrt_graph.proofs.RowPlaces.{row_at}
+use Rattle.std.proofs.Common.{◌≡◌, ◌<◌, ◌∙◌, [], List, length, sym, ap, subst}
+use Rattle.mrt_graph.specs.declared.cert.CertNode.{CertNode}
+use Rattle.mrt_graph.specs.declared.cert.Row.{Row}
+use Rattle.mrt_graph.specs.Certificate.{Certificate, certificate_of}
+use Rattle.mrt_graph.specs.FoldedRows.{unfolded_row}
+use Rattle.mrt_graph.proofs.HeldRows.{folded_row, kept, nodes_held, row_kept}
 use Rattle.mrt_graph.proofs.cert.Cert.row.Goals as goal
 
-pub returns-clause-value : goal.returns-clause-value
-returns-clause-value c =
-    let self = c.args.self.now in
-    let rows = c.self.inside.rows.items in
-    let place = c.row_place.result in
-    let count : c.len.result ≡ length c.self.inside.nodes.items = omega (arith, c.len.ensures, c.self.inside.nodes.ok.0) in
-    let same : length self.nodes ≡ c.len.result = sym (count ∙ ap (λ (cert : Certificate). length cert.nodes) c.self.view_is) in
-    let within : place < length rows = rw (c.self.invariant.a_row_each, ← count) c.row_place.ensures.within in
-    row_at self c.len.result c.args.s c.args.t same (omega arith) (omega arith) c.requires.different ∙ ap (slice_get self.rows) (sym c.row_place.ensures.place)
-    ∙ ap (λ (cert : Certificate). slice_get cert.rows place) (sym c.self.view_is) ∙ slice_get_read rows (length rows) place c.index.result.now refl within c.index.ensures
+pub returns-in-Some-clause-value : goal.returns-in-Some-clause-value
+returns-in-Some-clause-value c =
+    let i = c.self.inside in
+    let same : (c.args.self.now).nodes ≡ i.nodes.items =
+    sym (ap (λ (cert : Certificate). cert.nodes) c.self.view_is) ∙ nodes_held i.nodes.items i.links.items i.rows.items i.relatives in
+    folded_row i.nodes.items i.links.items i.rows.items i.relatives c.in-Some.relatives c.args.self.now c.args.s c.args.t c.unfolded_row.result
+    c.self.view_is c.in-Some.is c.self.invariant
+    (subst (λ (ns : List CertNode). c.args.s < length ns) same c.requires.source) (subst (λ (ns : List CertNode). c.args.t < length ns) same c.requires.target) c.requires.different
+    (c.unfolded_row.ensures
+    ∙ ap (λ (ns : List CertNode). unfolded_row (certificate_of ns [] []) c.deref-in-Some.result.now c.args.s c.args.t) c.deref.ensures.value
+    ∙ ap (λ (rs : List Row). unfolded_row (certificate_of i.nodes.items [] []) rs c.args.s c.args.t) c.deref-in-Some.ensures.value)
+
+pub returns-in-Some-clause-within : goal.returns-in-Some-clause-within
+returns-in-Some-clause-within c =
+    let i = c.self.inside in
+    row_kept c.args.self.now c.args.s c.args.t c.unfolded_row.result (kept i.nodes.items i.links.items i.rows.items i.relatives c.args.self.now c.self.invariant c.self.view_is)
+    c.requires.source c.requires.target c.requires.different (returns-in-Some-clause-value c)

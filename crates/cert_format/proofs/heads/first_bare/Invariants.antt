@@ -1,6 +1,0 @@
-use Rattle.std.proofs.Common.{◌≡◌, ◌<◌, ℕ, false, not}
-use Rattle.std.specs.List.{slice_index_or}
-use Rattle.cert_format.proofs.heads.first_bare.Given as goal
-
-abbrev pub invariant-loop-v : goal.invariant-loop-v
-invariant-loop-v l = (x : ℕ) → x < l.v → not (slice_index_or l.placed x false) ≡ false

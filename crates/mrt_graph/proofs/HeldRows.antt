@@ -1,0 +1,56 @@
+-- The rows of a certificate, by what it holds.
+use Rattle.std.proofs.Common.{◌≡◌, ◌≢◌, ◌∙◌, ◌<◌, ℕ, true, List, [], ◌∷◌, Option, Some, None, filter, length, refl, sym, ap, subst}
+use Rattle.std.specs.List.{AllByRecursion}
+use Rattle.mrt_graph.specs.declared.cert.CertLink.{CertLink}
+use Rattle.mrt_graph.specs.declared.cert.CertNode.{CertNode}
+use Rattle.mrt_graph.specs.declared.cert.Row.{Row}
+use Rattle.mrt_graph.specs.Certificate.{Certificate, IsCertificate, IsCertRow, certificate_of, row_of}
+use Rattle.mrt_graph.specs.Foldable.{IsFoldable}
+use Rattle.mrt_graph.specs.FoldedRows.{IsHeld, IsIndexed, held, unfolded_row}
+use Rattle.mrt_graph.specs.Kin.{Kin}
+use Rattle.mrt_graph.specs.RowPlace.{place_of_row}
+use Rattle.mrt_graph.specs.Tags.{is_near}
+use Rattle.mrt_graph.proofs.ListTests.{all_at}
+use Rattle.mrt_graph.proofs.RowPlaces.{row_at}
+use Rattle.mrt_graph.proofs.Unfolding.{folds, row_is, same_near}
+
+-- what an index says
+pub indexed : (nodes : List CertNode) (links : List CertLink) (rows : List Row) (o : Option Kin) (kin : Kin) → IsHeld nodes links rows o → o ≡ Some kin → IsIndexed nodes links rows kin
+indexed nodes links rows o kin is some = (subst (IsHeld nodes links rows) some is).1
+
+pub kept : (nodes : List CertNode) (links : List CertLink) (rows : List Row) (o : Option Kin) (cert : Certificate) → IsHeld nodes links rows o → held nodes links rows o ≡ cert → IsCertificate cert
+kept nodes links rows o cert is same = subst IsCertificate same is.0
+
+pub foldable_held : (nodes : List CertNode) (links : List CertLink) (rows : List Row) (o : Option Kin) (kin : Kin) (cert : Certificate) → IsHeld nodes links rows o
+    → o ≡ Some kin → held nodes links rows o ≡ cert → IsFoldable cert
+foldable_held nodes links rows o kin cert is some same =
+    subst IsFoldable (sym (ap (held nodes links rows) some) ∙ same) (folds nodes rows (indexed nodes links rows o kin is some).folded.unfolds links)
+
+-- the nodes are those that it holds
+pub nodes_held : (nodes : List CertNode) (links : List CertLink) (rows : List Row) (o : Option Kin) → (held nodes links rows o).nodes ≡ nodes
+nodes_held nodes links rows None = refl
+nodes_held nodes links rows (Some kin) = refl
+
+pub near_held : (nodes : List CertNode) (links : List CertLink) (rows : List Row) (o : Option Kin) → IsHeld nodes links rows o → filter is_near rows ≡ filter is_near (held nodes links rows o).rows
+near_held nodes links rows None is = refl
+near_held nodes links rows (Some kin) is = filter_near rows is.1.folded.unfolds.rows_near ∙ sym (same_near nodes rows is.1.folded.unfolds)
+  where
+    filter_near : (xs : List Row) → AllByRecursion (λ row. is_near row ≡ true) xs → filter is_near xs ≡ xs
+    filter_near [] all = refl
+    filter_near (x ∷ xs) all = rw all.0 (ap (λ (ys : List Row). x ∷ ys) (filter_near xs all.1))
+
+-- ---- one row
+
+pub folded_row : (nodes : List CertNode) (links : List CertLink) (rows : List Row) (o : Option Kin) (kin : Kin) (cert : Certificate) (s t : ℕ) (row : Row)
+    → held nodes links rows o ≡ cert → o ≡ Some kin → IsHeld nodes links rows o → s < length nodes → t < length nodes → s ≢ t
+    → row ≡ unfolded_row (certificate_of nodes [] []) rows s t → row_of cert s t ≡ Some row
+folded_row nodes links rows o kin cert s t row same some is s_within t_within two row_as =
+    sym (ap (λ (c : Certificate). row_of c s t) (sym (ap (held nodes links rows) some) ∙ same))
+    ∙ row_is nodes rows (indexed nodes links rows o kin is some).folded.unfolds links s t s_within t_within two ∙ ap (λ (r : Row). Some r) (sym row_as)
+
+-- its links are in range
+pub row_kept : (cert : Certificate) (s t : ℕ) (row : Row) → IsCertificate cert → s < length cert.nodes → t < length cert.nodes → s ≢ t
+    → row_of cert s t ≡ Some row → IsCertRow (length cert.links) row
+row_kept cert s t row is s_within t_within two at =
+    all_at (IsCertRow (length cert.links)) cert.rows (place_of_row (length cert.nodes) s t) row is.rows_kept
+    (sym (row_at cert (length cert.nodes) s t refl s_within t_within two) ∙ at)
