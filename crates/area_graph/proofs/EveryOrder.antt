@@ -1,26 +1,26 @@
--- The area of settled records is the same in every order of the records.
-use Rattle.std.proofs.Common.{◌≡◌, ◌≤◌, ◌&&◌, false, List, [], ◌∷◌, Some, map, inl, inr, refl, sym, ap, subst, arith}
+-- Newest records that are the same instances have one area; so the area of settled records is the same in every order of the records.
+use Rattle.std.proofs.Common.{◌≡◌, ◌∙◌, ◌≤◌, ◌&&◌, false, List, [], ◌∷◌, Some, map, inl, inr, refl, sym, ap, subst, arith}
 use Rattle.std.specs.List.{AllByRecursion}
-use Rattle.std.specs.List.Sorted.{IsPermutation}
 use Rattle.std.proofs.lemmas.Bool.{cases_Bool}
-use Rattle.std.proofs.lemmas.List.Sorted.{IsPermutation-sym, Contains-permutation}
 use Rattle.std.proofs.lemmas.Option.{same_Some}
-use Rattle.mrt_graph.proofs.Members.{Has, all_filter_map, all_has, contains_from_has, has_filter, has_from_contains, is_from, none_pass}
+use Rattle.mrt_graph.proofs.Members.{Has, all_filter_map, all_has, contains_from_has, has_filter, has_from_contains, has_map, is_from, none_pass}
 use Rattle.mrt_graph.proofs.Tallies.{one_if, tally, tally_map, tally_none}
 use Rattle.ospf_lsa.specs.declared.lsa.Lsa.{Lsa}
 use Rattle.lsdb.specs.declared.key.Key.{Key}
 use Rattle.lsdb.specs.Entries.{Entry, entry_of, entries_in}
 use Rattle.lsdb.specs.Installing.{IsKept}
+use Rattle.lsdb.specs.Instances.{HoldTheSameInstances}
 use Rattle.lsdb.specs.Keys.{key_of, same_key, is_of, keys_in}
 use Rattle.lsdb.specs.Newest.{is_newest, newest_of, IsSettled}
 use Rattle.lsdb.specs.Orders.{newest_in, timeless, AreReordered, HoldTheSame}
-use Rattle.lsdb.proofs.Agreements.{same_agree, reordered_same}
+use Rattle.lsdb.proofs.Agreements.{reordered_same}
 use Rattle.lsdb.proofs.Arrivals.{AreDistinct, keys_distinct}
 use Rattle.lsdb.proofs.Entered.{keys_of_newest}
-use Rattle.lsdb.proofs.Reordered.{newest_reordered}
 use Rattle.lsdb.proofs.Stores.{key_is}
+use Rattle.lsdb.proofs.SameInstances.{settled_instances}
+use Rattle.lsdb.proofs.Timeless.{timeless_is}
 use Rattle.area_graph.specs.AreaOf.{area_of}
-use Rattle.area_graph.proofs.Speaking.{SayAll, alike, same_area}
+use Rattle.area_graph.proofs.Speaking.{Alike, SayAll, alike, same_area}
 
 -- a newest instance of a key is one of the records
 chosen_by : (lsas : List Lsa) (key : Key) (entry : Entry) (instances : List Lsa) → newest_of lsas key ≡ instances → entry_of instances ≡ Some entry → Has lsas entry.lsa
@@ -65,21 +65,37 @@ kept_like x y same kept =
     let there : IsKept (timeless y) = subst IsKept same moved in
     record { type = there.type; body = there.body; own_id = there.own_id; metrics = there.metrics }
 
-say_all : (one other : List Lsa) → IsPermutation (map timeless one) (map timeless other) → SayAll one other
-say_all one other moves = λ said has.
-    has_from_contains (map timeless other) said (Contains-permutation (map timeless one) (map timeless other) said moves (contains_from_has (map timeless one) said has))
-
--- settled records that hold the same LSAs have the same area
-pub same_records : (lsas others : List Lsa) → AllByRecursion IsKept lsas → IsSettled lsas → HoldTheSame lsas others → area_of (newest_in lsas) ≡ area_of (newest_in others)
-same_records lsas others kept settled same =
-    let moves = newest_reordered lsas others (same_agree lsas others same) settled in
-    let there = say_all (newest_in lsas) (newest_in others) moves in
-    let back = say_all (newest_in others) (newest_in lsas) (IsPermutation-sym (map timeless (newest_in lsas)) (map timeless (newest_in others)) moves) in
+-- newest records that say the same have the same area
+area_by_saying : (lsas others : List Lsa) → AllByRecursion IsKept lsas → SayAll (newest_in lsas) (newest_in others) → SayAll (newest_in others) (newest_in lsas)
+    → area_of (newest_in lsas) ≡ area_of (newest_in others)
+area_by_saying lsas others kept there back =
     let kept_one : (lsa : Lsa) → Has (newest_in lsas) lsa → IsKept lsa = λ lsa has. all_has IsKept lsas lsa kept (chosen lsas lsa has) in
     let kept_other : (lsa : Lsa) → Has (newest_in others) lsa → IsKept lsa = λ lsa has.
     let origin = alike (newest_in others) (newest_in lsas) lsa back has in
     kept_like origin.other lsa origin.same (kept_one origin.other origin.there) in
     same_area (newest_in lsas) (newest_in others) (record { kept = kept_one; once = chosen_once lsas }) (record { kept = kept_other; once = chosen_once others }) there back
+
+-- where each LSA of a list has its like in another, the other says all that the list says
+say_alike : (one other : List Lsa) → ((lsa : Lsa) → Has one lsa → Alike other lsa) → SayAll one other
+say_alike one other each = λ said has.
+    let from = is_from timeless one said has in
+    let like = each from.origin from.there in
+    subst (Has (map timeless other)) (like.same ∙ from.is) (has_map timeless other like.other like.there)
+
+-- newest records that are the same instances have the same area
+pub same_instances : (lsas others : List Lsa) → AllByRecursion IsKept lsas → HoldTheSameInstances (newest_in lsas) (newest_in others) → area_of (newest_in lsas) ≡ area_of (newest_in others)
+same_instances lsas others kept hold =
+    area_by_saying lsas others kept
+    (say_alike (newest_in lsas) (newest_in others) (λ lsa has.
+    let like = hold.there lsa (contains_from_has (newest_in lsas) lsa has) in
+    record { other = like.0; there = has_from_contains (newest_in others) like.0 like.1; same = sym (timeless_is lsa like.0 like.2.alike like.2.max_age) }))
+    (say_alike (newest_in others) (newest_in lsas) (λ lsa has.
+    let like = hold.back lsa (contains_from_has (newest_in others) lsa has) in
+    record { other = like.0; there = has_from_contains (newest_in lsas) like.0 like.1; same = timeless_is like.0 lsa like.2.alike like.2.max_age }))
+
+-- and so settled records that hold the same LSAs
+pub same_records : (lsas others : List Lsa) → AllByRecursion IsKept lsas → IsSettled lsas → HoldTheSame lsas others → area_of (newest_in lsas) ≡ area_of (newest_in others)
+same_records lsas others kept settled same = same_instances lsas others kept (settled_instances lsas others same settled)
 
 pub same_in_every_order : (lsas others : List Lsa) → AllByRecursion IsKept lsas → IsSettled lsas → AreReordered lsas others → area_of (newest_in lsas) ≡ area_of (newest_in others)
 same_in_every_order lsas others kept settled reordered = same_records lsas others kept settled (reordered_same lsas others reordered)

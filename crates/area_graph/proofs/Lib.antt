@@ -11,6 +11,7 @@ pub mod Kept
 pub mod Speaking
 pub mod EveryOrder
 pub mod FewBonds
+pub mod InRange
 pub mod Foremost
 pub mod Alongside
 pub mod OneOfEachNode

@@ -1,6 +1,6 @@
 -- Lists of LSAs that say the same have the same nodes, and so the same area.
-use Rattle.std.proofs.Common.{◌≡◌, ◌∙◌, ◌≤◌, ◌%◌, ◌^◌, ◌&&◌, ◌++◌, Bool, true, false, not, List, [], ◌∷◌, if◌then◌else◌, map, inl, inr, refl, sym, ap, subst, arith}
-use Rattle.std.specs.Prelude.{nat_le, nat_lt}
+use Rattle.std.proofs.Common.{◌≡◌, ◌∙◌, ◌≤◌, ◌&&◌, ◌++◌, Bool, true, false, not, List, [], ◌∷◌, map, inl, inr, refl, sym, ap, subst, arith}
+use Rattle.std.specs.Prelude.{nat_lt}
 use Rattle.std.specs.declared.cmp.Ordering.{Ordering}
 use Rattle.std.specs.declared.cmp.Ordering.TheVariants.{Less, Equal, Greater}
 use Rattle.std.specs.Cmp.{IsTotalOrder}
@@ -22,6 +22,7 @@ use Rattle.lsdb.specs.Orders.{timeless}
 use Rattle.ospf_lsa.specs.MaxAge.{is_at_max_age}
 use Rattle.lsdb.specs.declared.key.Key.{Key}
 use Rattle.lsdb.proofs.Arrivals.{own_key}
+use Rattle.lsdb.proofs.Timeless.{same_age}
 use Rattle.area_graph.specs.Arcs.{arcs_among}
 use Rattle.area_graph.specs.AreaOf.{area_of, area_with}
 use Rattle.area_graph.specs.Entries.{entries_of, entries_in}
@@ -30,13 +31,6 @@ use Rattle.area_graph.specs.Parts.{AreaParts}
 use Rattle.area_graph.proofs.OneOfEachNode.{one_id, one_kind}
 use Rattle.mrt_graph.proofs.SameIds.{flipped, same_itself}
 use Rattle.area_graph.proofs.OrderedMembers.{has_in_order, tally_in_order}
-
-age_by : (b : Bool) → nat_le 3600 ((if b then 3600 else 0) % 2 ^ 15) ≡ b
-age_by true = refl
-age_by false = refl
-
-pub same_age : (x y : Lsa) → timeless x ≡ timeless y → is_at_max_age x ≡ is_at_max_age y
-same_age x y same = sym (age_by (is_at_max_age x)) ∙ ap is_at_max_age same ∙ age_by (is_at_max_age y)
 
 -- each LSA of the one list says what one of the other says
 abbrev pub SayAll : List Lsa → List Lsa → Type 0

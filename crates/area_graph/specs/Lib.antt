@@ -17,3 +17,4 @@ pub mod Starts
 pub mod AreaSize
 pub mod Named
 pub mod Fits
+pub mod Ranges

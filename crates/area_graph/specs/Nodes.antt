@@ -1,5 +1,5 @@
 -- The nodes of an area, and the LSA that speaks for each (RFC 2328, section 16.1).
-use Rattle.std.specs.Prelude.{ℕ, Bool, not, ◌&&◌, ◌==◌, nat_lt, List, map, if◌then◌else◌}
+use Rattle.std.specs.Prelude.{Bool, not, ◌&&◌, ◌==◌, nat_lt, List, map, if◌then◌else◌}
 use Rattle.std.specs.List.{filter, list_any}
 use Rattle.std.specs.Ordering.{on}
 use Rattle.mrt_graph.specs.NodeOrder.{node_id_cmp}

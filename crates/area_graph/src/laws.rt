@@ -1,9 +1,9 @@
-//! A law over the records of a database. It holds of the definitions alone; the function does nothing.
+//! Laws over the records of databases. They hold of the definitions alone; the functions do nothing.
 
 ghost use Rattle.std.specs.Prelude.{◌≡◌, List};
 ghost use Rattle.std.specs.List.{AllByRecursion};
 ghost use Rattle.ospf_lsa.specs.declared.lsa.Lsa.{Lsa};
-ghost use Rattle.lsdb.specs.{Installing.IsKept, Newest.IsSettled};
+ghost use Rattle.lsdb.specs.{Installing.IsKept, Instances.HoldTheSameInstances, Newest.IsSettled};
 ghost use Rattle.lsdb.specs.Orders.{newest_in, AreReordered, HoldTheSame};
 ghost use Rattle.area_graph.specs.AreaOf.{area_of};
 
@@ -13,5 +13,12 @@ pub fn the_same_records_give_the_same_area()
     ensures same { (lsas others : List Lsa) → AllByRecursion IsKept lsas → IsSettled lsas → HoldTheSame lsas others
         → area_of (newest_in lsas) ≡ area_of (newest_in others) }
     ensures reordered { (lsas others : List Lsa) → AllByRecursion IsKept lsas → IsSettled lsas → AreReordered lsas others
+        → area_of (newest_in lsas) ≡ area_of (newest_in others) }
+{}
+
+/// Newest records of two databases that are the same instances, each at an age of its own, give the same area.
+pub fn the_same_instances_give_the_same_area()
+    ensures { (lsas others : List Lsa) → AllByRecursion IsKept lsas
+        → HoldTheSameInstances (newest_in lsas) (newest_in others)
         → area_of (newest_in lsas) ≡ area_of (newest_in others) }
 {}

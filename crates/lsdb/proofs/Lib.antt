@@ -13,6 +13,7 @@ pub mod Ranks
 pub mod Readings
 pub mod Reordered
 pub mod SameCounts
+pub mod SameInstances
 pub mod Settling
 pub mod Stores
 pub mod Tellings

@@ -1,6 +1,6 @@
 -- Instances that differ in nothing but place and the seconds of their age.
-use Rattle.std.proofs.Common.{◌≡◌, ◌∙◌, ℕ, ℤ, Bool, true, false, List, [], ◌∷◌, if◌then◌else◌, refl, ap}
-use Rattle.std.specs.Prelude.{nat_eq}
+use Rattle.std.proofs.Common.{◌≡◌, ◌∙◌, ◌%◌, ◌^◌, ℕ, ℤ, Bool, true, false, List, [], ◌∷◌, if◌then◌else◌, refl, sym, ap}
+use Rattle.std.specs.Prelude.{nat_eq, nat_le}
 use Rattle.std.specs.Cmp.Lexicographic.{pointwise}
 use Rattle.std.specs.Ordering.{int_cmp, nat_cmp, bool_cmp, ordering_then, is_gt}
 use Rattle.std.specs.declared.cmp.Ordering.{Ordering}
@@ -94,6 +94,14 @@ pub timeless_is : (a b : Lsa) → same_but_age a b ≡ true → is_at_max_age a 
 timeless_is a b same aged =
     same_parts a b 0 (if is_at_max_age a then max_age else 0) same
     ∙ ap (λ (g : Bool). record b { at = 0; age = if g then max_age else 0 }) aged
+
+age_by : (b : Bool) → nat_le 3600 ((if b then 3600 else 0) % 2 ^ 15) ≡ b
+age_by true = refl
+age_by false = refl
+
+-- so both are at MaxAge, or neither is
+pub same_age : (x y : Lsa) → timeless x ≡ timeless y → is_at_max_age x ≡ is_at_max_age y
+same_age x y same = sym (age_by (is_at_max_age x)) ∙ ap is_at_max_age same ∙ age_by (is_at_max_age y)
 
 aged_from : (sequence checksum : Ordering) (a b : Bool)
     → ordering_then (ordering_then sequence checksum) (bool_cmp a b) ≡ Equal → a ≡ b

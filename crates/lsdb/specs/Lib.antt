@@ -10,3 +10,4 @@ pub mod Orders
 pub mod Changes
 pub mod Disagreements
 pub mod Database
+pub mod Instances

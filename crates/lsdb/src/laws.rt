@@ -5,6 +5,7 @@ ghost use Rattle.ospf_lsa.specs.{declared.lsa.Lsa.Lsa, Lsas.IsLsa, Types.network
 ghost use Rattle.lsdb.specs.Changes.{HasRankOfFirst, IsOfNewKey, IsOutranked, OutranksAll};
 ghost use Rattle.lsdb.specs.{Conflicts.least_conflict, Disagreements.IsFirstConflictOf, Entries.entries_in, Installing.installed, Installing.IsKept};
 ghost use Rattle.lsdb.specs.{Installs.all_installed, Installs.AreBehind, Newest.newest_of, Newest.IsSettled, declared.change.Conflict.Conflict};
+ghost use Rattle.lsdb.specs.Instances.{DifferInMaxAge, HoldTheSameButAge, HoldTheSameInstances};
 ghost use Rattle.lsdb.specs.declared.key.Key.{Key};
 ghost use Rattle.lsdb.specs.Keys.{key_of, keys_in, AreDistinct};
 ghost use Rattle.lsdb.specs.Orders.{newest_in, timeless, AreReordered, HoldTheSame};
@@ -57,7 +58,7 @@ pub fn each_change_is_told_of_the_list()
 
 /// Lists that hold the same LSAs but for their places, in whatever order and number, have the same newest instances of
 /// each key, ages included, and the same keys, and are settled together. Where they are, the first newest instances of
-/// each key differ in nothing but place and age field, and are at MaxAge together.
+/// each key differ in nothing but place and age field, and are at MaxAge together: they are the same instances.
 pub fn the_same_lsas_give_the_same_database()
     ensures newest { (lsas others : List Lsa) → HoldTheSame lsas others
         → (key : Key) → HoldTheSame (newest_of lsas key) (newest_of others key) }
@@ -67,6 +68,8 @@ pub fn the_same_lsas_give_the_same_database()
         → IsSettled lsas ↔ IsSettled others }
     ensures listed { (lsas others : List Lsa) → HoldTheSame lsas others → IsSettled lsas
         → IsPermutation (map timeless (newest_in lsas)) (map timeless (newest_in others)) }
+    ensures instances { (lsas others : List Lsa) → HoldTheSame lsas others → IsSettled lsas
+        → HoldTheSameInstances (newest_in lsas) (newest_in others) }
 {}
 
 /// A list in another order, the places left out, holds the same LSAs, and the newest instances of each key are the same
@@ -75,6 +78,13 @@ pub fn every_order_gives_the_same_newest_instances()
     ensures held { (lsas others : List Lsa) → AreReordered lsas others → HoldTheSame lsas others }
     ensures newest { (lsas others : List Lsa) → AreReordered lsas others
         → (key : Key) → AreReordered (newest_of lsas key) (newest_of others key) }
+{}
+
+/// Lists that hold the same LSAs but for their places and ages hold the same instances, or an LSA is at MaxAge in one of them
+/// and not in the other.
+pub fn instances_differ_in_max_age_alone()
+    ensures { (lsas others : List Lsa) → HoldTheSameButAge lsas others
+        → HoldTheSameInstances lsas others ⊎ DifferInMaxAge lsas others }
 {}
 
 /// An LSA without a fault that is a router-LSA or a network-LSA may be installed, but for its place.

@@ -15,8 +15,9 @@ pub use key::Key;
 pub use laws::{
     an_lsa_without_a_fault_may_be_installed, each_change_is_told_of_the_list,
     each_key_has_one_first_newest_instance, entries_are_those_of_the_list,
-    every_order_gives_the_same_newest_instances, refuses_exactly_where_not_settled,
-    tells_the_first_conflict, the_same_lsas_give_the_same_database,
+    every_order_gives_the_same_newest_instances, instances_differ_in_max_age_alone,
+    refuses_exactly_where_not_settled, tells_the_first_conflict,
+    the_same_lsas_give_the_same_database,
 };
 pub use lsdb::Lsdb;
 pub use meet::change_of;

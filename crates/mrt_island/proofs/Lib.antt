@@ -4,7 +4,9 @@ pub mod Counting
 pub mod Fitting
 pub mod Flagging
 pub mod GraphOfIsland
+pub mod IslandExists
 pub mod Joined
+pub mod KeptIsland
 pub mod LinkNumbers
 pub mod LinkParts
 pub mod OneIsland

@@ -18,7 +18,9 @@ mod settling;
 
 pub use island::{Island, find_island};
 pub use island_error::IslandError;
-pub use island_law::{a_router_has_one_island, an_island_is_that_of_each_router_in_it};
+pub use island_law::{
+    a_router_has_one_island, an_island_is_that_of_each_router_in_it, what_an_island_keeps,
+};
 pub use profile::Profile;
 pub use profile_error::{ProfileError, ProfileKind};
 pub use profile_law::lines_are_settings_or_have_a_fault;
