@@ -4,7 +4,7 @@ pub mod Databases
 pub mod Islands
 pub mod MadeNetworks
 pub mod OneAnswer
-pub mod OneCertificate
+pub mod OneNetwork
 pub mod OneProxy
 pub mod OneReading
 pub mod OneTable

@@ -128,7 +128,7 @@ entered lsa enters = elim (or_cases (lsa.kind == 1) (lsa.kind == 2) enters) [
 ]
 
 -- those of a database's LSAs that enter may stand in one
-all_stand : AreaLaws → (at : ℕ) (lsas : List Lsa) → AreLsas at lsas → AllByRecursion IsKept (entering lsas)
+pub all_stand : AreaLaws → (at : ℕ) (lsas : List Lsa) → AreLsas at lsas → AllByRecursion IsKept (entering lsas)
 all_stand laws at [] are = tt
 all_stand laws at (lsa ∷ rest) are = go (is_area_lsa lsa) refl (all_stand laws (at + lsa_length lsa) rest are.2)
   where

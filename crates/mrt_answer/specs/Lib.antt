@@ -3,6 +3,7 @@ pub mod Forms
 pub mod Input
 pub mod Islands
 pub mod Made
+pub mod Network
 pub mod Reading
 pub mod Surveyed
 pub mod TextBytes

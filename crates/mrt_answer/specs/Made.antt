@@ -1,4 +1,4 @@
--- What texts are made from. No contract of a public function cites it.
+-- What texts and rows are made from.
 use Rattle.std.specs.Prelude.{◌<◌, length, ◌≡◌, ◌↔◌, ℕ, Contains, List, Some, slice_get}
 use Rattle.area_graph.specs.Fits.{Fits}
 use Rattle.mrt_graph.specs.Certificate.{Certificate, row_of}

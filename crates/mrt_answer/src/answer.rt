@@ -6,7 +6,7 @@ ghost use Rattle.mrt_words.specs.Files.{database_limit, profile_limit};
 ghost use Rattle.mrt_words.specs.Kept.{AreBytesOf, IsWorkWithin, IsWorkFor};
 ghost use Rattle.mrt_answer.specs.{Forms.of_router, Forms.of_task, Forms.over, TextBytes.IsTextAnswer};
 
-use crate::certificate::certificate;
+use crate::certificate::certify;
 use crate::events::run_of_bytes;
 use crate::given::Given;
 use crate::input::given_of;
@@ -53,7 +53,7 @@ fn answer_of_router(alloc: Global, given: &Given, task: RouterTask) -> Result<Te
     ensures { IsTextAnswer (of_router task given.now) result }
 {
     match task {
-        RouterTask::Certify { router } => certificate(alloc, given, router),
+        RouterTask::Certify { router } => certify(alloc, given, router),
         RouterTask::Table { router } => table(alloc, given, router),
         RouterTask::Trace { trace: asked } => trace(alloc, given, &asked),
         RouterTask::Lfa { router } => loop_free(alloc, given, router),

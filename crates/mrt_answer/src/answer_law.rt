@@ -1,15 +1,13 @@
 //! What holds of answers.
 
-ghost use Rattle.std.specs.Prelude.{◌≡◌, ◌≤◌, ℕ, List, Ok, Contains, length};
-ghost use Rattle.mrt_graph.specs.NodeIds.{router as router_node};
+ghost use Rattle.std.specs.Prelude.{◌≡◌, ◌≤◌, ℕ, List, Ok, length};
 ghost use Rattle.fabric.specs.{FabricParts.ArePartsKept, FabricParts.FabricParts, Served.AreRowsOn, declared.event.Event.Event};
 ghost use Rattle.flood_verdict.specs.{Alike.ComparesAlike, Alike.IsToldAlike, Says.Says};
 ghost use Rattle.mrt_words.specs.{FileBytes.FileBytes, FileBytes.with_last, Files.certificate_limit, declared.task.RouterTask.TheVariants.Certify, Form.Task};
 ghost use Rattle.mrt_words.specs.declared.task.Task.TheVariants.{Check, Upgrade, OfRouter};
-ghost use Rattle.mrt_answer.specs.{Texts.IsComputedFile, Reading.HoldsFlood, Forms.flooded, Forms.over, Input.Input, Input.area, Islands.island_in, Texts.ArePartsIn};
+ghost use Rattle.mrt_answer.specs.{Reading.HoldsFlood, Forms.flooded, Forms.over, Input.Input, Input.area, Islands.island_in, Texts.ArePartsIn};
 ghost use Rattle.mrt_answer.specs.{Reading.input_of, Surveyed.IsSurveyed};
 ghost use Rattle.mrt_exit.specs.Steps.{IsOne};
-ghost use Rattle.mrt_graph.specs.declared.cert.CertFile.{CertFile};
 ghost use Rattle.mrt_island.specs.declared.island.Island.{Island};
 ghost use Rattle.area_graph.specs.Parts.{AreaParts};
 
@@ -89,22 +87,6 @@ pub fn what_is_certified_passes()
     the_newest_records_give_an_area();
     an_island_is_that_of_each_router_in_it();
     one_spelling();
-}
-
-/// A law: for the routers of one island one graph, one root and one certificate are computed. It is the one that `certify` gives for
-/// each of them, and each one's table has its rows of it.
-pub fn an_island_has_one_certificate()
-    ensures { (database profile : List ℕ) (input : Input) → input_of database profile (Ok input)
-        → (router other : ℕ) (one two : Island) → island_in input router (Ok one) → island_in input other (Ok two)
-        → Contains one.graph.ids (router_node other)
-        → (file second : CertFile) → IsComputedFile one.graph one.root file → IsComputedFile two.graph two.root second
-        → (one.graph ≡ two.graph) × (one.root ≡ two.root) × (file ≡ second) }
-{
-    an_lsa_without_a_fault_may_be_installed();
-    the_newest_records_give_an_area();
-    a_router_has_one_island();
-    an_island_is_that_of_each_router_in_it();
-    one_certificate();
 }
 
 /// Laws: what the steps of packets read fits together, and there are rows for all destinations, so that the laws of

@@ -1,7 +1,8 @@
 //! `certify DB PROFILE ROUTER`: the certificate of a router's island.
 
-ghost use Rattle.std.specs.Prelude.{◌≡◌, None};
-ghost use Rattle.mrt_answer.specs.{Forms.certified, TextBytes.IsTextAnswer};
+ghost use Rattle.std.specs.Prelude.{◌≡◌, ◌<◌, None, length};
+ghost use Rattle.mrt_answer.specs.{Forms.certified, TextBytes.IsTextAnswer, Texts.IsComputed};
+ghost use Rattle.mrt_exit.specs.Steps.{such};
 
 use crate::given::Given;
 use crate::island::island_in;
@@ -13,14 +14,22 @@ use mrt_island::Island;
 use mrt_rows::certificates_are_accepted;
 use std::alloc::Global;
 
-/// The certificate that is computed for the island of a router, the rows of which are found as they are written.
+/// The certificate that is computed for the island of a router.
 #[tactic(auto, using(crate::proofs::TextSteps::ends_first))]
-pub(crate) fn certificate(alloc: Global, given: &Given, router: u32) -> Result<Text, Exit>
+pub fn certify(alloc: Global, given: &Given, router: u32) -> Result<Text, Exit>
     ensures { IsTextAnswer (certified given.now router) result }
+{
+    let island = island_in(alloc, given, router)?;
+    certify_island(alloc, island)
+}
+
+/// The certificate that is computed for an island, the rows of which are found as they are written.
+pub fn certify_island(alloc: Global, island: Island) -> Result<Text, Exit>
+    requires { island.root < length island.graph.ids }
+    ensures { IsTextAnswer (such (IsComputed island.graph island.root)) result }
 {
     certificates_are_accepted();
     accepted_implies_sound();
-    let island = island_in(alloc, given, router)?;
     let Island { graph, root, .. } = island;
     Ok(Text::Found(CertStream::new(alloc, graph, root)?))
 }

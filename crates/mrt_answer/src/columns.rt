@@ -9,7 +9,7 @@ use mrt_rows::{RootedColumns, certificates_are_accepted};
 use std::alloc::Global;
 
 /// What makes so many columns of the certificate of a graph from its root.
-pub(crate) fn columns_of(
+pub fn columns_of(
     alloc: Global,
     g: &Graph,
     root: NodeNo,

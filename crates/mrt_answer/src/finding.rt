@@ -10,7 +10,7 @@ use mrt_exit::Exit;
 use mrt_graph::{Graph, NodeId, NodeNo};
 
 /// The number of a router in an island.
-pub(crate) fn node_of(graph: &Graph, router: u32) -> Result<NodeNo, Exit>
+pub fn node_of(graph: &Graph, router: u32) -> Result<NodeNo, Exit>
     ensures { IsAnswer (place_of graph.now.ids router) result }
 {
     match graph.find(NodeId::router(router)) {
@@ -30,7 +30,7 @@ pub(crate) fn spot_of(area: &Area, router: u32) -> Result<Spot, Exit>
 }
 
 /// The number in an island of a router that is in it.
-pub(crate) fn own_node(graph: &Graph, router: u32) -> Result<NodeNo, Exit>
+pub fn own_node(graph: &Graph, router: u32) -> Result<NodeNo, Exit>
     requires { Contains graph.now.ids (router_node router) }
     ensures { IsAnswer (own_place graph.now.ids router) result }
 {
@@ -38,7 +38,7 @@ pub(crate) fn own_node(graph: &Graph, router: u32) -> Result<NodeNo, Exit>
 }
 
 /// The number in an area of a router that is in it.
-pub(crate) fn own_spot(area: &Area, router: u32) -> Result<Spot, Exit>
+pub fn own_spot(area: &Area, router: u32) -> Result<Spot, Exit>
     requires { Contains area.now.ids (router_node router) }
     ensures { IsAnswer (own_place area.now.ids router) result }
 {

@@ -5,7 +5,7 @@ use mrt_island::Profile;
 use std::marker::Model;
 
 /// A database whose LSAs do not contradict each other, and a profile.
-pub(crate) struct Given {
+pub struct Given {
     pub(crate) database: Lsdb,
     pub(crate) profile: Profile,
 }

@@ -17,7 +17,7 @@ use std::alloc::Global;
 
 /// The database and the profile that the bytes are.
 #[tactic(auto, using(mrt_exit::proofs::Stepping::early, mrt_exit::proofs::Stepping::late))]
-pub(crate) fn given_of(alloc: Global, database: &[u8], profile: &[u8]) -> Result<Given, Exit>
+pub fn given_of(alloc: Global, database: &[u8], profile: &[u8]) -> Result<Given, Exit>
     requires database { length database.now ≤ database_limit }
     requires profile { length profile.now ≤ profile_limit }
     ensures { IsAnswer (input_of database.now profile.now) result }

@@ -16,7 +16,7 @@ use mrt_island::{Island, IslandError, Profile, find_island};
 use std::alloc::Global;
 
 /// The island of a router under the profile.
-pub(crate) fn island_in(alloc: Global, given: &Given, router: u32) -> Result<Island, Exit>
+pub fn island_in(alloc: Global, given: &Given, router: u32) -> Result<Island, Exit>
     ensures island { IsAnswer (island_step given.now router) result }
     ensures root { IfOk result (λ island. island.root < length island.graph.ids) }
 {

@@ -12,6 +12,7 @@ mod given;
 mod input;
 mod island;
 mod loop_free;
+mod network_law;
 mod order;
 mod packets;
 mod proxy;
@@ -25,10 +26,21 @@ mod verdict;
 
 pub use answer::answer_of_files;
 pub use answer_law::{
-    alike_deliveries_are_told_alike, an_island_has_one_certificate, one_answer_comes,
-    what_is_certified_passes, what_steps_read_fits_together,
+    alike_deliveries_are_told_alike, one_answer_comes, what_is_certified_passes,
+    what_steps_read_fits_together,
 };
+pub use certificate::{certify, certify_island};
+pub use columns::columns_of;
+pub use finding::{node_of, own_node, own_spot};
 pub use flood::answer_of_flood;
+pub use given::Given;
+pub use input::given_of;
+pub use island::island_in;
+pub use network_law::routers_of_a_network_compute_one_certificate;
+pub use packets::{AreaAndIsland, area_and_island};
+pub use proxy::proxy_rows_by;
 pub use survey::answer_of_survey;
 pub use survey_law::made_networks_are_taken;
+pub use table::{Parts, row_by_column};
 pub use text::Text;
+pub use verdict::judge;

@@ -19,9 +19,9 @@ use primary_alt::Routes;
 use std::alloc::Global;
 
 /// The area of a database, and a router's island in it.
-pub(crate) struct AreaAndIsland {
-    pub(crate) area: Area,
-    pub(crate) island: Island,
+pub struct AreaAndIsland {
+    pub area: Area,
+    pub island: Island,
 }
 
 impl Drop for AreaAndIsland {
@@ -43,11 +43,7 @@ impl Drop for Tables {
 }
 
 /// The area, and a router's island.
-pub(crate) fn area_and_island(
-    alloc: Global,
-    given: &Given,
-    router: u32,
-) -> Result<AreaAndIsland, Exit>
+pub fn area_and_island(alloc: Global, given: &Given, router: u32) -> Result<AreaAndIsland, Exit>
     ensures area { IfOk result (λ net. net.area ≡ area_with given.now) }
     ensures island { IfOk result (λ net. island_in given.now router (Ok net.island)) }
     ensures refused { IfErr result (IsDue (λ exit. island_in given.now router (Err exit))) }

@@ -1,9 +1,11 @@
 //! `proxy DB PROFILE ROUTER A B`: the rows for a prefix that is attached to two routers.
 
-ghost use Rattle.std.specs.Prelude.{◌≢◌, ◌<◌, IfOk, length};
+ghost use Rattle.std.specs.Prelude.{◌≡◌, ◌≢◌, ◌<◌, Err, IfErr, IfOk, length};
+ghost use Rattle.mrt_exit.specs.Due.{IsDue};
+ghost use Rattle.mrt_graph.specs.declared.cert.CertFile.{CertFile};
 ghost use Rattle.mrt_rows.specs.Rooted.{MakeColumns};
 ghost use Rattle.proxy_rows.specs.ProxyRows.{AreProxyRows};
-ghost use Rattle.mrt_answer.specs.{Made.IsAttachedBy, Made.HasComputed, Forms.proxied_for, Forms.proxied_in, Texts.proxied, TextBytes.IsTextAnswer};
+ghost use Rattle.mrt_answer.specs.{Made.IsAttachedBy, Made.HasComputed, Forms.proxied_for, Forms.proxied_in, Texts.IsComputedFile, Texts.proxied, TextBytes.IsTextAnswer};
 
 use crate::columns::columns_of;
 use crate::finding::node_of;
@@ -84,12 +86,37 @@ fn proxy_by(
     requires different { a ≢ b }
     ensures { IsTextAnswer (proxied graph.now root a b) result }
 {
+    let rows = proxy_rows_by(alloc, graph, root, columns, a, b)?;
+    bytes_answer(proxy_text_of(alloc, graph, root, a, b, &rows))
+}
+
+/// The rows of all nodes for that prefix, by what makes the columns of that certificate.
+pub fn proxy_rows_by(
+    alloc: Global,
+    graph: &Graph,
+    root: NodeNo,
+    columns: &mut RootedColumns,
+    a: NodeNo,
+    b: NodeNo,
+) -> Result<Vec<ProxyRow>, Exit>
+    requires root { root < length graph.now.ids }
+    requires made { MakeColumns graph.now columns.old }
+    requires computed { HasComputed graph.now root columns.old }
+    requires first { a < length graph.now.ids }
+    requires second { b < length graph.now.ids }
+    requires different { a ≢ b }
+    ensures rows { IfOk result (λ rows. (file : CertFile) × IsComputedFile graph.now root file
+        × AreProxyRows graph.now file.cert a b rows.items) }
+    ensures none { IfErr result (IsDue (λ exit. proxied graph.now root a b (Err exit))) }
+    ensures still_made { MakeColumns graph.now columns.new }
+    ensures still_root { columns.new.root ≡ columns.old.root }
+{
     let nodes = columns.nodes(alloc, graph)?;
     let Some(at) = attach(&nodes, a, b) else {
         return Err(Exit::NoCommonBlock);
     };
     let rows = rows_at(alloc, graph, columns, &nodes, &at)?;
-    bytes_answer(proxy_text_of(alloc, graph, root, a, b, &rows))
+    Ok(rows)
 }
 
 /// The rows at an attachment, by the words on all links and by the column for its head.
@@ -103,8 +130,10 @@ fn rows_at(
     requires made { MakeColumns graph.now columns.old }
     requires head { at.now.head < length graph.now.ids }
     requires attached { IsAttachedBy graph.now columns.old nodes.now at.now }
-    ensures { (by : IsAttachedBy graph.now columns.old nodes.now at.now)
+    ensures rows { (by : IsAttachedBy graph.now columns.old nodes.now at.now)
         → IfOk result (λ rows. AreProxyRows graph.now by.own.file.cert by.a by.b rows.items) }
+    ensures still_made { MakeColumns graph.now columns.new }
+    ensures still_root { columns.new.root ≡ columns.old.root }
 {
     let links = columns.links(alloc, graph)?;
     columns.aim(graph, at.head);

@@ -4,7 +4,7 @@ ghost use Rattle.std.specs.Prelude.{◌≡◌, ◌≢◌, ◌<◌, IfOk, Contain
 ghost use Rattle.area_graph.specs.Fits.{Fits};
 ghost use Rattle.mrt_graph.specs.{declared.cert.CertFile.CertFile, GraphInvariant.IsNetwork, NodeIds.router as router_node};
 ghost use Rattle.text_parts.specs.Adds.{Adds};
-ghost use Rattle.mrt_report.specs.{AddsLines.AddsLines, ByColumn.IsLineByColumn, TableText.IsTableText};
+ghost use Rattle.mrt_report.specs.{AddsLines.AddsLines, ByColumn.IsLineByColumn, ByColumn.IsRowByColumn, TableText.IsTableText};
 ghost use Rattle.mrt_rows.specs.{CertOf.IsCertOf, Rooted.MakeColumns};
 ghost use Rattle.mrt_answer.specs.{Texts.IsComputedFile, Forms.table_in as table_step, Forms.tabled, Made.AreParts, Made.with_cert, TextBytes.IsTextAnswer};
 
@@ -16,7 +16,7 @@ use crate::text::{Text, bytes_answer};
 use area_graph::Area;
 use mrt_exit::Exit;
 use mrt_graph::{Graph, LinkNo, NoMemory, NodeNo};
-use mrt_report::{lines_make_the_table, primary_for, push_table_line, table_head};
+use mrt_report::{TableRow, lines_make_the_table, primary_for, push_row, table_head, table_row};
 use mrt_rows::RootedColumns;
 use primary_alt::{Primary, primaries};
 use std::alloc::Global;
@@ -24,7 +24,7 @@ use std::alloc::Global;
 /// What the lines of a router's table are made from: the area; the island, with the island link that each bond of the
 /// area is, if it is one; the router, by its number in the island; and its primaries for all nodes of the area.
 #[derive(Clone, Copy)]
-struct Parts<'a> {
+pub struct Parts<'a> {
     pub area: &'a Area,
     pub island: &'a Graph,
     pub link_of: &'a [Option<LinkNo>],
@@ -140,11 +140,26 @@ fn push_line(
     ensures line { (file : CertFile) → IsCertOf parts.now.island.now columns.old.root file
         → IfOk result (λ _. Adds (IsLineByColumn (with_cert parts.now file.cert) to) text.old.items text.new.items) }
 {
+    let row = row_by_column(parts, columns, to);
+    push_row(text, &row)?;
+    Ok(())
+}
+
+/// The router's row for another node, by the certificate's rows for it, which are made as they are asked for.
+pub fn row_by_column(parts: &Parts, columns: &mut RootedColumns, to: NodeNo) -> TableRow
+    requires kept { AreParts parts.now }
+    requires made { MakeColumns parts.now.island.now columns.old }
+    requires target { to < length parts.now.island.now.ids }
+    requires different { parts.now.source ≢ to }
+    ensures root { columns.new.root ≡ columns.old.root }
+    ensures made { MakeColumns parts.now.island.now columns.new }
+    ensures row { (file : CertFile) → IsCertOf parts.now.island.now columns.old.root file
+        → IsRowByColumn (with_cert parts.now file.cert) to result }
+{
     columns.aim(parts.island, to);
     let column = columns.column(parts.island);
     let primary = primary_for(parts.area, parts.island, parts.primaries, to);
-    push_table_line(
-        text,
+    table_row(
         parts.area,
         parts.island,
         parts.link_of,
@@ -152,6 +167,5 @@ fn push_line(
         parts.source,
         to,
         primary,
-    )?;
-    Ok(())
+    )
 }

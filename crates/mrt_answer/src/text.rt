@@ -1,10 +1,10 @@
 //! The text of an answer.
 
-ghost use Rattle.std.specs.Prelude.{◌≡◌, ◌≤◌, ℕ, Err, List, Ok, length, IsOk, IfErr, IfOk, OnOk};
+ghost use Rattle.std.specs.Prelude.{◌≡◌, ◌-◌, ◌<◌, ◌≤◌, ◌^◌, ℕ, Err, List, Ok, length, IsOk, IfErr, IfOk, OnOk};
 ghost use Rattle.mrt_io.specs.{Counts.Rose, Writing.Gained, Writing.GainedPart};
 ghost use Rattle.mrt_answer.specs.TextBytes.{IsTextOf};
 
-use cert_format::WritableCert;
+use cert_format::{WritableCert, one_spelling};
 use cert_stream::CertStream;
 use mrt_exit::Exit;
 use mrt_graph::NoMemory;
@@ -32,7 +32,11 @@ impl Text {
         ensures succeeds { (bytes : List ℕ) → IsTextOf self bytes → K.healthy_for sink.old (length bytes) → IsOk result }
         ensures no_fault { (bytes : List ℕ) → IsTextOf self bytes → (n : ℕ) → K.healthy_for sink.old n → length bytes ≤ n
             → K.faults sink.new ≡ K.faults sink.old }
+        ensures stays_healthy { (bytes : List ℕ) → IsTextOf self bytes → (n : ℕ) → K.healthy_for sink.old n
+            → length bytes ≤ n → K.healthy_for sink.new (n - length bytes) }
+        ensures short { (bytes : List ℕ) → IsTextOf self bytes → length bytes < 2 ^ 64 }
     {
+        one_spelling();
         match self {
             Text::Line(line) => put_all(sink, line.bytes()),
             Text::Bytes(bytes) => put_all(sink, bytes.as_slice()),

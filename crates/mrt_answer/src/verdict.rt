@@ -49,7 +49,7 @@ fn verdict_on(graph: &Graph, root: NodeNo, file: &CertFile) -> Result<Text, Exit
 }
 
 /// Whether the certificate is accepted for the graph and its root.
-pub(crate) fn judge(graph: &Graph, root: NodeNo, file: &CertFile) -> Result<(), Exit>
+pub fn judge(graph: &Graph, root: NodeNo, file: &CertFile) -> Result<(), Exit>
     requires { root < length graph.now.ids }
     ensures { IsAnswer (judged graph.now root file.now) result }
 {

@@ -143,7 +143,7 @@ pub fn run<F: Shelf, K: Sink, E: Sink>(
 }
 
 /// The text that the words give, or else the exit that says why they give none.
-fn text_for<F: Shelf>(alloc: Global, words: &[Word], shelf: &mut F) -> Result<Text, Exit>
+pub fn text_for<F: Shelf>(alloc: Global, words: &[Word], shelf: &mut F) -> Result<Text, Exit>
     ensures text { IfOk result (HasText (GivesText (F.held shelf.old) words.now)) }
     ensures cause { IfErr result (HasNoText words.now
         (shelf_over F.held F.healthy F.faults shelf.old shelf.new)) }

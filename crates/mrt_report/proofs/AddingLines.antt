@@ -22,21 +22,21 @@ filter_one : (p : ℕ → Bool) (xs : List ℕ) (x : ℕ) → filter p (xs ++ x 
 filter_one p xs x = filter-append p xs (x ∷ [])
 
 -- the router itself is passed over
-others_same : (n source : ℕ) → n ≡ source → others (suc n) source ≡ others n source
+pub others_same : (n source : ℕ) → n ≡ source → others (suc n) source ≡ others n source
 others_same n source same =
     ap (filter (λ k. not (k == source))) (from_zero n) ∙ filter_one (λ k. not (k == source)) (range_with_len 0 n) n
     ∙ rw (eq-eqb n source same) (append-nil (others n source))
 
 -- each other node is one more
-others_more : (n source : ℕ) → n ≢ source → others (suc n) source ≡ others n source ++ n ∷ []
+pub others_more : (n source : ℕ) → n ≢ source → others (suc n) source ≡ others n source ++ n ∷ []
 others_more n source other =
     ap (filter (λ k. not (k == source))) (from_zero n) ∙ filter_one (λ k. not (k == source)) (range_with_len 0 n) n
     ∙ rw (ne_eqb n source other) refl
 
-next : (n source : ℕ) → others (suc n) source ≡ others (n + 1) source
+pub next : (n source : ℕ) → others (suc n) source ≡ others (n + 1) source
 next n source = let same : suc n ≡ n + 1 = omega arith in ap (λ (k : ℕ). others k source) same
 
-zip_push : {A B : Type 0} (R : A → B → Type 0) (xs : List A) (ys : List B) (x : A) (y : B) → AllZip R xs ys → R x y → AllZip R (xs ++ x ∷ []) (ys ++ y ∷ [])
+pub zip_push : {A B : Type 0} (R : A → B → Type 0) (xs : List A) (ys : List B) (x : A) (y : B) → AllZip R xs ys → R x y → AllZip R (xs ++ x ∷ []) (ys ++ y ∷ [])
 zip_push R [] [] x y all last = (last, tt)
 zip_push R [] (b ∷ bs) x y all last = absurd all
 zip_push R (a ∷ more) [] x y all last = absurd all

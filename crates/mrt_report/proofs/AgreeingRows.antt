@@ -1,4 +1,4 @@
--- Lines by rows that agree for the destination.
+-- Rows and lines by rows that agree for the destination.
 use Rattle.std.proofs.Common.{◌≡◌, ◌↔◌, ℕ, List, Option, Some, None, subst}
 use Rattle.area_graph.specs.Parts.{AreaParts}
 use Rattle.mrt_graph.specs.declared.cert.Row.{Row}
@@ -7,9 +7,12 @@ use Rattle.mrt_graph.specs.Rows.{AreSameFor, Rows}
 use Rattle.mrt_graph.specs.Topology.{Topology}
 use Rattle.primary_alt.specs.declared.shortest.Primary.{Primary}
 use Rattle.primary_alt.proofs.AgreeingRows.{alternate_too, turned}
-use Rattle.mrt_report.specs.Letters.{AreArcElements, AreArcLetters, AreLetters, AreSecondLetters}
 use Rattle.mrt_report.specs.LineParts.{line_parts}
-use Rattle.mrt_report.specs.Lines.{AreColorWords, ArePrimaryWords, IsArcHop, IsLine, IsLinkHop}
+use Rattle.mrt_report.specs.Lines.{IsLine}
+use Rattle.mrt_report.specs.Repairs.{AreArcElements, AreArcRepairs, AreSecondRepairs}
+use Rattle.mrt_report.specs.Rows.{IsRow}
+use Rattle.mrt_report.specs.declared.row.ArcRepairs.{ArcRepairs}
+use Rattle.mrt_report.specs.declared.row.TableRow.{TableRow}
 
 module _ (area : AreaParts) (island : Topology) (link_of : List (Option ℕ)) (source to : ℕ) where
   same_elements : (rows others : Rows) (number : ℕ) (link far : Option Element)
@@ -24,82 +27,47 @@ module _ (area : AreaParts) (island : Topology) (link_of : List (Option ℕ)) (s
     node_is = a.node_is;
   }
 
-  same_arc_letters : (rows others : Rows) → AreSameFor to rows others → (number : ℕ) (text : List ℕ)
-      → AreArcLetters (line_parts area island link_of rows source) to number text
-      → AreArcLetters (line_parts area island link_of others source) to number text
-  same_arc_letters rows others same number text a = record {
+  same_repairs : (rows others : Rows) → AreSameFor to rows others → (number : ℕ) (repairs : ArcRepairs)
+      → AreArcRepairs (line_parts area island link_of rows source) to number repairs
+      → AreArcRepairs (line_parts area island link_of others source) to number repairs
+  same_repairs rows others same number repairs a = record {
     link = a.link;
     node = a.node;
     elements_are = same_elements rows others number a.link a.node a.elements_are;
-    link_repair = a.link_repair;
-    link_repair_is = alternate_too _ _ to rows others same source a.link a.link_repair a.link_repair_is;
-    node_repair = a.node_repair;
-    node_repair_is = alternate_too _ _ to rows others same source a.node a.node_repair a.node_repair_is;
-    spelled = a.spelled;
+    link_repair_is = alternate_too _ _ to rows others same source a.link repairs.link a.link_repair_is;
+    node_repair_is = alternate_too _ _ to rows others same source a.node repairs.node a.node_repair_is;
   }
 
-  same_second_letters : (rows others : Rows) → AreSameFor to rows others → (number : Option ℕ) (text : List ℕ)
-      → AreSecondLetters (line_parts area island link_of rows source) to number text
-      → AreSecondLetters (line_parts area island link_of others source) to number text
-  same_second_letters rows others same None text a = a
-  same_second_letters rows others same (Some number) text a = same_arc_letters rows others same number text a
+  same_second : (rows others : Rows) → AreSameFor to rows others → (number : Option ℕ) (repairs : Option ArcRepairs)
+      → AreSecondRepairs (line_parts area island link_of rows source) to number repairs
+      → AreSecondRepairs (line_parts area island link_of others source) to number repairs
+  same_second rows others same None None a = a
+  same_second rows others same None (Some repairs) a = a
+  same_second rows others same (Some number) None a = a
+  same_second rows others same (Some number) (Some repairs) a = same_repairs rows others same number repairs a
 
-  same_letters : (rows others : Rows) → AreSameFor to rows others → (primary : Primary) (text : List ℕ)
-      → AreLetters (line_parts area island link_of rows source) to primary text
-      → AreLetters (line_parts area island link_of others source) to primary text
-  same_letters rows others same primary text a = record {
-    first_letters = a.first_letters;
-    first_letters_are = same_arc_letters rows others same primary.first a.first_letters a.first_letters_are;
-    second_letters = a.second_letters;
-    second_letters_are = same_second_letters rows others same primary.second a.second_letters a.second_letters_are;
-    spelled = a.spelled;
+  -- a row by the one rows is one by the others
+  pub row_too : (rows others : Rows) → AreSameFor to rows others → (primary : Primary) (row : TableRow)
+      → IsRow (line_parts area island link_of rows source) to primary row
+      → IsRow (line_parts area island link_of others source) to primary row
+  row_too rows others same primary row a = record {
+    id_is = a.id_is;
+    links = a.links;
+    links_are = subst (λ (o : Option Row). o ≡ Some a.links) (same source) a.links_are;
+    tag_is = a.tag_is;
+    blue_is = a.blue_is;
+    red_is = a.red_is;
+    primary_is = a.primary_is;
+    first_is = same_repairs rows others same primary.first row.first a.first_is;
+    second_is = same_second rows others same primary.second row.second a.second_is;
   }
 
-  same_link_hop : (rows others : Rows) (link : ℕ) (text : List ℕ) → IsLinkHop (line_parts area island link_of rows source) link text
-      → IsLinkHop (line_parts area island link_of others source) link text
-  same_link_hop rows others link text a = record { end = a.end; end_is = a.end_is; far = a.far; far_is = a.far_is; spelled = a.spelled }
-
-  same_arc_hop : (rows others : Rows) (number : ℕ) (text : List ℕ) → IsArcHop (line_parts area island link_of rows source) number text
-      → IsArcHop (line_parts area island link_of others source) number text
-  same_arc_hop rows others number text a = record { arc = a.arc; arc_is = a.arc_is; far = a.far; far_is = a.far_is; spelled = a.spelled }
-
-  same_colors : (rows others : Rows) → AreSameFor to rows others → (text : List ℕ)
-      → AreColorWords (line_parts area island link_of rows source) to text
-      → AreColorWords (line_parts area island link_of others source) to text
-  same_colors rows others same text a = record {
-    row = a.row;
-    row_is = subst (λ (o : Option Row). o ≡ Some a.row) (same source) a.row_is;
-    blue_hop = a.blue_hop;
-    blue_hop_is = same_link_hop rows others a.row.blue a.blue_hop a.blue_hop_is;
-    red_hop = a.red_hop;
-    red_hop_is = same_link_hop rows others a.row.red a.red_hop a.red_hop_is;
-    spelled = a.spelled;
-  }
-
-  same_primary : (rows others : Rows) → AreSameFor to rows others → (primary : Primary) (text : List ℕ)
-      → ArePrimaryWords (line_parts area island link_of rows source) to primary text
-      → ArePrimaryWords (line_parts area island link_of others source) to primary text
-  same_primary rows others same primary text a = record {
-    hop = a.hop;
-    hop_is = same_arc_hop rows others primary.first a.hop a.hop_is;
-    letters = a.letters;
-    letters_are = same_letters rows others same primary a.letters a.letters_are;
-    spelled = a.spelled;
-  }
-
-  -- a line by the one rows is one by the others
+  -- and so is a line
   pub line_too : (rows others : Rows) → AreSameFor to rows others → (primary : Primary) (text : List ℕ)
       → IsLine (line_parts area island link_of rows source) to primary text
       → IsLine (line_parts area island link_of others source) to primary text
-  line_too rows others same primary text a = record {
-    id = a.id;
-    id_is = a.id_is;
-    color_words = a.color_words;
-    color_words_are = same_colors rows others same a.color_words a.color_words_are;
-    primary_words = a.primary_words;
-    primary_words_are = same_primary rows others same primary a.primary_words a.primary_words_are;
-    spelled = a.spelled;
-  }
+  line_too rows others same primary text a =
+      record { row = a.row; row_is = row_too rows others same primary a.row a.row_is; spelled = a.spelled }
 
   -- exactly
   pub same_line : (rows others : Rows) → AreSameFor to rows others → (primary : Primary) (text : List ℕ)

@@ -1,4 +1,4 @@
--- Lines by the rows of a column.
+-- Rows and lines by the rows of a column.
 use Rattle.std.proofs.Common.{◌≢◌, ◌<◌, ◌++◌, ℕ, List, [], ◌∷◌, Option, length, refl, sym}
 use Rattle.std.specs.List.{AllZip, concat}
 use Rattle.area_graph.specs.AreaInvariant.{IsArea}
@@ -11,11 +11,12 @@ use Rattle.mrt_graph.specs.Rows.{Rows}
 use Rattle.mrt_graph.specs.Sound.{SoundFor}
 use Rattle.mrt_graph.specs.Topology.{Topology}
 use Rattle.mrt_graph.proofs.LeadsOn.{sound-hop}
-use Rattle.mrt_report.specs.ByColumn.{IsLineByColumn}
+use Rattle.mrt_report.specs.ByColumn.{IsLineByColumn, IsRowByColumn}
 use Rattle.mrt_report.specs.LineParts.{AreLineParts, line_parts}
 use Rattle.mrt_report.specs.TableParts.{TableParts}
-use Rattle.mrt_report.specs.TableText.{IsHead, IsTableLine, IsTableText, others}
-use Rattle.mrt_report.proofs.AgreeingRows.{line_too}
+use Rattle.mrt_report.specs.TableText.{IsHead, IsTableLine, IsTableRow, IsTableText, others}
+use Rattle.mrt_report.proofs.AgreeingRows.{line_too, row_too}
+use Rattle.mrt_report.specs.declared.row.TableRow.{TableRow}
 
 -- sound rows lead on
 pub parts_by_sound : (area : AreaParts) (island : Topology) (link_of : List (Option ℕ)) (rows : Rows) (source to : ℕ)
@@ -56,3 +57,17 @@ table_by_columns parts root head lines first all = record {
   lines_are = all_of_table parts (others (length parts.island.ids) parts.source) lines all;
   spelled = refl;
 }
+
+-- so are rows
+pub row_of_table : (parts : TableParts) (to : ℕ) (row : TableRow) → IsRowByColumn parts to row → IsTableRow parts to row
+row_of_table parts to row by = record {
+  primary = by.primary;
+  primary_is = by.primary_is;
+  row_is = row_too parts.area parts.island parts.link_of parts.source to (rows_of_column by.column) (row_of parts.cert) (λ s. sym (by.rows s)) by.primary row by.row_is;
+}
+
+pub rows_of_table : (parts : TableParts) (nodes : List ℕ) (rows : List TableRow) → AllZip (IsRowByColumn parts) nodes rows → AllZip (IsTableRow parts) nodes rows
+rows_of_table parts [] [] all = tt
+rows_of_table parts [] (row ∷ rows) all = absurd all
+rows_of_table parts (to ∷ nodes) [] all = absurd all
+rows_of_table parts (to ∷ nodes) (row ∷ rows) all = (row_of_table parts to row all.0, rows_of_table parts nodes rows all.1)

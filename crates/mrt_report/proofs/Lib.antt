@@ -6,4 +6,5 @@ pub mod ForLine
 pub mod IslandWalks
 pub mod OneLine
 pub mod OneTable
+pub mod SecondRepairs
 pub mod Telling

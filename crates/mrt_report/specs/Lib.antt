@@ -1,8 +1,9 @@
 pub mod AddsLines
 pub mod ByColumn
-pub mod Letters
 pub mod LineParts
 pub mod Lines
+pub mod Repairs
+pub mod Rows
 pub mod TableParts
 pub mod TableText
 pub mod TableWords

@@ -6,6 +6,8 @@ use Rattle.mrt_graph.specs.Spelling.{node_text}
 use Rattle.mrt_graph.specs.Topology.{Topology}
 use Rattle.primary_alt.specs.declared.shortest.Primary.{Primary}
 use Rattle.mrt_report.specs.Lines.{IsLine}
+use Rattle.mrt_report.specs.Rows.{IsRow}
+use Rattle.mrt_report.specs.declared.row.TableRow.{TableRow}
 use Rattle.mrt_report.specs.TableParts.{TableParts, IsPrimaryFor, parts_of_lines}
 
 -- of the first nodes all but one, by ascending identifier
@@ -31,6 +33,12 @@ pub record IsTableLine (parts : TableParts) (to : ℕ) (text : List ℕ) : Type 
   pub primary : Primary
   pub primary_is : IsPrimaryFor parts.area parts.island parts.primaries to primary
   pub line : IsLine (parts_of_lines parts) to primary text
+
+-- the row on a destination, by the certificate's rows and the router's primary for it
+pub record IsTableRow (parts : TableParts) (to : ℕ) (row : TableRow) : Type 0 where
+  pub primary : Primary
+  pub primary_is : IsPrimaryFor parts.area parts.island parts.primaries to primary
+  pub row_is : IsRow (parts_of_lines parts) to primary row
 
 -- the first line, and one line on each other node of the island, by ascending identifier
 pub record IsTableText (parts : TableParts) (root : ℕ) (text : List ℕ) : Type 0 where

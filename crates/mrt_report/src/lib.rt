@@ -1,18 +1,22 @@
-//! The texts that the program writes of a router: its table.
+//! What a router installs: the rows of its table, and the text that the program writes of them.
 #![tactic(auto)]
 
 mod elements;
-mod letters;
 mod line;
 mod line_law;
+mod making;
 mod parts;
 mod primaries;
+mod repairs;
+mod row;
 mod table;
 mod table_law;
 mod uses;
 mod words;
 
+pub use line::push_row;
 pub use line_law::{lines_by_the_rows_for_one_destination, one_line_each};
 pub use primaries::primary_for;
-pub use table::{push_table_line, table_head, table_line};
+pub use row::{ArcRepairs, HopTo, TableRow};
+pub use table::{push_table_line, table_head, table_line, table_row};
 pub use table_law::{lines_make_the_table, one_table_each};

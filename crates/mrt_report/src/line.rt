@@ -1,110 +1,64 @@
-//! A table's line on one destination.
+//! A table's row, spelled as a line.
 
-ghost use Rattle.std.specs.Prelude.{◌≡◌, ◌≢◌, ◌<◌, ◌==◌, IfOk, IsSome, length};
-ghost use Rattle.std.specs.{List.find, Option.option_map};
-ghost use Rattle.area_graph.specs.AreaInvariant.{IsArea};
-ghost use Rattle.mrt_graph.specs.{GraphInvariant.IsTopology, Leads.leads};
-ghost use Rattle.text_parts.specs.Adds.{Adds};
-ghost use Rattle.mrt_report.specs.Lines.{AreColorWords, ArePrimaryWords, IsArcHop, IsEndOn, IsLine, IsLinkHop};
-ghost use Rattle.mrt_report.specs.{LineParts.AreAllParts, LineParts.AreLineParts, Viewed.viewed};
+ghost use Rattle.std.specs.Prelude.{◌≡◌, ◌++◌, IfOk};
+ghost use Rattle.mrt_report.specs.Lines.{arc_letters, color_words, primary_words, row_text, second_letters};
 
-use crate::letters::push_letters;
-use crate::parts::Parts;
-use crate::words::tag_word;
-use area_graph::ArcNo;
-use mrt_graph::{End, Graph, LinkNo, NoMemory, NodeNo, RowsOf};
+use crate::row::{ArcRepairs, TableRow};
+use crate::words::{letter, tag_word};
+use mrt_graph::NoMemory;
 use text_parts::{push, push_hop, push_node};
 
-/// Puts the line on a destination at the end of a text.
-pub fn push_line<R: RowsOf>(text: &mut Vec<u8>, parts: &Parts<'_, R>) -> Result<(), NoMemory>
-    requires { AreAllParts (viewed R.rows parts.now) parts.now.to parts.now.primary }
-    ensures { IfOk result (λ _.
-        Adds (IsLine (viewed R.rows parts.now) parts.now.to parts.now.primary) text.old.items text.new.items) }
+/// Puts a row's line at the end of a text.
+pub fn push_row(text: &mut Vec<u8>, row: &TableRow) -> Result<(), NoMemory>
+    ensures { IfOk result (λ _. text.new.items ≡ text.old.items ++ row_text row.now) }
 {
-    push_node(text, parts.island.id(parts.to))?;
+    push_node(text, row.id)?;
     push(text, b" ")?;
-    push_colors(text, parts)?;
+    push_colors(text, row)?;
     push(text, b" primary ")?;
-    push_primary(text, parts)?;
+    push_primary(text, row)?;
     push(text, b"\n")?;
     Ok(())
 }
 
 /// Puts the hops of both colors at the end of a text.
-fn push_colors<R: RowsOf>(text: &mut Vec<u8>, parts: &Parts<'_, R>) -> Result<(), NoMemory>
-    requires kept { AreLineParts (viewed R.rows parts.now) parts.now.to }
-    ensures { IfOk result (λ _.
-        Adds (AreColorWords (viewed R.rows parts.now) parts.now.to) text.old.items text.new.items) }
+fn push_colors(text: &mut Vec<u8>, row: &TableRow) -> Result<(), NoMemory>
+    ensures { IfOk result (λ _. text.new.items ≡ text.old.items ++ color_words row.now) }
 {
-    let row = parts.rows.row_for(parts.source, parts.to);
     push(text, tag_word(row.tag))?;
     push(text, b" blue ")?;
-    push_link_hop(text, parts, row.blue)?;
+    push_hop(text, row.blue.far, row.blue.link_data)?;
     push(text, b" red ")?;
-    push_link_hop(text, parts, row.red)?;
+    push_hop(text, row.red.far, row.red.link_data)?;
     Ok(())
-}
-
-/// Puts the hop over a link of the island at the end of a text.
-fn push_link_hop<R: RowsOf>(
-    text: &mut Vec<u8>,
-    parts: &Parts<'_, R>,
-    link: LinkNo,
-) -> Result<(), NoMemory>
-    requires kept { IsTopology parts.now.island.now }
-    requires within { parts.now.source < length parts.now.island.now.ids }
-    requires touches { IsSome (leads parts.now.island.now.links link parts.now.source) }
-    ensures { IfOk result (λ _.
-        Adds (IsLinkHop (viewed R.rows parts.now) link) text.old.items text.new.items) }
-{
-    let end = end_on(parts.island, parts.source, link);
-    push_hop(text, parts.island.id(end.to), end.link_data)?;
-    Ok(())
-}
-
-/// The end of a node on a link that touches it.
-fn end_on(g: &Graph, s: NodeNo, link: LinkNo) -> End
-    requires kept { IsTopology g.now }
-    requires within { s < length g.now.ids }
-    requires touches { IsSome (leads g.now.links link s) }
-    ensures is { IsEndOn g.now s link result }
-    ensures to { result.to < length g.now.ids }
-{
-    first_on(g.ends(s), link).unwrap()
-}
-
-/// The first of these ends on a link.
-fn first_on(ends: &[End], link: LinkNo) -> Option<End>
-    ensures { result ≡ option_map (λ end. end) (find (λ end. end.link == link) ends.now) }
-{
-    let end = ends.iter().find(|end| end.link == link)?;
-    Some(*end)
 }
 
 /// Puts the primary's hop, and what repairs the failure of each of its elements, at the end of a text.
-fn push_primary<R: RowsOf>(text: &mut Vec<u8>, parts: &Parts<'_, R>) -> Result<(), NoMemory>
-    requires { AreAllParts (viewed R.rows parts.now) parts.now.to parts.now.primary }
-    ensures { IfOk result (λ _.
-        Adds (ArePrimaryWords (viewed R.rows parts.now) parts.now.to parts.now.primary) text.old.items text.new.items) }
+fn push_primary(text: &mut Vec<u8>, row: &TableRow) -> Result<(), NoMemory>
+    ensures { IfOk result (λ _. text.new.items ≡ text.old.items ++ primary_words row.now) }
 {
-    push_arc_hop(text, parts, parts.primary.first)?;
+    push_hop(text, row.primary.far, row.primary.link_data)?;
     push(text, b" repair ")?;
-    push_letters(text, parts)?;
+    push_letters(text, &row.first)?;
+    push_second(text, &row.second)?;
     Ok(())
 }
 
-/// Puts the hop over an arc at the end of a text.
-fn push_arc_hop<R: RowsOf>(
-    text: &mut Vec<u8>,
-    parts: &Parts<'_, R>,
-    number: ArcNo,
-) -> Result<(), NoMemory>
-    requires kept { IsArea parts.now.area.now }
-    requires within { number < length parts.now.area.now.arcs }
-    ensures { IfOk result (λ _.
-        Adds (IsArcHop (viewed R.rows parts.now) number) text.old.items text.new.items) }
+/// Puts the letters of a second arc at the end of a text, where there is one.
+fn push_second(text: &mut Vec<u8>, second: &Option<ArcRepairs>) -> Result<(), NoMemory>
+    ensures { IfOk result (λ _. text.new.items ≡ text.old.items ++ second_letters second.now) }
 {
-    let arc = parts.area.arc(number);
-    push_hop(text, parts.area.id(arc.to), arc.link_data)?;
+    match second {
+        Some(repairs) => push_letters(text, repairs),
+        None => Ok(()),
+    }
+}
+
+/// Puts the two letters of an arc at the end of a text.
+fn push_letters(text: &mut Vec<u8>, repairs: &ArcRepairs) -> Result<(), NoMemory>
+    ensures { IfOk result (λ _. text.new.items ≡ text.old.items ++ arc_letters repairs.now) }
+{
+    push(text, letter(repairs.link))?;
+    push(text, letter(repairs.node))?;
     Ok(())
 }

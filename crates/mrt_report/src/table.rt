@@ -4,10 +4,12 @@ ghost use Rattle.std.specs.Prelude.{◌≢◌, ◌<◌, ℕ, IfOk, length};
 ghost use Rattle.area_graph.specs.Fits.{Fits};
 ghost use Rattle.mrt_graph.specs.{GraphInvariant.IsNetwork, Sound.SoundFor};
 ghost use Rattle.text_parts.specs.Adds.{Adds};
-ghost use Rattle.mrt_report.specs.{LineParts.IsPrimaryOf, LineParts.line_parts, Lines.IsLine, TableText.IsHead};
+ghost use Rattle.mrt_report.specs.{LineParts.IsPrimaryOf, LineParts.line_parts, Lines.IsLine, Rows.IsRow, TableText.IsHead};
 
-use crate::line::push_line;
+use crate::line::push_row;
+use crate::making::row_of;
 use crate::parts::Parts;
+use crate::row::TableRow;
 use area_graph::Area;
 use mrt_graph::{Graph, LinkNo, NoMemory, NodeNo, RowsOf};
 use primary_alt::Primary;
@@ -104,6 +106,31 @@ pub fn push_table_line<R: RowsOf>(
         (IsLine (line_parts area.now island.now link_of.now (R.rows rows.now) source) to prim)
         text.old.items text.new.items) }
 {
+    let row = table_row(area, island, link_of, rows, source, to, prim);
+    push_row(text, &row)?;
+    Ok(())
+}
+
+/// The row that this line spells. It takes no memory.
+pub fn table_row<R: RowsOf>(
+    area: &Area,
+    island: &Graph,
+    link_of: &[Option<LinkNo>],
+    rows: &R,
+    source: NodeNo,
+    to: NodeNo,
+    prim: Primary,
+) -> TableRow
+    requires fits { Fits area.now island.now link_of.now }
+    requires sound { (s : ℕ) → s < length island.now.ids → s ≢ to
+        → SoundFor island.now.links (length island.now.ids) (R.rows rows.now) s to }
+    requires source { source < length island.now.ids }
+    requires router { ¬ IsNetwork island.now.ids source }
+    requires target { to < length island.now.ids }
+    requires different { source ≢ to }
+    requires primary { IsPrimaryOf area.now island.now source to prim }
+    ensures { IsRow (line_parts area.now island.now link_of.now (R.rows rows.now) source) to prim result }
+{
     // what each area and each graph keeps is told by reading it
     let _nodes = area.count();
     let _count = island.node_count();
@@ -116,7 +143,7 @@ pub fn push_table_line<R: RowsOf>(
         to,
         primary: prim,
     };
-    push_line(text, &parts)
+    row_of(&parts)
 }
 
 /// Puts the first line at the end of a text.

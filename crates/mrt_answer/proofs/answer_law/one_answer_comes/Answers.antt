@@ -36,7 +36,7 @@ laws c = record {
     stands = c.an_lsa_without_a_fault_may_be_installed.ensures;
     area = c.the_newest_records_give_an_area.ensures;
   };
-  islands = c.a_router_has_one_island.ensures;
+  islands = c.a_router_has_one_island.ensures.one;
   certificates = c.one_certificate.ensures.one;
   tables = record { table = c.one_table_each.ensures; primary = c.one_primary_each.ensures };
   rules = record { never_both = c.accepted_or_one_first_fault.ensures.never_both; one = c.accepted_or_one_first_fault.ensures.one };

@@ -1,86 +1,26 @@
-use Rattle.std.proofs.Common.{◌≡◌, ◌∙◌, ℕ, List, length, inl, refl, sym, subst, arith}
-use Rattle.mrt_graph.specs.declared.cert.CertNode.{CertNode}
-use Rattle.mrt_graph.specs.Topology.{Topology}
-use Rattle.mrt_rows.specs.declared.rooted.RootedColumns.{RootedColumns}
-use Rattle.proxy_rows.specs.declared.attachment.Attachment.{Attachment}
-use Rattle.proxy_rows.specs.Attachment.{IsAttachment}
-use Rattle.mrt_answer.specs.Made.{HasComputed, IsAttachedBy}
+use Rattle.std.proofs.Common.{List, sym, subst}
+use Rattle.mrt_words.proofs.HandedOn.{if_ok}
 use Rattle.proxy_rows.specs.declared.proxy_row.ProxyRow.{ProxyRow}
 use Rattle.proxy_rows.specs.ProxyRows.{AreProxyRows}
-use Rattle.mrt_words.proofs.HandedOn.{if_ok}
 use Rattle.mrt_answer.specs.Texts.{proxied}
-use Rattle.mrt_answer.proofs.ComputedColumns.{as_many}
 use Rattle.mrt_answer.proofs.OneProxy.{accepted_for}
 use Rattle.mrt_answer.proofs.TextSteps.{of_bytes}
-use Rattle.mrt_answer.proofs.proxy.proxy_by.Goals.{After-deref, After-deref-3}
 use Rattle.mrt_answer.proofs.proxy.proxy_by.Goals as goal
-
--- the certificate of which the columns are made says so of as many nodes as the graph has
-nodes_say : (c : After-deref) → c.deref.result.now ≡ c.requires.computed.file.cert.nodes
-nodes_say c = c.deref.ensures.value ∙ c.in_ok-nodes.ensures c.requires.computed.file c.requires.computed.of_columns
-
-all_said : (c : After-deref) → length c.deref.result.now ≡ length c.args.graph.now.ids
-all_said c = as_many c.args.graph.now c.args.root c.args.columns.now c.requires.computed c.deref.result.now (nodes_say c)
-
-pub attach-requires-clause-first : goal.attach-requires-clause-first
-attach-requires-clause-first c = omega (arith, c.requires.first, all_said (goal.at.attach-requires-clause-first c).After-deref)
-
-pub attach-requires-clause-second : goal.attach-requires-clause-second
-attach-requires-clause-second c = omega (arith, c.requires.second, all_said (goal.at.attach-requires-clause-second c).After-deref)
-
-pub returns-in_default : goal.returns-in_default
-returns-in_default c =
-    let own = c.requires.computed in
-    inl (own.file, own.certificate, (c.in_default.ensures.none own.file.cert (sym (nodes_say (goal.at.returns-in_default c).After-deref))).0 refl)
-
-pub rows_at-requires-clause-made : goal.rows_at-requires-clause-made
-rows_at-requires-clause-made c = c.requires.made
-
-pub rows_at-requires-clause-head : goal.rows_at-requires-clause-head
-rows_at-requires-clause-head c =
-    let own = c.requires.computed in
-    let at = (goal.at.rows_at-requires-clause-head c).After-deref in
-    let accepted = accepted_for c.args.graph.now c.args.root own.file own.certificate in
-    omega (arith, c.in-Some.ensures.head c.args.graph.now own.file.cert (sym (nodes_say at)) accepted, all_said at)
-
--- by this certificate it is the attachment of the two nodes
-abbrev attached : (graph : Topology) (root : ℕ) (columns : RootedColumns) (own : HasComputed graph root columns) (nodes : List CertNode) (at : Attachment) (a b : ℕ)
-    → nodes ≡ own.file.cert.nodes → IsAttachment own.file.cert a b at → IsAttachedBy graph columns nodes at
-attached graph root columns own nodes at a b says is = record { root = root; own = own; says = says; a = a; b = b; attached = is }
-
-pub rows_at-requires-clause-attached : goal.rows_at-requires-clause-attached
-rows_at-requires-clause-attached c =
-    let own = c.requires.computed in
-    attached c.args.graph.now c.args.root c.args.columns.now own c.deref-2.result.now c.in-Some.at c.args.a c.args.b
-    (c.deref-2.ensures.value ∙ c.in_ok-nodes.ensures own.file own.of_columns)
-    (c.in-Some.ensures.found c.args.graph.now own.file.cert (sym (nodes_say (goal.at.rows_at-requires-clause-attached c).After-deref))
-    (accepted_for c.args.graph.now c.args.root own.file own.certificate))
-
--- the rows are those at it
-rows_are : (c : After-deref-3) → c.deref.result.now ≡ c.requires.computed.file.cert.nodes
-    → AreProxyRows c.args.graph.now c.requires.computed.file.cert c.args.a c.args.b c.deref-3.result.now
-rows_are c said =
-    let g = c.args.graph.now in
-    let own = c.requires.computed in
-    let by = attached g c.args.root c.args.columns.now own c.deref-2.result.now c.in-Some.at c.args.a c.args.b
-    (c.deref-2.ensures.value ∙ c.in_ok-nodes.ensures own.file own.of_columns)
-    (c.in-Some.ensures.found g own.file.cert (sym said) (accepted_for g c.args.root own.file own.certificate)) in
-    subst (λ (xs : List ProxyRow). AreProxyRows g own.file.cert c.args.a c.args.b xs) (sym c.deref-3.ensures.value) (c.in_ok-rows.ensures by)
 
 pub proxy_text_of-requires-clause-rows : goal.proxy_text_of-requires-clause-rows
 proxy_text_of-requires-clause-rows c =
-    let own = c.requires.computed in
-    let at = goal.at.proxy_text_of-requires-clause-rows c in
-    (own.file.cert, accepted_for c.args.graph.now c.args.root own.file own.certificate, rows_are at.After-deref-3 (nodes_say at.After-deref))
+    let made = c.in_ok-rows.ensures.rows in (
+      made.0.cert,
+      accepted_for c.args.graph.now c.args.root made.0 made.1,
+      subst (λ (xs : List ProxyRow). AreProxyRows c.args.graph.now made.0.cert c.args.a c.args.b xs) (sym c.deref.ensures.value) made.2,
+    )
 
 pub returns : goal.returns
 returns c =
-    let own = c.requires.computed in
-    let at = goal.at.returns c in
+    let made = c.in_ok-rows.ensures.rows in
     of_bytes (proxied c.args.graph.now c.args.root c.args.a c.args.b) c.proxy_text_of.result c.bytes_answer.result
-    (if_ok c.proxy_text_of.result _ _ (c.proxy_text_of.ensures own.file.cert (rows_are at.After-deref-3 (nodes_say at.After-deref)))
-    (λ text spelled. record { file = own.file; certificate = own.certificate; spelled = spelled }))
+    (if_ok c.proxy_text_of.result _ _
+    (c.proxy_text_of.ensures made.0.cert
+    (subst (λ (xs : List ProxyRow). AreProxyRows c.args.graph.now made.0.cert c.args.a c.args.b xs) (sym c.deref.ensures.value) made.2))
+    (λ text spelled. record { file = made.0; certificate = made.1; spelled = spelled }))
     c.bytes_answer.ensures.text c.bytes_answer.ensures.none
-
-pub nodes-requires : goal.nodes-requires
-nodes-requires c = c.requires.made

@@ -3,8 +3,8 @@ use Rattle.mrt_rows.specs.CertOf.{IsCertOf}
 use Rattle.mrt_answer.proofs.ProxyBetween.{read_from}
 use Rattle.mrt_answer.proofs.proxy.rows_at.Goals as goal
 
-pub returns : goal.returns
-returns c = λ by.
+pub returns-clause-rows : goal.returns-clause-rows
+returns-clause-rows c = λ by.
     let own = by.own in
     let from = subst (λ (root : ℕ). IsCertOf c.args.graph.now root own.file) (sym c.aim.ensures.root) own.of_columns in
     c.proxy_rows_at.ensures.rows
@@ -28,3 +28,6 @@ links-requires c = c.requires.made
 
 pub aim-requires-clause-made : goal.aim-requires-clause-made
 aim-requires-clause-made c = c.requires.made
+
+pub returns-clause-still_made : goal.returns-clause-still_made
+returns-clause-still_made c = c.aim.ensures.aimed.made

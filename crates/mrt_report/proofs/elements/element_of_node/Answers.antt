@@ -1,5 +1,5 @@
 use Rattle.std.proofs.Common.{refl}
-use Rattle.mrt_report.specs.Letters.{Inside, Outside}
+use Rattle.mrt_report.specs.Repairs.{Inside, Outside}
 use Rattle.mrt_report.proofs.elements.element_of_node.Goals as goal
 
 pub returns-in-Some : goal.returns-in-Some

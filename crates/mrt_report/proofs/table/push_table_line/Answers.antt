@@ -1,12 +1,20 @@
-use Rattle.mrt_report.proofs.ByColumn.{parts_by_sound}
-use Rattle.mrt_report.proofs.ForLine.{its_first_within, its_second_within}
+use Rattle.std.proofs.Common.{refl}
 use Rattle.mrt_report.proofs.table.push_table_line.Goals as goal
 
-pub push_line-requires : goal.push_line-requires
-push_line-requires g c = record {
-  kept =
-      parts_by_sound c.args.area.now c.args.island.now c.args.link_of.now (g.R.RowsOf.rows c.args.rows.now) c.args.source c.args.to
-      c.count-nodes.ensures.kept c.node_count-count.ensures.kept c.requires.fits c.requires.source c.requires.target c.requires.different c.requires.sound;
-  first = its_first_within c.args.area.now c.args.island.now c.args.source c.args.to c.args.prim c.requires.primary;
-  second = its_second_within c.args.area.now c.args.island.now c.args.source c.args.to c.args.prim c.requires.primary;
+pub table_row-row-requires : goal.table_row-row-requires
+table_row-row-requires g c = record {
+  fits = c.requires.fits;
+  sound = c.requires.sound;
+  source = c.requires.source;
+  router = c.requires.router;
+  target = c.requires.target;
+  different = c.requires.different;
+  primary = c.requires.primary;
+}
+
+pub returns : goal.returns
+returns g c = record {
+  part = _;
+  is = record { row = c.table_row-row.result; row_is = c.table_row-row.ensures; spelled = refl };
+  added = c.in_ok-push_row.ensures;
 }

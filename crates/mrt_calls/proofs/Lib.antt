@@ -1,0 +1,9 @@
+pub mod Counting
+pub mod FaultExits
+pub mod Filling
+pub mod Footings
+pub mod Lent
+pub mod Names
+pub mod OneCertificate
+pub mod Puts
+pub mod TextFor
