@@ -35,7 +35,7 @@ _mrt() {
         given=("${given[@]:1}")
         [ "${#given[@]}" -gt 0 ] || choices=$forms
     elif [ "${#given[@]}" = 0 ]; then
-        choices="$forms help --help --version --look --install"
+        choices="$forms help --help --version --look --install --library"
     elif [ "${given[*]}" = help ]; then
         choices="$forms status"
     fi

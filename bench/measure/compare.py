@@ -2,12 +2,13 @@
 """Compares `mrt check`, `certify`, `table`, `trace`, `fabric`, `upgrade`, `lfa`, `order`, `proxy` and `flood` with the reference program on random
 areas, profiles, certificates of both versions, traces, update packets and scripts, whole and damaged.
 
-usage: compare.py PROGRAM [CASES [SEED]]
+usage: compare.py [--library FILE] PROGRAM [CASES [SEED]]
 
-PROGRAM is the built program. Areas have few routers, or many blocks, and one in twenty-five has more than 64 routers or more than 128. Each certificate that
+PROGRAM is the built program. With FILE, a libmrt.so.1, the library is compared too: its top call on all, and its other calls on what they give. Areas have few routers, or many blocks, and one in twenty-five has more than 64 routers or more than 128. Each certificate that
 PROGRAM writes is given to its `check` too. Each case on which the two differ is printed, and its files are left in a folder that is named. A thousand
 cases take two minutes, nearly all of them in the reference program.
 """
+import argparse
 import os
 import subprocess
 import sys
@@ -25,6 +26,9 @@ from areas import random_area, random_ring, router, write
 from blocks import MOST, random_blocks
 from database import ROUTER, Refused, text_of
 from lsas import address, lsa, records_of, spelled, update
+
+sys.path.insert(0, os.path.join(os.path.dirname(os.path.realpath(__file__)), "..", "..", "examples", "python"))
+import mrt
 
 COMMANDS = ("check", "certify", "table", "trace", "fabric", "upgrade", "lfa", "order", "proxy", "flood", "check of what was written",
             "upgrade of what was written")
@@ -398,6 +402,54 @@ def answered(program, folder, case):
     return answers
 
 
+def told(call):
+    """What a call of the library gives, as the program: status, output, errors."""
+    try:
+        return 0, call(), b""
+    except mrt.Refused as refused:
+        return int(refused.status), b"", f"{refused}\n".encode()
+
+
+def run_by(library, case):
+    """The same by the top call of the library."""
+    files = {b"area.lsas": case.data, b"area.profile": case.profile, b"area.cert": case.cert, b"packets.script": case.script,
+             b"area.updates": case.updates, b"deliveries.script": case.deliveries}
+    profile, router = b"area.profile" if case.profile else b"-", spelled(case.router).encode()
+    run = lambda *words: told(lambda: library.run(words, files))
+    answer = lambda command, *words: run(command, b"area.lsas", profile, *words)
+    answers = [answer(b"check", b"area.cert"), answer(b"certify", router), answer(b"table", router), answer(b"trace", *case.trace),
+               answer(b"fabric", b"packets.script"), answer(b"upgrade", b"area.cert"), run(b"lfa", b"area.lsas", router), answer(b"order", router),
+               answer(b"proxy", router, *(spelled(end).encode() for end in case.ends)),
+               run(b"flood", b"area.updates", profile, b"deliveries.script")]
+    status, files[b"written.cert"], _ = answers[1]
+    return answers + ([answer(b"check", b"written.cert"), answer(b"upgrade", b"written.cert")] if status == 0 else [])
+
+
+def called(library, case):
+    """What the other calls give, each with the form that has it."""
+    area, router = mrt.Area(case.data, case.profile), case.router
+
+    def check(certificate):
+        verdict = library.check(area, certificate)
+        return f"accepted root {spelled(verdict.root)} nodes {verdict.nodes} links {verdict.links}\n".encode()
+
+    def table():
+        island, rows = library.shape(area, router), library.table(area, router)
+        alone = [library.row_for(area, router, row.node) for row in rows[:3] + rows[-3:]]
+        lines = [f"router {spelled(router)} root {spelled(island.root)} nodes {island.nodes} links {island.links}", *map(str, rows)]
+        return b"".join(f"{line}\n".encode() for line in lines) if alone == rows[:3] + rows[-3:] else b"one row is another"
+
+    answers = {"check": told(lambda: check(case.cert)), "certify": told(lambda: library.certify(area, router)), "table": told(table)}
+    return answers | ({"check of what was written": told(lambda: check(answers["certify"][1]))} if answers["certify"][0] == 0 else {})
+
+
+def compared(library, case, want):
+    """Which answers of the library are to be which others, by name."""
+    wanted = dict(zip(COMMANDS, want))
+    pairs = [(f"mrt_run of {name}", wanted[name], got) for name, got in zip(COMMANDS, run_by(library, case))]
+    return pairs + [(f"call of {name}", wanted[name], got) for name, got in called(library, case).items()]
+
+
 def random_case(random):
     data = random_database(random)
     area = named_area(data)
@@ -409,12 +461,19 @@ def random_case(random):
 
 
 def main():
-    program, cases = os.path.abspath(sys.argv[1]), int(sys.argv[2]) if len(sys.argv) > 2 else 1000
-    random, counts, differing = Random(int(sys.argv[3]) if len(sys.argv) > 3 else 1), {}, 0
+    parser = argparse.ArgumentParser()
+    parser.add_argument("--library", type=mrt.Library)
+    parser.add_argument("program", type=os.path.abspath)
+    parser.add_argument("cases", type=int, nargs="?", default=1000)
+    parser.add_argument("seed", type=int, nargs="?", default=1)
+    said = parser.parse_args()
+    program, cases, random, counts, differing = said.program, said.cases, Random(said.seed), {}, 0
     with tempfile.TemporaryDirectory() as folder:
         for number in range(cases):
             case = random_case(random)
-            for command, want, got in zip(COMMANDS, wanted(case), answered(program, folder, case)):
+            all_wanted = wanted(case)
+            pairs = list(zip(COMMANDS, all_wanted, answered(program, folder, case)))
+            for command, want, got in pairs + (compared(said.library, case, all_wanted) if said.library else []):
                 counts[command, got[0]] = counts.get((command, got[0]), 0) + 1
                 if got != want:
                     differing += 1

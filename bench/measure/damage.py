@@ -2,6 +2,7 @@
 """Gives the program damaged files, refuses it memory, and has its output fail; prints what was tried and what came of it.
 
 usage: damage.py [RANDOM [SEED]]
+       damage.py --memory    the last two parts alone, of the program that is there; the gate runs them
 
 Each byte of two samples is set to 0, to 255 and off by one, each file is cut at each length, and each two of its records are exchanged. RANDOM
 files of each kind follow (100,000). Then each allocation of four commands is refused in turn, and the output is closed, full, or a pipe that
@@ -256,13 +257,15 @@ def failing_outputs(name, words):
     os.close(writing)
 
 
-def main():
-    count = int(sys.argv[1]) if len(sys.argv) > 1 else 100_000
-    random = Random(int(sys.argv[2]) if len(sys.argv) > 2 else 1)
-    timing.build()
+def damages(count, random):
+    """Tries damaged files; how many runs are not well."""
     with Pool() as pool:
         wrong = tell("one damage", pool.imap_unordered(tried, one_damage(), 64))
-        wrong += tell("random files", pool.imap_unordered(tried, many_damages(count, random), 64))
+        return wrong + tell("random files", pool.imap_unordered(tried, many_damages(count, random), 64))
+
+
+def devices():
+    """Refuses allocations, and has outputs fail; how many runs are not well."""
     with tempfile.TemporaryDirectory() as folder:
         library = os.path.join(folder, "refusing.so")
         subprocess.run(["cc", "-O1", "-shared", "-fPIC", "-x", "c", "-", "-o", library], input=REFUSING.encode(), check=True)
@@ -270,9 +273,17 @@ def main():
         over = partial(words_over, folder, files)
         all_words = commands("profile", start, to)
         cases = [(words[0], over(words)) for words in all_words if words[0] in ("certify", "fabric", "flood")] + [("survey", ["survey", "7", "300"])]
-        wrong += tell("refused allocations", (result for case in cases for result in refusals(library, *case)))
+        wrong = tell("refused allocations", (result for case in cases for result in refusals(library, *case)))
         outputs = [(words[0], over(words)) for words in all_words] + cases[-1:]
-        wrong += tell("failing outputs", (result for case in outputs for result in failing_outputs(*case)))
+        return wrong + tell("failing outputs", (result for case in outputs for result in failing_outputs(*case)))
+
+
+def main():
+    if sys.argv[1:] == ["--memory"]:
+        sys.exit(1 if devices() else 0)
+    timing.build()
+    count = int(sys.argv[1]) if len(sys.argv) > 1 else 100_000
+    wrong = damages(count, Random(int(sys.argv[2]) if len(sys.argv) > 2 else 1)) + devices()
     sys.exit(1 if wrong else 0)
 
 

@@ -13,9 +13,9 @@ from typing import NamedTuple
 from mrttools.definitions import Library, Missing, Name, Used, comment_over, files, joined, uses
 
 HANDED = re.compile(r"^pub use (\w+)::(\{[^}]*\}|\w+);", re.MULTILINE)
-OWN = re.compile(r"^pub (?:struct|enum|trait|type|fn) (\w+)", re.MULTILINE)
-BLOCK = re.compile(r"^(?:pub )?(?:(trait) (\w+)|impl(?:<.*?>)? (?:(\w+)(<.*>)? for )?(\w+)(?:<.*>)?) \{$")
-FUNCTION = re.compile(r"^( *)(pub(?:\(crate\))? )?(?:const )?fn (\w+)")
+OWN = re.compile(r"^pub (?:struct|enum|trait|type|(?:extern \"C\" )?fn) (\w+)", re.MULTILINE)
+BLOCK = re.compile(r"^(?:pub )?(?:(trait) (\w+)(?:: [\w +]+)?|impl(?:<.*?>)? (?:(\w+)(<.*>)? for )?(\w+)(?:<.*>)?) \{$")
+FUNCTION = re.compile(r"^( *)(pub(?:\(crate\))? )?(?:const |extern \"C\" )?fn (\w+)")
 TYPE = re.compile(r"^pub (?:struct|enum|trait|type) (\w+)")
 CLAUSE = re.compile(r"^ *(requires|ensures|ghost)(?: (\w+))?(?: =|:)? \{")
 GHOST = re.compile(r"^    ghost (\w+)(?: =|:) \{")

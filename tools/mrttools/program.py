@@ -1,4 +1,4 @@
-"""The program `mrt`, as the tools run it."""
+"""The program `mrt`, as the tools run it: in this process, where its library is there."""
 from __future__ import annotations
 
 import argparse
@@ -11,8 +11,10 @@ import sys
 import tempfile
 import time
 from collections import deque
+from concurrent import futures
 from typing import IO, Iterator, Sequence
 
+from . import library
 from .ending import READ_FAULT, REFUSED, ToolFault
 from .waiting import alive
 
@@ -30,18 +32,38 @@ def refuse_without(path: str) -> None:
         raise ToolFault(f"{path}: there is no such program", READ_FAULT)
 
 
+def file_of(path: str) -> str:
+    return os.path.realpath(shutil.which(path) or path)
+
+
+def program_in(root: str) -> str:
+    """The program of a folder that has the script."""
+    found = os.path.join(root, "crates", "mrt", "out", "mrt")
+    if not os.path.exists(found) and not os.path.exists(os.path.join(root, "crates.txt")):
+        found = os.path.realpath(os.path.join(root, "..", "..", "libexec", "semborui", "mrt"))
+    return found
+
+
 def built(path: str) -> str:
     """The program itself where a path is that of the script, which proves and builds where its sources are newer: no
     router is to do that while it runs."""
     refuse_without(path)
-    root = os.path.dirname(os.path.realpath(shutil.which(path) or path))
+    root = os.path.dirname(file_of(path))
     if not os.path.isdir(os.path.join(root, "crates", "mrt")):
         return path
-    found = os.path.join(root, "crates", "mrt", "out", "mrt")
-    if not os.path.exists(found) and not os.path.exists(os.path.join(root, "crates.txt")):
-        found = os.path.realpath(os.path.join(root, "..", "..", "libexec", "semborui", "mrt"))
+    found = program_in(root)
     refuse_without(found)
     return found
+
+
+def library_for(path: str) -> library.Library | None:
+    """The library that does what a program does: that of the tools' own program alone, as others may be others."""
+    own = [file_of(MRT), file_of(program_in(ROOT))]
+    return library.of(ROOT) if file_of(path) in own else None
+
+
+# What asks the library, one for each processor: who waits for an answer can go on without it.
+WORKERS = futures.ThreadPoolExecutor(os.cpu_count() or 1)
 
 
 class Program:
@@ -50,6 +72,7 @@ class Program:
     def __init__(self, path: str, database: str, profile: str, limit: float | None = None) -> None:
         refuse_without(path)
         self.path, self.database, self.profile, self.limit = path, database, profile, limit
+        self.library = library_for(path)
 
     def run(self, command: str, *words: str) -> bytes:
         """What a command writes. Where it refuses, its line is told, and the tool ends with the status."""
@@ -57,20 +80,27 @@ class Program:
         # (of several runs one after another the watchdog waits for each alone)
         alive()
         try:
-            done = subprocess.run(
-                [self.path, command, *words],
-                stdin=subprocess.DEVNULL,
-                stdout=subprocess.PIPE,
-                stderr=subprocess.PIPE,
-                timeout=self.limit,
-                check=False,
-            )
-        except subprocess.TimeoutExpired:
+            said = self.answer(command, *words)
+        except (subprocess.TimeoutExpired, futures.TimeoutError):
             raise self.too_slow(command) from None
-        if done.returncode != 0:
-            sys.stderr.buffer.write(done.stderr)
-            raise ToolFault("", done.returncode, done.stderr.decode("utf-8", "replace").strip())
-        return done.stdout
+        if said.status != 0:
+            sys.stderr.buffer.write(said.line)
+            raise ToolFault("", said.status, said.line.decode("utf-8", "replace").strip())
+        return said.text
+
+    def answer(self, *words: str) -> library.Answer:
+        if self.library and library.are_plain(words):
+            asked = WORKERS.submit(library.answer, self.library, words, library.files_of(words))
+            return asked.result(self.limit)
+        done = subprocess.run(
+            [self.path, *words],
+            stdin=subprocess.DEVNULL,
+            stdout=subprocess.PIPE,
+            stderr=subprocess.PIPE,
+            timeout=self.limit,
+            check=False,
+        )
+        return library.Answer(done.returncode, done.stdout, done.stderr)
 
     def too_slow(self, command: str) -> ToolFault:
         return ToolFault(f"{self.path} {command} took more than {self.limit:g} seconds", REFUSED)
@@ -84,11 +114,40 @@ class Program:
 
     def many(self, command: str, each: Sequence[tuple[str, ...]], untold: int) -> Iterator[tuple[int, bytes | None]]:
         """What a command writes for each of several words, by their place, as it comes; none where it refuses with the
-        one status. A shell for each processor runs it again and again: to start it is most of what it takes. Where a limit
-        is given, what is not there by then is left out."""
+        one status. Where a limit is given, what is not there by then is left out."""
+        alive()
+        if self.library and library.are_plain([self.database, self.profile]):
+            return self.many_here(self.library, command, each, untold)
+        return self.many_by_shells(command, each, untold)
+
+    def many_here(
+        self, own: library.Library, command: str, each: Sequence[tuple[str, ...]], untold: int
+    ) -> Iterator[tuple[int, bytes | None]]:
+        """The same by the library, on all processors."""
+        given = command, self.database, self.profile
+        files = library.files_of(given[1:])
+        asked = {
+            WORKERS.submit(library.answer, own, [*given, *words], files): place for place, words in enumerate(each)
+        }
+        try:
+            for one in futures.as_completed(asked, self.limit):
+                said = one.result()
+                if said.status not in (0, untold):
+                    raise ToolFault(f"mrt {command} ended with status {said.status}", said.status)
+                yield asked[one], None if said.status else said.text
+        except futures.TimeoutError:
+            pass
+        finally:
+            for one in asked:
+                one.cancel()
+
+    def many_by_shells(
+        self, command: str, each: Sequence[tuple[str, ...]], untold: int
+    ) -> Iterator[tuple[int, bytes | None]]:
+        """The same by the program. A shell for each processor runs it again and again: to start it is most of what it
+        takes."""
         shells = [Shell(self, command, each, first) for first in range(min(len(each), os.cpu_count() or 1))]
         end = time.monotonic() + self.limit if self.limit else None
-        alive()
         try:
             with selectors.DefaultSelector() as selector:
                 for shell in shells:

@@ -56,7 +56,10 @@ def layers(root: str) -> list[tuple[str, list[str]]]:
     """The crates by layer, lowest first, as crates.txt has them."""
     with open(os.path.join(root, "crates.txt"), encoding="utf-8") as file:
         parts = re.split(r"^# (.*)$", file.read(), flags=re.MULTILINE)[1:]
-    found = [(title, re.findall(r"^(\w+):", crates, re.MULTILINE)) for title, crates in zip(parts[::2], parts[1::2])]
+    found = [
+        (title, re.findall(r"^(\w+)(?: staticlib)?:", crates, re.MULTILINE))
+        for title, crates in zip(parts[::2], parts[1::2])
+    ]
     return [(title, crates) for title, crates in found if crates]
 
 

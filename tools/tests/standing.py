@@ -117,6 +117,8 @@ class WithAgent(unittest.TestCase):
         around = Around(self.router, self.source, settings, lambda sources, seconds: None, lambda: self.now)
         agent = Agent(argparse.Namespace(**said | more), around)
         self.quietly(lambda: agent.begin(self.now))
+        # (what others had of late is no matter here)
+        agent.knows = True
         return agent
 
     def quietly(self, work: Callable[[], object]) -> list[str]:

@@ -4,6 +4,7 @@ import re
 import subprocess
 import tempfile
 import unittest
+from typing import ClassVar
 
 from mrttools import reference
 from mrttools.contracts import Crate
@@ -225,16 +226,25 @@ class Contracts(unittest.TestCase):
 
 
 class Pages(unittest.TestCase):
+    library: ClassVar[Library]
+
+    @classmethod
+    def setUpClass(cls) -> None:
+        cls.library = Library(ROOT)
+
     def read(self, name: str) -> str:
         with open(os.path.join(ROOT, name), encoding="utf-8") as file:
             return file.read()
 
-    def test_they_are_as_made(self) -> None:
-        done = told("--check")
-        self.assertEqual((done.returncode, done.stdout, done.stderr), (0, "", ""))
+    def test_what_they_link_to_is_there(self) -> None:
+        for page in (reference.clauses(ROOT, self.library), reference.definitions(ROOT, self.library)):
+            targets = set(re.findall(r"\]\(([^)#:]+)\)", page)) - {"CLAUSES.md", "DEFINITIONS.md"}
+            self.assertGreater(len(targets), 100)
+            lost = [target for target in targets if not os.path.exists(os.path.join(ROOT, "docs", target))]
+            self.assertEqual(lost, [])
 
     def test_what_each_crate_hands_on_is_there(self) -> None:
-        sections = {text.split("\n")[0]: text for text in self.read("docs/CLAUSES.md").split("\n## ")[1:]}
+        sections = {text.split("\n")[0]: text for text in reference.clauses(ROOT, self.library).split("\n## ")[1:]}
         count = 0
         crates = [crate for crate in os.listdir(os.path.join(ROOT, "crates")) if not crate.endswith("_tests")]
         for crate in crates:
@@ -248,7 +258,9 @@ class Pages(unittest.TestCase):
         self.assertGreater(count, 250)
 
     def test_what_the_headline_stands_on_is_there(self) -> None:
-        sections = {text.split("\n")[0]: text for text in self.read("docs/DEFINITIONS.md").split("\n## ")[1:]}
+        sections = {
+            text.split("\n")[0]: text for text in reference.definitions(ROOT, self.library).split("\n## ")[1:]
+        }
         audit = os.path.join(TOOLS, "audit")
         chain = subprocess.run([audit, "--each"], capture_output=True, text=True, check=True).stdout
         found = re.findall(r"^ +\d+ (\S+) crates/(\w+)/specs/(\S+).antt:", chain, re.MULTILINE)
@@ -275,6 +287,11 @@ class Printed(unittest.TestCase):
         self.assertEqual((done.returncode, done.stderr), (0, ""))
         self.assertIn("\npub fn find(&self, id: NodeId) -> Option<NodeNo>\n    ensures found {", done.stdout)
         self.assertIn("\nabbrev pub Apart :", done.stdout)
+
+    def test_an_export(self) -> None:
+        done = told("mrt_abi")
+        self.assertEqual((done.returncode, done.stderr), (0, ""))
+        self.assertIn('\npub extern "C" fn mrt_abi() -> u32\n    ensures { result ≡ 1 }\n', done.stdout)
 
     def test_no_such_name(self) -> None:
         done = told("no_such_thing")

@@ -5,9 +5,11 @@ import socket
 import tempfile
 import time
 import unittest
+from typing import Mapping, Sequence
 from unittest import mock
 
-from mrttools import batch
+from mrttools import batch, library, program
+from mrttools.library import libmrt
 from mrttools.batch import Linux, Refusal
 from mrttools.ending import ToolFault
 from mrttools.program import Program
@@ -99,6 +101,93 @@ class Running(unittest.TestCase):
             with self.assertRaises(ToolFault) as caught:
                 Program(self.path, "db", "pf").run("certify", "x", "y")
         self.assertEqual((caught.exception.status, caught.exception.told, str(caught.exception)), (5, "why", ""))
+
+
+class StandIn:
+    """A library that answers with the words and what their files hold."""
+
+    def run(self, words: Sequence[bytes], files: Mapping[bytes, bytes]) -> bytes:
+        if words[-1] == b"hang":
+            time.sleep(2)
+        if words[-1].startswith(b"refuse"):
+            raise libmrt.Refused(libmrt.Status.NO_COMMON_BLOCK, "mrt: no common block")
+        if words[-1] == b"fault":
+            raise libmrt.Refused(libmrt.Status.BAD_DATABASE, "mrt: bad database: length at 0")
+        return b" ".join(files.get(word, word) for word in words)
+
+
+class Here(unittest.TestCase):
+    """The same by the library."""
+
+    def setUp(self) -> None:
+        place = tempfile.TemporaryDirectory()
+        self.addCleanup(place.cleanup)
+        self.database = os.path.join(place.name, "db")
+        with open(self.database, "w", encoding="ascii") as file:
+            file.write("LSAs")
+        self.enterContext(mock.patch.object(program, "library_for", lambda path: StandIn()))
+
+    def mrt(self, limit: float | None = None) -> Program:
+        return Program("/bin/false", self.database, "-", limit)
+
+    def test_one(self) -> None:
+        self.assertEqual(self.mrt().run("table", "1.1.1.1"), b"table LSAs - 1.1.1.1")
+        self.assertEqual(self.mrt().lines("lfa", "1.1.1.1"), ["lfa LSAs 1.1.1.1"])
+
+    def test_what_a_refusal_says(self) -> None:
+        with open(os.devnull, "w", encoding="ascii") as nowhere, contextlib.redirect_stderr(nowhere):
+            with self.assertRaises(ToolFault) as caught:
+                self.mrt().run("certify", "fault")
+        told = caught.exception.status, caught.exception.told, str(caught.exception)
+        self.assertEqual(told, (3, "mrt: bad database: length at 0", ""))
+
+    def test_many(self) -> None:
+        words = [("a", f"refuse{n}" if n % 3 == 0 else f"b{n}") for n in range(20)]
+        wanted = {n: None if n % 3 == 0 else f"proxy LSAs - a b{n}".encode() for n in range(20)}
+        self.assertEqual(dict(self.mrt().many("proxy", words, untold=13)), wanted)
+        self.assertEqual(list(self.mrt().many("proxy", [], untold=13)), [])
+        with self.assertRaises(ToolFault) as caught:
+            list(self.mrt().many("proxy", [("a", "fault")], untold=13))
+        self.assertEqual(caught.exception.status, 3)
+
+    def test_what_takes_too_long(self) -> None:
+        found = dict(self.mrt(0.5).many("proxy", [("a", "b"), ("a", "hang")], untold=13))
+        self.assertEqual(found, {0: b"proxy LSAs - a b"})
+        with self.assertRaisesRegex(ToolFault, "trace took more than 0.5 seconds"):
+            self.mrt(0.5).run("trace", "hang")
+
+    def test_what_can_be_read_once_is_read_by_the_program(self) -> None:
+        reading, writing = os.pipe()
+        self.addCleanup(os.close, reading)
+        self.addCleanup(os.close, writing)
+        pipe = Program("/bin/echo", f"/dev/fd/{reading}", "-")
+        self.assertEqual(pipe.run("table", "1.1.1.1"), f"table /dev/fd/{reading} - 1.1.1.1\n".encode())
+
+    def test_a_file_that_is_not_there(self) -> None:
+        self.assertEqual(
+            library.files_of([self.database, f"{self.database}.no", "-"]), {self.database.encode(): b"LSAs"}
+        )
+
+
+class Found(unittest.TestCase):
+    """Which library is taken for which program."""
+
+    def test_another_program_has_none(self) -> None:
+        with mock.patch.object(library, "of", lambda root: root):
+            self.assertIsNone(program.library_for("/bin/false"))
+            self.assertEqual(program.library_for(program.MRT), program.ROOT)
+            self.assertEqual(program.library_for(program.program_in(program.ROOT)), program.ROOT)
+
+    def test_a_checkout_without_one_takes_none_that_is_installed(self) -> None:
+        with tempfile.TemporaryDirectory() as root, open(os.path.join(root, "crates.txt"), "w", encoding="ascii"):
+            self.assertIsNone(library.of(root))
+
+    def test_what_is_no_library(self) -> None:
+        with tempfile.TemporaryDirectory() as root:
+            os.makedirs(os.path.join(root, "crates", "mrt_c", "out"))
+            with open(os.path.join(root, "crates", "mrt_c", "out", "libmrt.so.1"), "w", encoding="ascii") as file:
+                file.write("text")
+            self.assertIsNone(library.of(root))
 
 
 if __name__ == "__main__":

@@ -1,6 +1,7 @@
-"""The script mrt: when it builds, what it says of the program, what it installs; and what tools/release makes."""
+"""The script mrt and those that it runs: when it builds, what it says of the program, what it installs, the library; and what tools/release makes."""
 from __future__ import annotations
 
+import ctypes
 import hashlib
 import os
 import re
@@ -23,23 +24,30 @@ COPIED = [
     "NOTICE",
     "mrt",
     ".ci",
+    "include",
+    "examples",
     "tools",
 ]
 FILES = {
     "HANDLES": "Handles allowed: none.\n",
-    "crates.txt": "# the crates\nlow: smallvec\nmrt: low\n\n# tests\nlow_tests: low\n",
+    "crates.txt": "# the crates\nlow: smallvec\nmrt: low\nmrt_c staticlib: low\n\n# tests\nlow_tests: low\n",
     "crates/low/src/lib.rt": "low\n",
     "crates/low/proofs/Lib.antt": "proof\n",
     "crates/low/must-fail/one.edit": "file: src/lib.rt\nold: low\nnew: high\n",
     "edits/low/two.edit": "file: src/lib.rt\nold: low\nnew: lower\n",
     "edits/mrt/three.edit": "file: src/main.rt\nold: main\nnew: other\n",
     "crates/mrt/src/main.rt": "main\n",
+    "crates/mrt_c/src/lib.rt": "exports\n",
     "crates/low_tests/src/lib.rt": "tests\n",
     ".gitignore": "out/\n__pycache__/\n",
 }
 
-# A toolchain that proves all and builds a program, which is a true one, since a package is made of it. It refuses all edits but those with the word weak.
+# A toolchain that proves all and builds a program and the code of a library, which are true ones, since packages are made of them. It refuses all edits
+# but those with the word weak.
 RT = """#!/bin/sh
+compiled() {
+    gcc -O2 -fPIC -c -x c -o "$2" - && ar rc "$1" "$2" && rm "$2"
+}
 tried() {
     if grep -q weak "$2"; then echo "rt: must-fail $1/${2##*/}: NOT REFUSED: so"; return; fi
     echo "rt: must-fail $1/${2##*/}: refused, as it must be: src/lib.rt:1:1: error: so"
@@ -53,6 +61,16 @@ lib | check)
     ! grep -q wrong src/*.rt || exit 1
     [ -f out/rlib/stamp ] || echo "${PWD##*/}" >>"$BUILT.libraries"
     mkdir -p out/rlib && touch out/rlib/stamp
+    [ "${PWD##*/}" != mrt_c ] || {
+        echo 'void *rattle_alloc(unsigned long);'
+        sed -n 's/^uint32_t \\(mrt_[a-z_]*\\)(.*/unsigned \\1(void) { return rattle_alloc(8) ? sizeof "\\1" : 1; }/p' include/mrt.h
+    } | compiled out/libmrt_c.a out/code.o
+    ;;
+doc)
+    mkdir -p "$BUILT.kit/c"
+    echo 'void *malloc(unsigned long); void *rattle_alloc(unsigned long n) { return malloc(n); }' |
+        compiled "$BUILT.kit/c/liblibc_c.a" "$BUILT.kit/heap.pic.o"
+    echo "$BUILT.kit/START-HERE.md"
     ;;
 must-fail)
     [ "$2" = low ] || [ -f crates/low/out/rlib/stamp ] || exit 1
@@ -60,7 +78,9 @@ must-fail)
     ;;
 *) echo "test-kit logic 0" ;;
 esac
-"""
+""".replace(
+    "include/mrt.h", os.path.join(ROOT, "include", "mrt.h")
+)
 # The tests of the tools.
 TEST = """#!/bin/sh
 echo "Ran 7 tests in 1.234s" && echo && echo OK
@@ -100,7 +120,7 @@ class Checkout(unittest.TestCase):
                 shutil.copy(os.path.join(ROOT, name), self.at(name))
         shutil.copytree(os.path.join(ROOT, "crates", "mrt", "data"), self.at("crates/mrt/data"))
         os.mkdir(self.at("docs"))
-        for name in ("COMMANDS.md", "mrt.1"):
+        for name in ("COMMANDS.md", "LIBRARY.md", "mrt.1"):
             shutil.copy(os.path.join(ROOT, "docs", name), self.at("docs"))
         write(self.path("bin", "rt"), RT, 0o755)
         # Whatever this machine lacks, nothing is installed.
@@ -195,7 +215,7 @@ class Building(Checkout):
         self.said("./mrt")
         shutil.copy("/bin/true", self.at("crates/mrt/out/mrt"))
         self.assertIn("is not known", self.said("./mrt", "--version"))
-        self.assertEqual(self.run_in(self.folder, "./mrt", "--kept").returncode, 1)
+        self.assertEqual(self.run_in(self.folder, "tools/build", "--kept").returncode, 1)
 
     def test_without_the_list_of_crates_there_is_nothing_to_build(self) -> None:
         os.remove(self.at("crates.txt"))
@@ -224,6 +244,88 @@ class Building(Checkout):
         self.said("./mrt")
         version = r"^Semborui \d+\.\d\S*\ncommit not known\nkit test-kit logic 0\nproved here\n$"
         self.assertRegex(self.said("./mrt", "--version"), version)
+
+
+@unittest.skipUnless(shutil.which("gcc"), "needs gcc")
+class Library(Checkout):
+    """What ./mrt --library makes, and when it builds."""
+
+    def made(self) -> str:
+        self.said("./mrt", "--library", self.path("lib"))
+        return self.path("lib")
+
+    def refused(self) -> str:
+        done = self.run_in(self.folder, "./mrt", "--library", self.path("lib"))
+        self.assertEqual((done.returncode, done.stdout, os.path.exists(self.path("lib"))), (70, "", False))
+        return done.stderr.splitlines()[-1]
+
+    def test_what_it_makes(self) -> None:
+        lib = self.made()
+        self.assertEqual(sorted(os.listdir(lib)), ["libmrt.a", "libmrt.so", "libmrt.so.1", "mrt.h", "mrt.pc"])
+        self.assertEqual(ctypes.CDLL(os.path.join(lib, "libmrt.so")).mrt_abi(), len("mrt_abi") + 1)
+        told = self.said("readelf", "--wide", "--dynamic", "--notes", "--segments", os.path.join(lib, "libmrt.so.1"))
+        for line in (
+            r"\(SONAME\) +Library soname: \[libmrt\.so\.1\]",
+            r"\(NEEDED\) +Shared library: \[libc\.so\.6\]",
+            r"\(FLAGS\) +BIND_NOW",
+            r"x86 ISA needed: x86-64-v2",
+            r"GNU_RELRO",
+            r"GNU_STACK .* RW ",
+        ):
+            self.assertRegex(told, line)
+        self.assertEqual(told.count("(NEEDED)"), 1)
+
+    def test_it_is_built_once(self) -> None:
+        sums = [summed(os.path.join(self.made(), "libmrt.so.1")) for _ in range(2)]
+        self.assertEqual((sums[0], self.builds()), (sums[1], 1))
+        write(self.at("crates/mrt/src/main.rt"), "changed\n")
+        self.made()
+        self.assertEqual(self.builds(), 1)
+        write(self.at("crates/mrt_c/src/lib.rt"), "changed\n")
+        self.made()
+        self.assertEqual(self.builds(), 2)
+        self.said("./mrt")
+        self.assertEqual(self.builds(), 3)
+
+    @unittest.skipUnless(shutil.which("pkg-config"), "needs pkg-config")
+    def test_both_link(self) -> None:
+        lib, program = self.made(), self.path("program")
+        write(self.path("main.c"), "#include <mrt.h>\nint main(void) { return (int)mrt_abi(); }\n")
+        env = {**self.env(), "PKG_CONFIG_PATH": lib, "LD_LIBRARY_PATH": lib}
+        flags = subprocess.check_output(["pkg-config", "--cflags", "--libs", "mrt"], env=env, text=True).split()
+        for words in (flags, [flags[0], os.path.join(lib, "libmrt.a")]):
+            self.said("gcc", "-o", program, self.path("main.c"), *words)
+            self.assertEqual(subprocess.run([program], env=env, check=False).returncode, len("mrt_abi") + 1)
+            if shutil.which("qemu-x86_64"):
+                older = subprocess.run(
+                    ["qemu-x86_64", "-cpu", "core2duo", program], env=env, capture_output=True, check=False
+                )
+                self.assertIn(b"CPU ISA level is lower than required", older.stderr)
+        # What libmrt.a is linked into needs the same processor.
+        self.assertRegex(self.said("readelf", "--notes", program), "x86 ISA needed: .*x86-64-v2")
+
+    def test_what_is_taken_from_elsewhere(self) -> None:
+        for name in ("getpid", "__errno_location"):
+            write(self.path("bin", "rt"), RT.replace("? sizeof", f"? {name}(0) + sizeof"), 0o755)
+            write(self.at("crates/mrt_c/src/lib.rt"), name)
+            self.assertRegex(self.refused(), f"mrt.o takes from elsewhere: {name}$")
+
+    def test_a_call_that_lacks(self) -> None:
+        write(self.path("bin", "rt"), RT.replace("uint32_t \\(mrt_[a-z_]*\\)", "uint32_t \\(mrt_[a-p_]*\\)"), 0o755)
+        self.assertIn("does not have the calls of mrt.h", self.refused())
+
+    def test_a_proof_that_fails(self) -> None:
+        write(self.at("crates/mrt_c/src/lib.rt"), "wrong\n")
+        self.assertIn("the build failed", self.refused())
+
+    def test_where_there_is_nothing_to_build_it_from(self) -> None:
+        lib = self.made()
+        os.remove(self.at("crates.txt"))
+        sums = {name: summed(os.path.join(lib, name)) for name in os.listdir(lib)}
+        self.assertEqual({name: summed(os.path.join(self.made(), name)) for name in os.listdir(lib)}, sums)
+        shutil.rmtree(self.at("crates/mrt_c/out"))
+        shutil.rmtree(lib)
+        self.assertIn("libmrt1 and libmrt-dev", self.refused())
 
 
 class Deep(Checkout):
@@ -379,6 +481,9 @@ class Installing(Checkout):
             write(unit, "\n".join(lines).replace("=mrt-agent ", f"={self.path('usr/bin/mrt-agent')} "))
             told = self.run_in(self.top, "systemd-analyze", "verify", "--man=no", unit).stderr
             self.assertEqual([line for line in told.splitlines() if "mrt-agent" in line], [])
+            # (by how much it could do: of 10, what has all rights has 9.6)
+            words = ["systemd-analyze", "security", "--offline=yes", "--no-pager", "--threshold=30", unit]
+            self.assertEqual(self.run_in(self.top, *words).returncode, 0)
 
     def look_at_help_and_tools(self) -> None:
         self.assertIn("mrt survey NUMBER NODES", self.said("usr/bin/mrt", "help", "survey", folder=self.top))
@@ -392,7 +497,7 @@ class Installing(Checkout):
         self.assertTrue(os.path.exists(os.path.join(share, DATABASE)))
 
 
-@unittest.skipUnless(shutil.which("dpkg-shlibdeps") and shutil.which("git"), "needs git and dpkg-dev")
+@unittest.skipUnless(all(shutil.which(it) for it in ("dpkg-shlibdeps", "git", "gcc")), "needs git, gcc and dpkg-dev")
 class Releasing(Checkout):
     def setUp(self) -> None:
         super().setUp()
@@ -414,6 +519,8 @@ class Releasing(Checkout):
     def test_refused_without_a_gate_that_passed(self) -> None:
         self.assertIn("run .ci/run", self.refused())
         self.said("./mrt")
+        self.assertIn("left no libmrt_c.a here", self.refused())
+        self.said("tools/build", "--library")
         self.assertIn("the gate has not passed", self.refused())
         self.said(".ci/run")
         write(self.at("crates/low/src/lib.rt"), "changed\n")
@@ -457,11 +564,11 @@ class Releasing(Checkout):
         write(self.path("bin", "rt"), FAILED, 0o755)
         done = self.run_in(self.folder, ".ci/run")
         self.assertEqual((done.returncode, done.stdout), (1, "FAILED\n"))
-        self.assertIn("left no program", self.refused())
+        self.assertIn("left no mrt here", self.refused())
 
     def release(self, name: str, *options: str) -> dict[str, str]:
         """Makes a release in a folder; the checksums of what it made."""
-        lines = self.said("tools/release", *options, self.path(name)).splitlines()[-2:]
+        lines = self.said("tools/release", *options, self.path(name)).splitlines()[-4:]
         sums = {file: checksum for checksum, file in (line.split("  ") for line in lines)}
         for file, checksum in sums.items():
             self.assertEqual(summed(self.path(name, file)), checksum)
@@ -476,9 +583,9 @@ class Releasing(Checkout):
         self.said("tools/deep")
         sums = self.release("one")
         self.assertEqual(self.release("two"), sums)
-        archive, package = (self.path("one", name) for name in sums)
+        archive, *packages = (self.path("one", name) for name in sums)
         self.look_at_the_archive(archive)
-        self.look_at_the_package(package)
+        self.look_at_the_packages(packages)
         self.assertEqual(self.builds(), 1)
 
     def look_at_the_archive(self, archive: str) -> None:
@@ -501,12 +608,29 @@ class Releasing(Checkout):
         self.assertIn("\nproved before the release (see PROVED), not here\n", version)
         self.said("./mrt", "--install", self.path("usr"), folder=folder)
         self.assertEqual(self.said("usr/bin/mrt", "a", folder=self.top), "a\n")
+        self.said("./mrt", "--library", self.path("lib"), folder=folder)
+        self.assertEqual(ctypes.CDLL(self.path("lib", "libmrt.so")).mrt_abi(), len("mrt_abi") + 1)
 
-    def look_at_the_package(self, package: str) -> None:
+    def look_at_the_packages(self, packages: list[str]) -> None:
         root = self.path("root")
-        self.assertRegex(self.said("dpkg-deb", "--field", package, "Depends"), r"^libc6 \(.*\), python3 \(")
-        self.said("dpkg-deb", "--extract", package, root)
+        needs = {it: self.said("dpkg-deb", "--field", it, "Depends").strip() for it in packages}
+        semborui, library, developing = packages
+        self.assertRegex(needs[semborui], r"^libc6 \(.*\), python3 \(")
+        self.assertRegex(needs[library], r"^libc6 \([^,]*\)$")
+        self.assertRegex(needs[developing], r"^libmrt1 \(= [0-9.]+\)$")
+        for package in packages:
+            self.said("dpkg-deb", "--extract", package, root)
         self.assertEqual(self.said(os.path.join(root, "usr/bin/mrt"), "a"), "a\n")
+        self.said("dpkg-deb", "--control", library, self.path("control"))
+        with open(self.path("control", "symbols"), encoding="utf-8") as file:
+            symbols = re.findall(r"^ (mrt_\w+)@MRT_1 1\.0$", file.read(), re.MULTILINE)
+        folder = os.path.join(root, "usr/lib/x86_64-linux-gnu")
+        told = self.said("nm", "--dynamic", "--defined-only", os.path.join(folder, "libmrt.so.1"))
+        self.assertEqual(symbols, re.findall(r" T (mrt_\w+)@@MRT_1$", told, re.MULTILINE))
+        with open(os.path.join(folder, "pkgconfig", "mrt.pc"), encoding="utf-8") as file:
+            self.assertIn(
+                "prefix=/usr\nlibdir=${prefix}/lib/x86_64-linux-gnu\nincludedir=${prefix}/include\n", file.read()
+            )
         for path, _, names in os.walk(root):
             for name in names:
                 self.assertTrue(os.path.exists(os.path.join(path, name)), name)
