@@ -6,7 +6,7 @@ import argparse
 import json
 import os
 
-from . import batch, exposure, hearing, kernel, listing, locking, lsas, ospfapi, status
+from . import batch, exposure, files, hearing, kernel, listing, locking, lsas, ospfapi, status
 from .around import Around, Source
 from .batch import NOTHING, Linux
 from .ending import REFUSED, ToolFault
@@ -17,6 +17,7 @@ from .lsas import Lsa
 from .settings import Settings
 from .sources import Ears, Word
 from .waiting import Waiting, notify
+from .watching import watched
 
 SETTINGS = "settings.json"
 
@@ -54,9 +55,11 @@ def keep(said: argparse.Namespace) -> int:
     waiting = Waiting()
     refuse_exposed(said)
     with locking.lock_folder(said.folder), locking.lock_namespace():
+        files.clear_parts(said.folder)
         tell(f"the program is {said.mrt}")
         settings = Settings(os.path.join(said.folder, SETTINGS))
-        agent = Agent(said, Around(Here(said.daemon), source_of(said), settings, waiting.wait))
+        watch = watched(said.profile)
+        agent = Agent(said, Around(Here(said.daemon), source_of(said), settings, waiting.wait, profile=watch))
         notify("READY=1")
         keep_until_end(agent, said)
     return 0

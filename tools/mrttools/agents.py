@@ -1,5 +1,5 @@
 """The lab's agents: one in each router, and what they make of a link that comes, a router that goes, another profile,
-two changes within a second, and daemons that die; and how many pings are lost meanwhile, with agents and without."""
+two changes within a second, and daemons that die; and which pings are lost meanwhile, with agents and without."""
 from __future__ import annotations
 
 import json
@@ -8,14 +8,16 @@ import subprocess
 import time
 from typing import Any, Callable, NamedTuple
 
-from . import batch, kernel, lsas, status
+from . import batch, kernel, lsas, outcomes, status
 from .batch import Linux, State
+from .dropped import Down, Watch
 from .ending import ToolFault
 from .failing import FAILING, STANDING, failures, pairs
-from .forwarding import Batch, do_at_once, line_of, lost_by
+from .forwarding import Batch, do_at_once, line_of
 from .hearing import Database, instance_of
-from .network import Network, router_id
-from .pinging import Counted, Pinging
+from .network import router_id
+from .outcomes import Pinged, Row
+from .pinging import Pinging
 from .program import ROOT
 from .running import Lab, LabFault
 from .sources import SILENT
@@ -24,8 +26,6 @@ from .sources import SILENT
 LINGER, PATIENCE = 3, 90
 # Pings of each pair while something changes, how far they are apart in milliseconds, and the seconds before it.
 PINGS, EVERY, BEFORE = 1500, 20, 0.5
-HEAD = ("change", "routers", "changes", "last word", "tables", "beyond", "lost: with", "without")
-WIDTHS = (34, 7, 9, 11, 9, 8, 12, 9)
 # Whose daemons die: the first one's agent leaves its table, the second one's takes it away.
 LEFT, STRICT = 6, 9
 
@@ -54,10 +54,12 @@ class Agents:
     def __init__(self, lab: Lab, mrt: str, folder: str) -> None:
         self.lab, self.mrt, self.folder, self.network = lab, mrt, folder, lab.spaces
         self.running: dict[int, subprocess.Popen[bytes]] = {}
-        # What all agents are told besides.
+        # What all agents are told besides, and the ends of wires that are or were down.
         self.options: list[str] = []
-        os.makedirs(folder, exist_ok=True)
-        self.profile = self.name("profile")
+        self.down: list[Down] = []
+        # (each change in the profile's folder wakes all agents)
+        self.profile = self.name("profile/area.profile")
+        os.makedirs(os.path.dirname(self.profile), exist_ok=True)
 
     def name(self, last: str) -> str:
         return os.path.join(self.folder, last)
@@ -151,12 +153,19 @@ class Change(NamedTuple):
     away: tuple[int, ...] = ()
 
 
-def wires(network: Network, verb: str, *names: str) -> None:
+def wires(agents: Agents, verb: str, *names: str) -> None:
     """Takes the wires of links and routers down or up at once."""
+    network = agents.network
     found = failures(network.plan)
     ports = [port for failure in found if failure.name.split(" on ")[0] in names for port in failure.ports]
     network.group(ports, FAILING)
+    now = time.time()
+    if verb == "down":
+        agents.down += [Down(port, now, float("inf")) for port in ports]
     do_at_once([Batch(network.wires, [f"link set group {FAILING} {verb}"])])
+    if verb == "up":
+        now = time.time()
+        agents.down = [each._replace(until=min(each.until, now)) if each.port in ports else each for each in agents.down]
     network.group(ports, STANDING)
 
 
@@ -166,12 +175,12 @@ def write_profile(agents: Agents, root: int) -> None:
 
 
 def changes(agents: Agents) -> list[Change]:
-    network, lab = agents.network, agents.lab
+    lab = agents.lab
 
     def two() -> None:
-        wires(network, "down", "link r1-r2")
+        wires(agents, "down", "link r1-r2")
         time.sleep(0.5)
-        wires(network, "down", "link r5-r6")
+        wires(agents, "down", "link r5-r6")
 
     def die() -> None:
         for router in (LEFT, STRICT):
@@ -182,62 +191,41 @@ def changes(agents: Agents) -> list[Change]:
             lab.start(router)
 
     return [
-        Change("link r4-r5 comes", lambda: wires(network, "up", "link r4-r5")),
-        Change("router r6 goes", lambda: wires(network, "down", "router r6"), (6,), (6,)),
-        Change("router r6 comes back", lambda: wires(network, "up", "router r6"), (), (6,)),
+        Change("link r4-r5 comes", lambda: wires(agents, "up", "link r4-r5")),
+        Change("router r6 goes", lambda: wires(agents, "down", "router r6"), (6,), (6,)),
+        Change("router r6 comes back", lambda: wires(agents, "up", "router r6"), (), (6,)),
         Change("the profile has another root", lambda: write_profile(agents, 5)),
         Change("two links go, half a second apart", two),
-        Change("both come back", lambda: wires(network, "up", "link r1-r2", "link r5-r6")),
+        Change("both come back", lambda: wires(agents, "up", "link r1-r2", "link r5-r6")),
         Change(f"daemons of r{LEFT} and r{STRICT} die", die, (LEFT, STRICT), (LEFT, STRICT)),
         Change("both are started again", again, (), (LEFT, STRICT)),
     ]
 
 
-class Row(NamedTuple):
-    """What came of a change: how many routers had other tables, their changes, the seconds until the last word of it came
-    to an agent and until the last one had its table, and how long that took one at most after its last word; and what
-    was counted of pings, with agents and without."""
-
-    name: str
-    routers: int
-    changes: int
-    word: float
-    tables: float
-    beyond: float
-    counted: Counted
-    without: Counted
-
-    @property
-    def cells(self) -> tuple[str, ...]:
-        lost = (f"{lost_by(each):,}" for each in (self.counted, self.without))
-        seconds = (f"{each:.1f}" for each in (self.word, self.tables, self.beyond))
-        return self.name, f"{self.routers:,}", f"{self.changes:,}", *seconds, *lost
-
-
-def pinged(agents: Agents, change: Change) -> Counted:
+def pinged(agents: Agents, change: Change) -> Pinged:
     """Has something change, and waits until all have their tables, while all pairs are pinged."""
     chosen = [pair for pair in pairs(agents.network.plan) if not set(pair) & set(change.away)]
+    watch = Watch(agents.network, agents.name("watched"))
     pinging = Pinging(agents.network, chosen, PINGS, EVERY)
     time.sleep(BEFORE)
+    began = time.time()
     change.do()
     agents.wait(change.out)
-    return pinging.end()
+    counted = pinging.end()
+    return Pinged(began, counted, watch.end(agents.down, counted))
 
 
-def tried(agents: Agents, change: Change, without: Counted) -> Row:
+def tried(agents: Agents, change: Change, without: Pinged) -> Row:
     """A change, with what the agents said of it."""
     routers = list(agents.running)
     before = {router: len(agents.said(router, "out")) for router in routers}
-    began = time.time() + BEFORE
-    counted = pinged(agents, change)
+    found = pinged(agents, change)
     lines = {router: len(agents.said(router, "out")) - before[router] for router in routers}
-    times = [times_of(agents.facts(router)) for router in routers]
-    new = [(heard, put) for heard, put in times if put > began]
-    word, tables = (max((each[place] for each in new), default=began) - began for place in (0, 1))
-    beyond = max((put - heard for heard, put in new), default=0.0)
-    return Row(
-        change.name, sum(map(bool, lines.values())), sum(lines.values()), word, tables, beyond, counted, without
-    )
+    times = {router: times_of(agents.facts(router)) for router in routers}
+    new = {
+        router: (heard - found.began, put - found.began) for router, (heard, put) in times.items() if put > found.began
+    }
+    return Row(change.name, lines, new, found, without)
 
 
 def times_of(facts: dict[str, Any]) -> tuple[float, float]:
@@ -269,7 +257,7 @@ def refused(agents: Agents, router: int) -> str:
 def begin(agents: Agents, routers: list[int]) -> None:
     """Starts all daemons, and the agents of some routers before them. All have the settings, to compare."""
     write_profile(agents, 2)
-    wires(agents.network, "down", "link r4-r5")
+    wires(agents, "down", "link r4-r5")
     for router in agents.network.plan.routers:
         own = [lsas.address(each.address) for each in agents.network.plan.interfaces(router)]
         Inside(agents.network.of(router)).run("sh", text=kernel.settings(own))
@@ -280,39 +268,31 @@ def begin(agents: Agents, routers: list[int]) -> None:
     agents.wait()
 
 
-def without(agents: Agents) -> list[Counted]:
+def without(agents: Agents) -> list[Pinged]:
     """What is counted at each change where no agent runs."""
     begin(agents, [])
     return [pinged(agents, change) for change in changes(agents)]
 
 
-def circled(rows: list[Row]) -> str:
-    """How many of the lost packets went in circles: those of the daemons' own loops while they find new ways."""
-    with_them, without_them = ([each.counted for each in rows], [each.without for each in rows])
-    lost, bare = (sum(map(lost_by, counted)) for counted in (with_them, without_them))
-    return (
-        f"agent: with agents {lost:,} pings were lost, and {sum(each.circled for each in with_them):,} packets circled; "
-        f"without them {bare:,} and {sum(each.circled for each in without_them):,}"
-    )
-
-
-def run(agents: Agents, bare: list[Counted], say: Callable[[str], None]) -> bool:
+def run(agents: Agents, bare: list[Pinged], say: Callable[[str], None], record: str) -> bool:
     """All changes, one after another; whether each router had the table that tools/fib has, and those whose daemons
-    died what was asked, and whether a batch that failed was undone."""
+    died what was asked, whether a batch that failed was undone, and no ping was lost by an agent."""
     begin(agents, agents.network.plan.routers)
     say(f"agent: {len(agents.running)} routers have the tables of tools/fib: {total(agents):,} routes and rules")
     undone = refused(agents, 1)
     say(f"agent: r1 is given a batch that fails in its middle: {undone or 'IT IS NOT UNDONE'}")
-    say(line_of(HEAD, WIDTHS))
+    say(line_of(outcomes.HEAD, outcomes.WIDTHS))
     agreed, rows = bool(undone), []
     for change, counted in zip(changes(agents), bare):
         before = agents.state(LEFT)
         rows.append(tried(agents, change, counted))
-        say(line_of(rows[-1].cells, WIDTHS))
+        say(line_of(rows[-1].cells, outcomes.WIDTHS))
+        outcomes.write(record, agents.lab.daemon.version(), rows)
         if STRICT in change.out:
             agreed = silent_as_asked(agents, before) and agreed
-    say(circled(rows))
-    return agreed
+    for line in (*outcomes.times(rows, list(agents.running)), *outcomes.losses(rows), outcomes.circled(rows)):
+        say(line)
+    return agreed and not outcomes.by_agents(rows)
 
 
 def total(agents: Agents) -> int:

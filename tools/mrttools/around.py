@@ -9,6 +9,7 @@ from .kernel import Interfaces
 from .netlink import News
 from .settings import Settings
 from .sources import Told
+from .watching import Watched
 
 
 class Router(batch.Kernel, Protocol):
@@ -57,3 +58,4 @@ class Around(NamedTuple):
     settings: Settings
     wait: Callable[[Iterable[int], float], None]
     clock: Callable[[], float] = time.monotonic
+    profile: Watched | None = None

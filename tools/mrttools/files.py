@@ -9,6 +9,8 @@ import tempfile
 from .ending import REFUSED, WRITE_FAULT, ToolFault, system_line
 
 STANDARD = "-"
+# How the name of a file ends that is not whole yet.
+PART = ".part"
 
 
 def refuse_same(source: str, target: str) -> None:
@@ -44,18 +46,41 @@ def is_regular(name: str) -> bool:
     return not os.path.exists(name) or stat.S_ISREG(os.stat(name).st_mode)
 
 
-def replace(name: str, data: bytes) -> None:
-    """Puts a new file in the place of an old one, with its rights."""
+def replace(name: str, data: bytes, lasting: bool = True) -> None:
+    """Puts a new file in the place of an old one, with its rights. What lasts is there whole whenever the machine stops:
+    it waits for the disk."""
     mode = stat.S_IMODE(os.stat(name).st_mode) if os.path.exists(name) else 0o666 & ~mask()
-    place, part = tempfile.mkstemp(prefix=".", suffix=".part", dir=os.path.dirname(name))
+    folder = os.path.dirname(name)
+    place, part = tempfile.mkstemp(prefix=".", suffix=PART, dir=folder)
     try:
         with os.fdopen(place, "wb") as file:
             file.write(data)
+            if lasting:
+                file.flush()
+                os.fsync(file.fileno())
         os.chmod(part, mode)
         os.replace(part, name)
     except BaseException:
         os.unlink(part)
         raise
+    if lasting:
+        sync(folder)
+
+
+def sync(folder: str) -> None:
+    """Has the disk keep the names in a folder."""
+    place = os.open(folder or ".", os.O_RDONLY | os.O_DIRECTORY | os.O_CLOEXEC)
+    try:
+        os.fsync(place)
+    finally:
+        os.close(place)
+
+
+def clear_parts(folder: str) -> None:
+    """Takes away what one that was ended in the middle of a write has left."""
+    for name in os.listdir(folder):
+        if name.startswith(".") and name.endswith(PART):
+            os.unlink(os.path.join(folder, name))
 
 
 def copy(source: str, target: str) -> None:

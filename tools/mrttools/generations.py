@@ -2,9 +2,10 @@
 
 Each certificate has one of eight generations by its digest, and each generation has tables, marks and code points of its
 own. New rows come beside the old ones, then repairs turn to them, and the old rows go after a while: so long other routers
-may still send packets on them. Where another certificate had the same generation not long ago, its rows go first and the
-new ones come after a pause, in which other routers do the same. So it is with a prefix that other routers have now, under
-the same certificate."""
+may still send packets on them. Where another certificate had the same generation not long ago, here or at a router that
+saw changes apart which came here as one, its rows stay as long as OSPF needs for new ways; then they go, and the new ones
+come after a pause, in which other routers do the same. So it is with a prefix that other routers have now, under the same
+certificate."""
 from __future__ import annotations
 
 import json
@@ -14,9 +15,10 @@ from . import files
 from .batch import State, bare, is_repair, prefix_of
 from .kernel import REALMS, TABLES
 
-# Seconds in which other routers, too, have taken away what fits no new rows; and those after which a router turns its
-# repairs that has itself lost a link: it needs the old ones, and by then the others have the new rows.
-PAUSE, TURN = 3.0, 0.5
+# Seconds for which rows and repairs stay that fit no new rows, as they carry packets while OSPF finds new ways; those in
+# which other routers, too, have taken them away; and those after which a router turns its repairs that has itself lost a
+# link: it needs the old ones, and by then the others have the new rows.
+KEPT, PAUSE, TURN = 3.0, 3.0, 0.5
 
 
 def color_of(line: str) -> int | None:
@@ -53,6 +55,15 @@ def is_of_color(line: str) -> bool:
     return is_repair(line) and generation_of(line) is not None
 
 
+class Skipped(NamedTuple):
+    """A certificate that other routers may have had and this one had not: its generation, its digest, and until when its
+    rows may be there. None of both is known of what nobody has seen here."""
+
+    generation: int | None
+    digest: str
+    until: float
+
+
 class Generations:
     """What the kernel is to have at a time: the newest routes, but for those that wait, and old ones that linger."""
 
@@ -64,6 +75,7 @@ class Generations:
         # The digest that each generation had last, and when its rows went or will have gone.
         self.digests: dict[int, str] = {}
         self.gone: dict[int, float] = {}
+        self.skipped: list[Skipped] = []
         # Until when a generation has no routes, or a prefix of it; and until when repairs do not turn.
         self.held: dict[tuple[int, str], float] = {}
         self.turn = 0.0
@@ -80,10 +92,12 @@ class Generations:
         """Takes newest routes in the place of what the kernel has; what is to be told of it."""
         told, before, mine = None, self.made, made.generation
         self.lay_away(made, has, now)
-        if self.clashes(made, now):
-            self.held[mine, ""] = now + PAUSE
-            self.old = {line: until for line, until in self.old.items() if generation_of(line) != mine}
-            told = f"another certificate has had generation {mine}: its rows go, and the new ones come in {PAUSE:g} s"
+        if self.clashes(mine, made.digest, now):
+            self.held[mine, ""] = now + KEPT + PAUSE
+            for line in has:
+                if generation_of(line) == mine:
+                    self.old[line] = min(self.old.get(line, now + KEPT), now + KEPT)
+            told = f"routers may have another certificate of generation {mine}: the new rows come in {KEPT + PAUSE:g} s"
         if before and before.digest == made.digest:
             for prefix in made.moved_from(before):
                 self.held[mine, prefix] = now + PAUSE
@@ -98,13 +112,31 @@ class Generations:
         for line in has - made.state:
             if generation_of(line) not in (None, made.generation):
                 self.old.setdefault(line, now + self.linger)
-        self.old = {line: until for line, until in self.old.items() if line not in made.state}
+        # (repairs that others have taken the place of are gone)
+        self.old = {
+            line: until
+            for line, until in self.old.items()
+            if (line not in made.state or self.waits(line)) and (line in has or not is_of_color(line))
+        }
 
-    def clashes(self, made: Made, now: float) -> bool:
-        """Whether the generation had another certificate whose rows other routers may have."""
-        known = self.digests.get(made.generation, made.digest)
-        current = self.made is not None and self.made.generation == made.generation
-        return known != made.digest and (current or now < self.gone.get(made.generation, 0) + PAUSE)
+    def skip(self, now: float, generation: int | None = None, digest: str = "") -> None:
+        """Other routers may have rows of a certificate that came and went, or of any."""
+        self.skipped.append(Skipped(generation, digest, now + self.linger))
+
+    def clashes(self, generation: int, digest: str, now: float) -> bool:
+        """Whether a certificate's generation had another one whose rows other routers may have."""
+        if self.made is not None and self.made.digest == digest:
+            return False
+        known = self.digests.get(generation)
+        current = self.made is not None and self.made.generation == generation
+        if known not in (None, digest) and (current or now < self.gone.get(generation, 0) + PAUSE):
+            return True
+        self.skipped = [each for each in self.skipped if now < each.until + PAUSE]
+        # (rows that are there already are those of all who have this certificate)
+        return any(
+            known != digest if each.generation is None else each.generation == generation and each.digest != digest
+            for each in self.skipped
+        )
 
     # what there is to be
 
@@ -150,7 +182,8 @@ class Generations:
     # files
 
     def write(self, name: str) -> None:
-        files.replace(name, json.dumps({str(each): digest for each, digest in self.digests.items()}).encode("ascii"))
+        told = {str(each): digest for each, digest in self.digests.items()}
+        files.replace(name, json.dumps(told).encode("ascii"), lasting=False)
 
 
 def read(name: str) -> dict[int, str]:

@@ -20,7 +20,7 @@ from .nexthops import Ways
 from .program import Program
 from .refusing import Refused
 from .settling import Settling
-from .sight import Content, Sight
+from .sight import Content, Passed, Sight
 from .status import Status
 from .table import Table, Wanted
 
@@ -52,7 +52,7 @@ class Agent:
     def __init__(self, said: argparse.Namespace, around: Around) -> None:
         self.said, self.around, self.kernel = said, around, around.kernel
         self.settling = Settling(said.quiet)
-        self.sight = Sight(said, around.kernel, around.source, self.settling)
+        self.sight = Sight(said, around, self.settling)
         self.generations = Generations(said.linger)
         self.refused = Refused()
         self.status = Status(self.name("status", "agent"), lsas.spelled(said.router), said.daemon)
@@ -60,6 +60,8 @@ class Agent:
         self.state: State = NOTHING
         self.news = News()
         self.nft, self.marks, self.devices = "", "", set[str]()
+        # The prefixes to which no repair is to be, as the daemon has lost its route.
+        self.gone: frozenset[str] = frozenset()
         # When it was looked at next and last, and when it was changed last.
         self.kernel_next = self.kernel_last = self.put_last = 0.0
         self.ways: tuple[Content, Ways] | None = None
@@ -68,6 +70,8 @@ class Agent:
         self.fault, self.retry = "", 0.0
         self.kept, self.keep_next = self.sight.found, 0.0
         self.told = ""
+        # Whether all certificates of late are known: an agent that has just begun, or has long heard nothing, knows none.
+        self.knows = False
         self.done = self.begun = False
 
     def name(self, kind: str, stem: str = "area") -> str:
@@ -85,11 +89,12 @@ class Agent:
         """Has the kernel end packets on colors that have no table yet, from the first moment on."""
         self.state = self.kernel.state()
         self.generations.begin(self.state, generations.read(self.name("json", "generations")), now)
+        self.sight.begin(frozenset(batch.prefix_of(line) for line in self.state if batch.is_repair(line)), now)
         if not self.said.dry_run:
             # (those of an agent before have the interfaces of the area, which are not known yet)
             found = self.kernel.marks()
             whole = found.count(" meta mark set ") == len(self.said.dscp)
-            self.mark(found if whole else kernel.marking(self.said.dscp, set()))
+            self.mark(kernel.NO_MARKING + found if whole else kernel.marking(self.said.dscp, set()))
             self.put(now)
         self.begun = True
         if not self.said.dry_run:
@@ -98,8 +103,9 @@ class Agent:
 
     def put(self, now: float) -> int:
         """Brings the kernel to what it is to have by now; how many lines that were."""
+        self.gone = self.sight.gone(now)
         wanted = self.refused.without(self.generations.state(now))
-        lines = batch.put(self.kernel, wanted)
+        lines = batch.put(self.kernel, wanted - {line for line in wanted if self.is_gone(line)})
         for line in lines:
             say(line, sys.stdout)
         # (what is told up to here of one's own routes is in the state that there is now)
@@ -111,6 +117,10 @@ class Agent:
             self.generations.write(self.name("json", "generations"))
             tell(f"changed: {len(lines)}")
         return len(lines)
+
+    def is_gone(self, line: str) -> bool:
+        """Whether a line is a repair to where the daemon has no route."""
+        return batch.is_repair(line) and batch.prefix_of(line) in self.gone
 
     def put_or_refuse(self, now: float) -> int:
         """The same; next hops that the kernel refuses are left out, with what needs them."""
@@ -130,7 +140,7 @@ class Agent:
         """Puts the marks into the kernel, if it has not these: what is put anew counts anew."""
         if self.marks and (nft, self.kernel.marks()) == (self.nft, self.marks):
             return False
-        if nft != self.kernel.marks():
+        if nft.removeprefix(kernel.NO_MARKING) != self.kernel.marks():
             self.kernel.mark(nft)
             say("nft table ip mrt", sys.stdout)
         self.nft, self.marks = nft, self.kernel.marks()
@@ -162,9 +172,9 @@ class Agent:
     def certified(self, profile: bytes, found: list[Lsa]) -> tuple[Program, bytes, list[Lsa]]:
         """mrt over the files of the next table, and the certificate. A record that mrt refuses is left out, and told."""
         mrt = Program(self.said.mrt, self.name("lsas", "next"), self.name("profile", "next"), LIMIT)
-        files.replace(mrt.profile, profile)
+        files.replace(mrt.profile, profile, lasting=False)
         for _ in range(TRIES):
-            files.replace(mrt.database, b"".join(lsa.record for lsa in found))
+            files.replace(mrt.database, b"".join(lsa.record for lsa in found), lasting=False)
             try:
                 certificate = mrt.run("certify", lsas.spelled(self.said.router))
             except ToolFault as fault:
@@ -174,9 +184,41 @@ class Agent:
                 self.sight.left.append(f"{lsas.key_text(bad.key)}: {fault.told}")
                 found = [lsa for lsa in found if lsa is not bad]
                 continue
-            files.replace(self.name("cert", "next"), certificate)
+            files.replace(self.name("cert", "next"), certificate, lasting=False)
             return mrt, certificate, found
         raise ToolFault(f"mrt refuses more than {TRIES} records", BAD_DATABASE)
+
+    def certificate_of(self, there: Passed) -> tuple[int, str] | None:
+        """The generation and the digest of what is no table."""
+        mrt = Program(self.said.mrt, self.name("lsas", "passed"), self.name("profile", "passed"), LIMIT)
+        files.replace(mrt.profile, there.profile, lasting=False)
+        files.replace(mrt.database, b"".join(lsa.record for lsa in there.found), lasting=False)
+        try:
+            certificate = mrt.run("certify", lsas.spelled(self.said.router))
+        except ToolFault:
+            # (others have no certificate of it either)
+            return None
+        return table.generation_of(certificate, self.said.dscp), table.digest_of(certificate)
+
+    def look_at_skipped(self, now: float) -> None:
+        """Notes which certificates others may have had since the last one here."""
+        passed = self.sight.acted()
+        if not self.knows or passed is None:
+            self.generations.skip(now)
+        else:
+            for found in filter(None, map(self.certificate_of, passed)):
+                self.generations.skip(now, *found)
+        self.knows = True
+
+    def look_ahead(self, now: float) -> None:
+        """A router that changes too often is waited for, but not with rows whose generation others may give to another
+        certificate by now."""
+        self.settling.early.first = None
+        if self.generations.made and not self.sight.lacks() and not self.said.dry_run:
+            sight = self.sight
+            found = self.certificate_of(Passed(sight.found, sight.bodies, sight.profile))
+            if found and self.generations.clashes(*found, now):
+                self.act(now)
 
     def ways_of(self, content: Content) -> Ways:
         """The ways by a certificate that mrt has checked; those of before where only the daemon's routes are others."""
@@ -194,12 +236,18 @@ class Agent:
 
     def install(self, now: float) -> None:
         """Makes the table and puts it into the kernel."""
+        before = self.ways
         made, ways = self.table(now)
         state = batch.state_of(made.routes)
         if self.said.dry_run:
             print(*batch.changes(self.kernel.state(), state), sep="\n")
             self.done = True
             return
+        if self.ways is not before:
+            # (in a part that this router was cut off from there may have been any)
+            old = set(before[1].place) if before else set()
+            self.knows = self.knows and (not before or len(set(ways.place) - old) <= len(old))
+            self.look_at_skipped(now)
         links = self.sight.own_links()
         owners = {entry.prefix: entry.owners for entry in made.entries}
         digest = table.digest_of(ways.certified)
@@ -213,10 +261,6 @@ class Agent:
         self.mark(made.nft)
         self.set()
         self.put_or_refuse(now)
-        for kind in KINDS:
-            files.copy(self.name(kind, "next"), self.name(kind))
-        # (of the LSAs there may be newer instances by now)
-        self.kept, self.keep_next = [], now
         self.status.installed(made, digest, is_other, self.left_out(made))
 
     def left_out(self, made: Table) -> dict[str, str]:
@@ -225,12 +269,20 @@ class Agent:
         left |= {f"interface {name!r}": "a name that is not taken" for name in self.sight.interfaces.odd}
         return left | self.refused.told()
 
+    def keep_files(self, now: float) -> None:
+        """Keeps what the table is made of, for the time after a new start of the machine as well."""
+        for kind in KINDS:
+            files.copy(self.name(kind, "next"), self.name(kind))
+        # (of the LSAs there may be newer instances by now)
+        self.kept, self.keep_next = [], now
+
     def keep(self, now: float) -> None:
         """Keeps newer instances that say the same, with which an agent that is started again begins."""
         settled = self.ways and self.settling.due() is None and not self.sight.lacks() and not self.fault
         if settled and self.sight.found is not self.kept and now >= self.keep_next:
             self.kept, self.keep_next = self.sight.found, now + KEPT_EVERY
-            files.replace(self.name("lsas"), b"".join(lsa.record for lsa in self.kept))
+            # (that often the disk is not waited for)
+            files.replace(self.name("lsas"), b"".join(lsa.record for lsa in self.kept), lasting=False)
 
     def take_back(self, now: float) -> None:
         """Takes the table away. Packets on colors end here from then on: they never go on by primaries."""
@@ -265,6 +317,8 @@ class Agent:
         if self.ways is not before:
             self.status.took(after - now, after - first, after - last, self.generations.whole(after) - after)
         self.write_status(after)
+        if not self.said.dry_run:
+            self.keep_files(now)
 
     def failed(self, line: str, now: float) -> None:
         self.fault, self.retry = line, now + RETRY
@@ -289,11 +343,17 @@ class Agent:
             return
         self.lacking = now if self.lacking is None else self.lacking
         if now - self.lacking >= LACKING:
+            self.knows = False
             first, *others = lacks
             line = f"waits: {first}" + (f", and {len(others)} more" if others else "")
             if line != self.told:
                 self.tell_once(line)
                 self.lose(now)
+
+    def withdraw(self, now: float) -> None:
+        """Takes out the repairs whose route the daemon has lost, whether a table can be made or not."""
+        if self.begun and not self.said.dry_run and self.sight.gone(now) != self.gone:
+            self.put_or_refuse(now)
 
     def write_status(self, now: float) -> None:
         lacks = self.sight.lacks()
@@ -304,7 +364,7 @@ class Agent:
     def step(self) -> float:
         """Does what is to be done; when to look again at the latest. Whatever fails, the next look is another one."""
         now = self.around.clock()
-        for work in (self.look, self.look_at_lacks):
+        for work in (self.look, self.look_at_lacks, self.withdraw):
             try:
                 work(now)
             except ToolFault as fault:
@@ -325,8 +385,11 @@ class Agent:
             self.retry = now + RETRY
             self.settling.note(now)
         due = self.settling.due()
+        ahead = self.settling.early.due()
         if due is not None and now >= due:
             self.act(now)
+        elif ahead is not None and now >= ahead:
+            self.look_ahead(now)
         if not self.said.dry_run:
             following = self.generations.next(self.put_last)
             if following is not None and now >= following:
@@ -339,8 +402,9 @@ class Agent:
         if not self.begun:
             return now + 1
         # (as long as something lacks nothing is made of what changes, however it is due)
-        due = now + 1 if self.sight.lacks() else self.settling.due()
-        times = [self.kernel_next, self.sight.next(now), due, self.generations.next(now)]
+        lacks = self.sight.lacks()
+        due, ahead = (now + 1, None) if lacks else (self.settling.due(), self.settling.early.due())
+        times = [self.kernel_next, self.sight.next(now), due, ahead, self.generations.next(now)]
         return min(each for each in times if each is not None)
 
     def work(self) -> None:

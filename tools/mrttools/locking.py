@@ -1,24 +1,23 @@
 """One agent for a folder, and one for a kernel's routes: two would take away each other's."""
 from __future__ import annotations
 
-import errno
 import fcntl
 import os
-import socket
+import stat
 import time
 from typing import IO
 
 from .ending import REFUSED, ToolFault
 
-# An abstract name, of which each network namespace has its own.
-NAME = "\0semborui/agent"
-# How often a folder's lock is tried, and seconds between.
+# Where each network namespace has a file by its number, and which namespace this is.
+RUN, NAMESPACE = "/run/semborui", "/proc/self/ns/net"
+# How often a lock is tried, and seconds between.
 TRIES, PAUSE = 5, 0.1
 
 
-def lock_folder(folder: str) -> IO[bytes]:
-    """Held as long as the file is open."""
-    file = open(os.path.join(folder, "lock"), "wb")
+def lock(name: str, taken: str) -> IO[bytes]:
+    """A file that is this program's own as long as it is open."""
+    file = open(name, "wb")
     # (who asks for the status has it for a moment)
     for _ in range(TRIES):
         try:
@@ -27,7 +26,12 @@ def lock_folder(folder: str) -> IO[bytes]:
         except BlockingIOError:
             time.sleep(PAUSE)
     file.close()
-    raise ToolFault(f"{folder}: another agent has its files here", REFUSED)
+    raise ToolFault(taken, REFUSED)
+
+
+def lock_folder(folder: str) -> IO[bytes]:
+    """Held as long as the file is open."""
+    return lock(os.path.join(folder, "lock"), f"{folder}: another agent has its files here")
 
 
 def is_locked(folder: str) -> bool:
@@ -42,14 +46,11 @@ def is_locked(folder: str) -> bool:
     return False
 
 
-def lock_namespace() -> socket.socket:
-    """Held as long as the socket is open."""
-    made = socket.socket(socket.AF_UNIX, socket.SOCK_STREAM | socket.SOCK_CLOEXEC)
-    try:
-        made.bind(NAME)
-    except OSError as fault:
-        made.close()
-        if fault.errno != errno.EADDRINUSE:
-            raise
-        raise ToolFault("another agent keeps the routes of this network namespace", REFUSED) from None
-    return made
+def lock_namespace() -> IO[bytes]:
+    """Held as long as the file is open. Who can open it can keep an agent from starting: so nobody else gets into the
+    folder, which root makes, or systemd for the daemon's user."""
+    os.makedirs(RUN, mode=0o700, exist_ok=True)
+    if stat.S_IMODE(os.stat(RUN).st_mode) & 0o077:
+        raise ToolFault(f"{RUN}: others can get in: chmod 700 {RUN}", REFUSED)
+    number = os.stat(NAMESPACE).st_ino
+    return lock(os.path.join(RUN, f"{number}.lock"), "another agent keeps the routes of this network namespace")

@@ -97,7 +97,7 @@ class Settings:
             changed.append(name)
         if changed:
             # (the values before stand in the file before they are gone)
-            files.replace(self.kept, json.dumps(self.before | {"boot": boot()}).encode("ascii"))
+            files.replace(self.kept, json.dumps(self.before | {"boot": boot()}).encode("ascii"), lasting=False)
         # (`all` comes last, and first where it comes back: no other interface is without its own meanwhile)
         for name in sorted(changed, key=is_all):
             self.put(name, wanted[name] if name in wanted else self.before.pop(name))
@@ -113,4 +113,4 @@ class Settings:
         for name in sorted(self.before, key=is_all, reverse=True):
             self.put(name, self.before[name])
         self.before = {}
-        files.replace(self.kept, b"{}")
+        files.replace(self.kept, b"{}", lasting=False)

@@ -35,6 +35,8 @@ class Settling:
     def __init__(self, quiet: float = QUIET) -> None:
         self.quick = Pending(quiet, max(quiet, LATEST))
         self.slow = Pending(max(quiet, SLOW_QUIET), max(quiet, SLOW_LATEST))
+        # Of what is slow, when it would be acted on if it were not.
+        self.early = Pending(quiet, max(quiet, LATEST))
         self.changed: set[int] = set()
         self.times: dict[int, deque[float]] = {}
 
@@ -45,7 +47,8 @@ class Settling:
         for router in dampened:
             self.times[router].append(now)
         self.changed |= found - dampened
-        (self.slow if found and found == dampened else self.quick).note(now)
+        for pending in (self.slow, self.early) if found and found == dampened else (self.quick,):
+            pending.note(now)
 
     def is_dampened(self, router: int, now: float) -> bool:
         times = self.times.get(router)
@@ -62,7 +65,7 @@ class Settling:
         """Tables are made of all that there is; when the first and the last of it came. Routers that are not there are
         forgotten."""
         came = [(pending.first, pending.last) for pending in (self.quick, self.slow) if pending.first is not None]
-        self.quick.first = self.slow.first = None
+        self.quick.first = self.slow.first = self.early.first = None
         for router in self.changed:
             self.times.setdefault(router, deque(maxlen=OFTEN)).append(now)
         there = set(present)

@@ -66,7 +66,7 @@ class Status:
     def write(self, source: str, waits: str, dampened: list[str]) -> None:
         state = "waiting" if waits else "installed" if self.facts["certificate"] else "bare"
         self.facts |= {"at": clock(), "state": state, "source": source, "waits": waits or None, "dampened": dampened}
-        files.replace(self.name, json.dumps(self.facts, indent=1).encode("ascii"))
+        files.replace(self.name, json.dumps(self.facts, indent=1).encode("ascii"), lasting=False)
 
 
 def read(folder: str) -> dict[str, Any]:
@@ -88,7 +88,7 @@ def taken_away(folder: str) -> None:
     """Writes down that the table of an agent that has ended is gone."""
     name = os.path.join(folder, NAME)
     if os.path.exists(name):
-        files.replace(name, json.dumps(read(folder) | NO_TABLE, indent=1).encode("ascii"))
+        files.replace(name, json.dumps(read(folder) | NO_TABLE, indent=1).encode("ascii"), lasting=False)
 
 
 def lines_of(facts: dict[str, Any]) -> list[str]:

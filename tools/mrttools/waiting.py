@@ -33,8 +33,9 @@ class Waiting:
         alive()
         signal.pthread_sigmask(signal.SIG_UNBLOCK, SIGNALS)
         try:
-            if not self.came:
-                select.select([self.read, *sources], [], [], max(0.0, seconds))
+            if not self.came and self.read in select.select([self.read, *sources], [], [], max(0.0, seconds))[0]:
+                # (any signal wakes it)
+                os.read(self.read, 1 << 12)
         finally:
             signal.pthread_sigmask(signal.SIG_BLOCK, SIGNALS)
         if self.came:

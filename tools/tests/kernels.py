@@ -51,7 +51,9 @@ class ModelKernel:
                 self.lines[place] = f"{kind} {rest}"
 
     def mark(self, nft: str) -> None:
-        self.nft, self.marked = nft.removeprefix(kernel.NO_MARKING), self.marked + 1
+        # (what does not begin by taking away comes beside what there is)
+        before = "" if nft.startswith(kernel.NO_MARKING) else self.nft
+        self.nft, self.marked = before + nft.removeprefix(kernel.NO_MARKING), self.marked + 1
 
     def marks(self) -> str:
         return self.nft

@@ -21,6 +21,7 @@ OF_THE_GATE = {
     "inc_dec_spf": 1,
     "lowpoint_dfs": 1,
     "lsdb": 1,
+    "mrt_c": 3,
     "mrt_cmd": 11,
     "mrt_rows": 1,
     "primary_alt": 1,

@@ -5,6 +5,7 @@ import json
 import os
 import signal
 import socket
+import stat
 import subprocess
 import sys
 import tempfile
@@ -13,11 +14,17 @@ import time
 import unittest
 from unittest import mock
 
-from mrttools import agent_work, batch, exposure, keeping, locking, status, table, waiting
+from mrttools import agent_work, batch, exposure, files, keeping, locking, status, table, waiting, watching
 from mrttools.ending import ToolFault
 from mrttools.settings import Settings
 from tests.making import MRT, TOOLS
+from tests.spaces import lacks
 from tests.standing import Place, WithAgent
+
+
+def write(name: str, text: str) -> None:
+    with open(name, "w", encoding="ascii") as file:
+        file.write(text)
 
 
 class KernelSettings(unittest.TestCase):
@@ -148,6 +155,49 @@ print("not here", flush=True)
             self.assertEqual(process.wait(9), 143)
 
 
+class TheProfile(unittest.TestCase):
+    """The kernel tells of it, so that it is not looked for again and again."""
+
+    PROGRAM = """
+import os, sys, time
+from mrttools.waiting import Waiting
+from mrttools.watching import Watched
+waiting, watched = Waiting(), Watched(sys.argv[1])
+for _ in range(3):
+    print("waits", flush=True)
+    began = time.monotonic()
+    waiting.wait([], 60)
+    # (a write is more than one change)
+    time.sleep(0.2)
+    waiting.wait([], 0)
+    print(watched.take(), watched.take(), time.monotonic() - began < 30, flush=True)
+"""
+
+    def test_changes_of_it(self) -> None:
+        """Written anew, written over, and where a link leads."""
+        with tempfile.TemporaryDirectory() as folder:
+            link, name, other = (os.path.join(folder, *place) for place in (("a", "link"), ("b", "p"), ("b", "q")))
+            for each in (link, name):
+                os.mkdir(os.path.dirname(each))
+            os.symlink(name, link)
+            words = [sys.executable, "-c", self.PROGRAM, link]
+            with subprocess.Popen(words, stdout=subprocess.PIPE, cwd=TOOLS, text=True) as process:
+                assert process.stdout
+
+                def replace() -> None:
+                    write(other, "two")
+                    os.replace(other, name)
+
+                for change in (lambda: write(name, "one"), replace, lambda: os.unlink(link)):
+                    self.assertEqual(process.stdout.readline(), "waits\n")
+                    change()
+                    self.assertEqual(process.stdout.readline(), "True False True\n")
+
+    def test_no_word_of_it(self) -> None:
+        self.assertIsNone(watching.watched("-"))
+        self.assertIsNone(watching.watched("/nonexistent/profile"))
+
+
 class Limits(unittest.TestCase):
     """What bounds the agent, and what it starts."""
 
@@ -166,6 +216,29 @@ class Limits(unittest.TestCase):
                 waiting.alive()
             self.assertEqual([told.recv(99), told.recv(99)], [b"READY=1", b"WATCHDOG=1"])
         waiting.notify("READY=1")
+
+    @unittest.skipIf(lacks("nft"), f"an agent in a namespace is not tried: {lacks('nft')}")
+    @unittest.skipUnless(os.path.exists(MRT), "the program is not built")
+    def test_what_an_agent_tells_systemd(self) -> None:
+        """That it has begun, again and again that it is alive, and that it ends, here beside no daemon."""
+        with tempfile.TemporaryDirectory() as folder, socket.socket(socket.AF_UNIX, socket.SOCK_DGRAM) as told:
+            told.bind(os.path.join(folder, "notify"))
+            told.settimeout(60)
+            words = ["unshare", "--net", f"{TOOLS}/agent", "--mrt", MRT, "--strict", "bird", "-", "10.255.0.1"]
+            with open(os.path.join(folder, "told"), "wb") as log, subprocess.Popen(
+                [*words, os.path.join(folder, "files")],
+                env=os.environ | {"NOTIFY_SOCKET": os.path.join(folder, "notify")},
+                stdout=log,
+                stderr=log,
+            ) as agent:
+                self.assertEqual(told.recv(99), b"READY=1")
+                self.assertEqual([told.recv(99) for _ in range(20)], [b"WATCHDOG=1"] * 20)
+                agent.terminate()
+                while (said := told.recv(99)) == b"WATCHDOG=1":
+                    pass
+                self.assertEqual(said, b"STOPPING=1")
+                # (a table that goes takes its time, and that is told as well)
+                self.assertEqual((told.recv(99), agent.wait(60)), (b"WATCHDOG=1", 143))
 
     def test_the_unit(self) -> None:
         """Its watchdog is more patient than all that the agent waits for in one step."""
@@ -196,11 +269,30 @@ class Locks(unittest.TestCase):
             later.join()
 
     def test_one_agent_for_a_namespace(self) -> None:
-        with mock.patch.object(locking, "NAME", f"\0semborui/test/{os.getpid()}"):
-            with locking.lock_namespace():
-                with self.assertRaises(ToolFault):
+        """In a folder into which nobody else gets: who has the abstract name that an agent had before keeps none away."""
+        with tempfile.TemporaryDirectory() as folder, socket.socket(socket.AF_UNIX) as stranger:
+            stranger.bind("\0semborui/agent")
+            place = os.path.join(folder, "semborui")
+            with mock.patch.object(locking, "RUN", place):
+                with locking.lock_namespace():
+                    self.assertEqual(stat.S_IMODE(os.stat(place).st_mode), 0o700)
+                    self.assertEqual(os.listdir(place), [f"{os.stat('/proc/self/ns/net').st_ino}.lock"])
+                    with self.assertRaises(ToolFault):
+                        locking.lock_namespace()
+                    # (another namespace has another one)
+                    with mock.patch.object(locking, "NAMESPACE", "/proc/self/ns/mnt"):
+                        locking.lock_namespace().close()
+                locking.lock_namespace().close()
+                os.chmod(place, 0o755)
+                with self.assertRaisesRegex(ToolFault, "others can get in"):
                     locking.lock_namespace()
-            locking.lock_namespace().close()
+
+    def test_the_folder_of_the_unit(self) -> None:
+        """It is the daemon's user's, and stays where another agent of the machine ends."""
+        with open(os.path.join(TOOLS, "mrt-agent@.service"), encoding="ascii") as file:
+            lines = dict(line.strip().split("=", 1) for line in file if "=" in line and not line.startswith("#"))
+        self.assertEqual(os.path.join("/run", lines["RuntimeDirectory"]), locking.RUN)
+        self.assertEqual((lines["RuntimeDirectoryMode"], lines["RuntimeDirectoryPreserve"]), ("0700", "yes"))
 
 
 class Exposed(unittest.TestCase):

@@ -10,6 +10,7 @@ from mrttools.generations import PAUSE
 from mrttools.keeping import KERNEL_EVERY, LACKING, RETRY
 from mrttools.lsas import address, lsa_of, split
 from mrttools.netlink import News
+from mrttools.sight import ROUTE_KEPT
 from mrttools.sources import SILENT, Told
 from tests.kernels import PLAN
 from tests.making import MRT, router_lsa
@@ -84,6 +85,39 @@ class Faults(WithAgent):
             self.settle(agent)
             self.step(agent, PAUSE + 0.1)
             self.assertEqual(self.router.state(), before)
+
+    def test_a_route_that_goes_while_no_table_can_be_made(self) -> None:
+        """Its repair goes too, as soon as it would where there is a table, and comes back with the route: mrt need not run.
+        Rows stay, for others."""
+        prefix, silent, off = "10.255.0.3/32", Told([], (SILENT,)), OSError("no word")
+        for fault in ("profile", "daemon", "source", "start"):
+            agent = self.agent()
+            self.settle(agent)
+            self.step(agent, LINGER + 1)
+            repairs, rows = self.repairs(), {line for line in self.router.state() if not batch.is_repair(line)}
+            with contextlib.ExitStack() as until:
+                if fault == "profile":
+                    self.write_profile(4, "no such line\n")
+                elif fault == "source":
+                    until.enter_context(mock.patch.object(self.source, "look", side_effect=off))
+                else:
+                    until.enter_context(mock.patch.object(self.source, "told", silent))
+                if fault == "start":
+                    agent = self.agent()
+                self.step(agent, 1, 0.3)
+                self.assertTrue(agent.fault or agent.sight.lacks())
+                until.enter_context(mock.patch.object(self.router, "daemon", self.router.daemon - {prefix}))
+                self.router.told = News(protocols=frozenset({188}))
+                self.step(agent, ROUTE_KEPT - 1)
+                self.assertEqual(self.repairs(), repairs, fault)
+                self.step(agent, 1.1)
+                self.assertEqual(self.repairs().keys(), repairs.keys() - {prefix}, fault)
+                self.assertLessEqual(rows, self.router.state())
+            self.router.told = News(protocols=frozenset({188}))
+            self.step(agent, 1)
+            self.assertEqual(self.repairs(), repairs, fault)
+            self.write_profile(4)
+            self.step(agent, RETRY + 1, 0.3)
 
     def test_a_folder_that_cannot_be_written(self) -> None:
         """It is a fault as any other."""
@@ -239,6 +273,19 @@ class PutBack(WithAgent):
             self.assertEqual(self.told[-1], "agent: put back what the kernel had lost")
         self.router.nft = ""
         self.step(agent, KERNEL_EVERY + 0.1)
+        self.assertEqual(self.router.nft, marks)
+
+    def test_the_marks_of_an_agent_before(self) -> None:
+        """Where others change them before there is a table they come back as they were, and once."""
+        self.settle(self.agent())
+        marks, times = self.router.nft, self.router.marked
+        self.source.told = Told([], (SILENT,))
+        agent = self.agent()
+        self.step(agent, 1)
+        self.assertEqual((self.router.nft, self.router.marked), (marks, times))
+        self.router.nft = marks.replace("chain own", "chain other")
+        self.router.told = News(marks=True)
+        self.assertEqual(self.step(agent, 1)[:1], ["nft table ip mrt"])
         self.assertEqual(self.router.nft, marks)
 
     def test_routes_and_rules(self) -> None:

@@ -61,7 +61,7 @@ def random_plan(random: Random, lans: int) -> Plan:
     ends += [(one, other) for one, other in more]
     wires = [link(one, other, random.randint(1, 4), f"10.1.{number}") for number, (one, other) in enumerate(ends)]
     for number in range(random.randrange(lans)):
-        attached = random.sample(routers, random.randint(2, 4))
+        attached = random.sample(routers, random.randint(2, min(4, len(routers))))
         metrics = {router: random.randint(1, 4) for router in attached}
         wires.append(Wire(f"198.51.{number}", metrics, random.choice(attached)))
     return Plan("random", routers, wires, joiner=1)

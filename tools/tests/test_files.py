@@ -4,10 +4,13 @@ import os
 import shutil
 import stat
 import subprocess
+import sys
 import tempfile
 import unittest
 from typing import Any
+from unittest import mock
 
+from mrttools import files
 from tests.making import TOOLS, over_ethernet, pair, update
 
 WANTED = b"".join(pair())
@@ -99,6 +102,40 @@ class Targets(unittest.TestCase):
             )
             self.assertNotIn(".part", done.stderr.decode())
         self.assertEqual(sorted(os.listdir(self.folder)), ["area.pcap", "folder"])
+
+
+class Lasting(unittest.TestCase):
+    """What stands in a file when the machine stops."""
+
+    def setUp(self) -> None:
+        place = tempfile.TemporaryDirectory()
+        self.addCleanup(place.cleanup)
+        self.folder = place.name
+
+    def test_the_disk_has_it_before_it_is_there(self) -> None:
+        """The content before the name, and then the name; what need not last does not wait."""
+        name, done = os.path.join(self.folder, "area.lsas"), []
+
+        def synced(place: int) -> None:
+            is_file = stat.S_ISREG(os.fstat(place).st_mode)
+            done.append(("content" if is_file else "name", os.path.exists(name)))
+
+        with mock.patch.object(os, "fsync", synced):
+            files.replace(name, b"x", lasting=False)
+            self.assertEqual((os.path.exists(name), done), (True, []))
+            os.unlink(name)
+            files.replace(name, b"x")
+        self.assertEqual(done, [("content", False), ("name", True)])
+
+    def test_parts_that_are_left(self) -> None:
+        """Of a program that was ended by force while it wrote."""
+        program = "import os, signal; from mrttools import files; os.replace = lambda *_: os.kill(os.getpid(), 9); "
+        program += f"files.replace({self.folder!r} + '/area.lsas', b'x')"
+        done = subprocess.run([sys.executable, "-c", program], cwd=TOOLS, check=False)
+        self.assertEqual((done.returncode, len(os.listdir(self.folder))), (-9, 1))
+        with open(os.path.join(self.folder, "a.part"), "wb"):
+            files.clear_parts(self.folder)
+        self.assertEqual(os.listdir(self.folder), ["a.part"])
 
 
 class Links(unittest.TestCase):

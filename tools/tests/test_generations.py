@@ -11,7 +11,7 @@ from unittest import mock
 
 from mrttools import batch, failing, generations, kernel, lsas, table
 from mrttools.batch import NOTHING, State
-from mrttools.generations import PAUSE, TURN, Generations, Made
+from mrttools.generations import KEPT, PAUSE, TURN, Generations, Made
 from mrttools.kernel import Interfaces
 from mrttools.network import Plan, owner, router_id
 from mrttools.nexthops import Ways
@@ -53,13 +53,42 @@ def course(old: Made, new: Made, lost_link: bool) -> list[list[State]]:
     router = ModelKernel(held.state(0))
     states: list[list[State]] = [[router.state()], []]
     held.take(new, router.state(), lost_link, 100)
-    for after in (0, TURN, PAUSE, LINGER + 1):
+    over = max(held.held.values(), default=1000.0)
+    for after in (0, TURN, KEPT, KEPT + PAUSE, LINGER + 1):
         # (a pause is over for all routers at once, as far as this is promised)
-        late = bool(held.held) and after >= PAUSE
+        late = 100 + after >= over
         for line in batch.changes(router.state(), held.state(100 + after)):
             router.batch([line])
             states[late].append(router.state())
     return [states[0], [states[0][-1], *states[1]]] if states[1] else [states[0]]
+
+
+def course_over(tables: list[Made], passes: list[int], tells: bool) -> list[list[State]]:
+    """All that a kernel has on the way over several tables that come a second apart, of which it makes some, at the moment
+    of the last one; before that may be in the kernels of all, and after. It is told of those that it skips, or not."""
+    held = Generations(LINGER)
+    held.take(tables[0], NOTHING, False, 0)
+    router = ModelKernel(held.state(0))
+    start, states = 100.0, [router.state()]
+    for place, made in enumerate(tables[1:], 1):
+        if place not in passes and place < len(tables) - 1:
+            if tells:
+                held.skip(start + place, made.generation, made.digest)
+            continue
+        held.take(made, router.state(), False, start + place)
+        states = moved(router, held, start + place)
+    last = start + len(tables) - 1
+    early = [*states, *moved(router, held, last + TURN), *moved(router, held, last + KEPT)]
+    return [early, [early[-1], *moved(router, held, last + KEPT + PAUSE), *moved(router, held, last + LINGER + 1)]]
+
+
+def moved(router: ModelKernel, held: Generations, now: float) -> list[State]:
+    """What a kernel has on its way to what it is to have."""
+    found = [router.state()]
+    for line in batch.changes(router.state(), held.state(now)):
+        router.batch([line])
+        found.append(router.state())
+    return found
 
 
 class Marked(NamedTuple):
@@ -179,6 +208,47 @@ class WhileRoutersDiffer(unittest.TestCase):
             for _ in range(8):
                 circles += self.mixtures(*self.pair(random), random)[0]
         self.assertGreater(circles, 0)
+
+    def skipping(self, random: Random, tells: bool, phase: int) -> int:
+        """How many packets met a router twice where three or four certificates came, the last two or three of one
+        generation, and some routers skipped some of them: before the old rows are gone at those that had them, or after."""
+        plan = random_plan(random, 3)
+        count, root = random.choice((3, 4)), random.choice(plan.routers)
+        plans = [plan]
+        while len(plans) < count:
+            plans.append(other_plan(plan, random))
+        tables = []
+        for place, each in enumerate(plans):
+            with mock.patch.object(table, "generation_of", lambda *_, place=place: 3 if place else 5):
+                tables.append(self.tables(each, customer([1], Random(1)), root))
+        marked, circles = Marked.of(kernel.marking(kernel.POOL, set())), 0
+        ways = {}
+        for router in plan.routers:
+            passes = [place for place in range(1, count - 1) if random.random() < 0.5]
+            ways[router] = course_over([each[router] for each in tables], passes, tells)
+        ports = [failing.port(number, router) for number, wire in enumerate(plan.wires) for router in wire.metrics]
+        for _ in range(30):
+            states = {}
+            for router, (early, late) in ways.items():
+                # (when all have taken away what was in the way there are still those that skipped it)
+                states[router] = random.choice(late if phase else early)
+            down = set(random.sample(ports, random.randint(0, 3)))
+            circles += len(World(plan, states, down).circles(marked))
+        return circles
+
+    def test_a_router_that_skips_certificates(self) -> None:
+        """One or two of one generation, that came as one with the next: where a router looks at what it has skipped no packet
+        circles."""
+        random = Random(83)
+        for _ in range(8):
+            for phase in (0, 1):
+                self.assertEqual(self.skipping(random, True, phase), 0)
+
+    def test_a_router_that_does_not_know_what_it_skips(self) -> None:
+        """Packets may circle until the others have taken away what was in the way, and not after that."""
+        random = Random(84)
+        self.assertGreater(sum(self.skipping(random, False, 0) for _ in range(8)), 0)
+        self.assertEqual(sum(self.skipping(random, False, 1) for _ in range(8)), 0)
 
     def test_a_prefix_moves_under_one_certificate(self) -> None:
         random, moved = Random(82), 0

@@ -3,16 +3,18 @@ import json
 import os
 import time
 import unittest
+from collections import deque
 from unittest import mock
 
 from mrttools import batch, generations, kernel, table
 from mrttools.batch import NOTHING
-from mrttools.generations import PAUSE, TURN
+from mrttools.generations import KEPT, PAUSE, TURN
 from mrttools.keeping import RETRY
 from mrttools.lsas import address, lsa_of, sealed, split
 from mrttools.netlink import News
 from mrttools.network import router_id
-from mrttools.sight import ROUTE_KEPT, ROUTES_EVERY
+from mrttools.settling import OFTEN
+from mrttools.sight import MOST_PASSED, PROFILE_WATCHED, ROUTE_KEPT, ROUTES_EVERY, ROUTES_SELDOM
 from mrttools.sources import SILENT, Told
 from tests.kernels import PLAN
 from tests.making import MRT, router_lsa
@@ -105,17 +107,26 @@ class Changes(WithAgent):
         self.assertNotIn(prefix, self.repairs())
 
     def test_two_certificates_of_one_generation(self) -> None:
-        """The old rows go, and the new ones come after a pause."""
+        """The old rows and repairs stay for a while, since these carry packets now; then they go, and the new ones come
+        after a pause."""
         with mock.patch.object(table, "generation_of", lambda *_: 5):
             agent = self.agent()
             self.settle(agent)
+            before = self.router.state()
             self.without_link(2, 3)
             self.settle(agent)
+            self.assertEqual(self.router.state(), before)
+            self.assertIn("another certificate of generation 5", " ".join(self.told))
+            # (the same certificate again, as for a route that comes, is no reason to take any of it away)
+            self.router.told = News(protocols=frozenset({188}))
+            agent.settling.note(self.now)
+            self.step(agent, 0.3, KEPT - 0.5)
+            self.assertEqual(self.router.state(), before)
+            self.step(agent, 0.3)
             self.assertEqual((self.router.state(), self.colors()), (batch.bare(), set()))
-            self.assertIn("another certificate has had generation 5", " ".join(self.told))
-            self.step(agent, PAUSE - 0.5)
+            self.step(agent, PAUSE - 0.2)
             self.assertEqual(self.router.state(), batch.bare())
-            self.step(agent, 0.6)
+            self.step(agent, 0.3)
             self.assertEqual((self.colors(), len(self.repairs())), ({5}, 3))
 
     def test_a_generation_that_lingers_is_not_taken_at_once(self) -> None:
@@ -130,6 +141,8 @@ class Changes(WithAgent):
             self.without_link(3, 4)
             coming[0] = 1
             self.settle(agent)
+            self.assertEqual((self.colors(), self.repairs()), ({1, 2}, before))
+            self.step(agent, KEPT)
             self.assertEqual((self.colors(), self.repairs()), ({2}, before))
             self.step(agent, PAUSE + 0.1)
             self.assertEqual(self.colors(), {1, 2})
@@ -139,7 +152,112 @@ class Changes(WithAgent):
             coming[0], agent = 2, self.agent()
             self.without_link(1, 3)
             self.settle(agent)
+            self.step(agent, KEPT)
             self.assertNotIn(2, self.colors())
+
+    def between(self, *after: float) -> set[int]:
+        """The generations in the kernel where two changes come as one, so many seconds apart, and the certificate between them
+        has the second one's generation."""
+        with mock.patch.object(table, "generation_of", lambda *_: 1):
+            agent = self.agent()
+            self.settle(agent)
+        with mock.patch.object(table, "generation_of", lambda *_: 2):
+            self.step(agent, LINGER)
+            self.without_link(2, 3)
+            self.step(agent, *after)
+            wires = [wire for wire in PLAN.wires if set(wire.metrics) not in ({2, 3}, {3, 4})]
+            self.put(split(lsas_of(PLAN._replace(wires=wires))))
+            self.settle(agent)
+            found = self.colors()
+            self.step(agent, KEPT, PAUSE + 0.1)
+            self.assertEqual(self.colors(), {1, 2})
+        return found
+
+    def test_a_certificate_that_others_may_have_had(self) -> None:
+        """Two changes that come as one here may have been apart there: then these have rows between, which go first. What
+        comes at once here does so there."""
+        self.assertEqual(self.between(0.15), {1})
+        self.put(split(lsas_of(PLAN)))
+        self.router.lines.clear()
+        self.assertEqual(self.between(0.05), {1, 2})
+
+    def test_more_of_them_than_are_looked_at(self) -> None:
+        """Then it may be any."""
+        agent = self.agent()
+        self.settle(agent)
+        self.step(agent, LINGER)
+        for number in range(MOST_PASSED + 4):
+            wires = [wire._replace(metrics=dict.fromkeys(wire.metrics, 20 + number)) for wire in PLAN.wires]
+            self.put(split(lsas_of(PLAN._replace(wires=wires))))
+            self.step(agent, 0.15)
+            self.assertLessEqual(len(agent.sight.passed), MOST_PASSED + 1)
+        self.without_link(2, 3)
+        before = self.colors()
+        self.settle(agent)
+        self.assertEqual((self.colors(), "another certificate" in " ".join(self.told)), (before, True))
+
+    def test_the_first_table(self) -> None:
+        """An agent that has just begun does not know what others had of late. The table that it finds stays."""
+        for found in (NOTHING, None):
+            agent = self.agent()
+            agent.knows = False
+            state = self.router.state()
+            self.settle(agent)
+            if found is NOTHING:
+                self.assertEqual(self.router.state(), batch.bare())
+                self.step(agent, KEPT + PAUSE)
+            else:
+                self.assertEqual(self.router.state(), state)
+            self.assertEqual(self.router.state(), self.by_fib())
+
+    def test_a_router_that_was_cut_off(self) -> None:
+        """It does not know what the others had meanwhile. For these it is one router that comes."""
+        for gone, is_held in ((1, True), (2, False)):
+            self.router.lines.clear()
+            self.put(split(lsas_of(PLAN._replace(wires=[wire for wire in PLAN.wires if gone not in wire.metrics]))))
+            agent = self.agent()
+            self.settle(agent)
+            self.step(agent, LINGER)
+            self.put(split(lsas_of(PLAN)))
+            self.settle(agent)
+            self.assertEqual(len(self.repairs()) < 3, is_held)
+            self.step(agent, KEPT + PAUSE, LINGER)
+            self.assertEqual(self.router.state(), self.by_fib())
+
+    def test_a_router_that_is_waited_for(self) -> None:
+        """But not with rows of a generation that another certificate has by now at those that do not wait."""
+        for mine, is_early in ((1, True), (2, False)):
+            self.put(split(lsas_of(PLAN)))
+            self.router.lines.clear()
+            with mock.patch.object(table, "generation_of", lambda *_: 1):
+                agent = self.agent()
+                self.settle(agent)
+            agent.settling.times = {address("10.255.0.3"): deque([self.now] * OFTEN, maxlen=OFTEN)}
+            with mock.patch.object(table, "generation_of", lambda *_, mine=mine: mine):
+                wires = [wire for wire in PLAN.wires if set(wire.metrics) != {2, 3}]
+                other = {lsa.key: lsa for lsa in split(lsas_of(PLAN._replace(wires=wires)))}
+                self.put(other[lsa.key] if lsa.router == address("10.255.0.3") else lsa for lsa in split(lsas_of(PLAN)))
+                self.settle(agent)
+                told = sum("another certificate" in line for line in self.told)
+                self.assertEqual((told, agent.settling.due() is None), (is_early, is_early))
+                self.told.clear()
+
+    def test_repairs_that_others_have_taken_the_place_of(self) -> None:
+        """Where a third certificate has none for a prefix, the second one's stay, and not the first one's."""
+        coming = [1]
+        with mock.patch.object(table, "generation_of", lambda *_: coming[0]):
+            agent = self.agent()
+            self.settle(agent)
+            coming[0] = 2
+            self.without_link(2, 3)
+            self.settle(agent)
+            before, coming[0] = self.repairs(), 3
+            wires = [wire for wire in PLAN.wires if set(wire.metrics) in ({1, 2}, {2, 3}, {3, 4})]
+            self.put(split(lsas_of(PLAN._replace(wires=wires))))
+            self.settle(agent)
+            wanted = agent.generations.state(self.now)
+            self.assertEqual(len({batch.place(line) for line in wanted}), len(wanted))
+            self.assertEqual(self.repairs(), before)
 
     def test_a_generation_that_has_gone_is_taken_at_once(self) -> None:
         coming = [1]
@@ -147,7 +265,7 @@ class Changes(WithAgent):
             agent = self.agent()
             self.settle(agent)
             for coming[0], link in ((2, (2, 3)), (1, (3, 4))):
-                self.step(agent, LINGER + 1, PAUSE)
+                self.step(agent, LINGER + 1, KEPT + PAUSE)
                 self.without_link(*link)
                 self.settle(agent)
                 self.assertEqual(self.colors(), {1, 2})
@@ -204,14 +322,38 @@ class Changes(WithAgent):
         self.settle(agent)
         self.assertEqual(self.router.state(), self.by_fib())
 
+    def test_a_profile_that_the_kernel_tells_of(self) -> None:
+        """It is read when it has changed, and else seldom."""
+        agent = self.agent()
+        agent.sight.watched = mock.Mock(take=mock.Mock(return_value=False))
+
+        def is_read(root: int) -> bool:
+            return agent.sight.profile == f"priority {router_id(root)} 1\n".encode()
+
+        self.settle(agent)
+        self.write_profile(2)
+        self.step(agent, PROFILE_WATCHED / 3, PROFILE_WATCHED / 3)
+        self.assertFalse(is_read(2))
+        self.assertGreater(agent.sight.next(self.now), self.now + 1)
+        agent.sight.watched.take.return_value = True
+        self.step(agent)
+        self.assertTrue(is_read(2))
+        agent.sight.watched.take.return_value = False
+        self.write_profile(3)
+        self.step(agent, PROFILE_WATCHED - 1)
+        self.assertFalse(is_read(3))
+        self.step(agent, 2)
+        self.assertTrue(is_read(3))
+
     def test_newer_instances_that_say_the_same(self) -> None:
         agent = self.agent()
         self.settle(agent)
         again = (sealed(lsa, lsa.sequence + 1, lsa.record[20:]) for lsa in self.source.told.found)
         self.put(map(lsa_of, again))
         batches = self.router.batches
-        self.step(agent, 3)
-        self.assertEqual(self.router.batches, batches)
+        with mock.patch.object(os, "fsync", side_effect=AssertionError("the disk is waited for")):
+            self.step(agent, 3)
+        self.assertEqual((self.router.batches, agent.fault), (batches, ""))
         # (routes of the daemon that change later make no old instance of it)
         self.router.told = News(protocols=frozenset({188}))
         self.settle(agent)
@@ -279,6 +421,16 @@ class Routes(WithAgent):
         self.router.told = News(protocols=frozenset({188}))
         self.settle(agent)
         self.assertIn("10.255.0.3/32", self.repairs())
+        self.step(agent, ROUTE_KEPT + 0.1, 0.3)
+        self.assertNotIn("10.255.0.3/32", self.repairs())
+
+    def test_a_route_that_goes_without_a_word(self) -> None:
+        """As where the kernel takes away its next hop."""
+        agent = self.agent()
+        self.settle(agent)
+        self.router.daemon -= {"10.255.0.3/32"}
+        self.step(agent, ROUTES_SELDOM / 2, ROUTES_SELDOM / 2)
+        self.assertLessEqual(agent.sight.next(self.now), self.now + ROUTE_KEPT)
         self.step(agent, ROUTE_KEPT + 0.1, 0.3)
         self.assertNotIn("10.255.0.3/32", self.repairs())
 

@@ -4,7 +4,8 @@ from functools import partial
 from unittest import mock
 from xml.etree import ElementTree
 
-from mrttools import agents, bars, comparing, failing, forwarding, hostile, lsas, network, pinging, statics, updates
+from mrttools import agents, bars, comparing, dropped, failing, forwarding, hostile, lsas, network, outcomes, pinging
+from mrttools import statics, updates
 from mrttools.daemons import Bird, Frr, Running
 from mrttools.pinging import Counted
 from mrttools.lsas import lsa_of
@@ -184,17 +185,23 @@ class Failures(unittest.TestCase):
 
 class Changes(unittest.TestCase):
     def test_the_wires_of_a_change(self) -> None:
-        """Those of a link of two routers, and of a router with the far ends of its links."""
-        spaces = mock.Mock(plan=network.PLAN)
+        """Those of a link of two routers, and of a router with the far ends of its links; from when until when they are
+        down is kept."""
+        held = mock.Mock(network=mock.Mock(plan=network.PLAN), down=[])
         with mock.patch.object(agents, "do_at_once"), mock.patch.object(agents, "Batch") as batch:
-            agents.wires(spaces, "down", "link r4-r5", "router r6")
-        ports = spaces.group.call_args_list[0].args[0]
+            with mock.patch.object(agents.time, "time", side_effect=[5.0, 6.0, 7.0]):
+                agents.wires(held, "down", "link r4-r5", "router r6")
+                ports = held.network.group.call_args_list[0].args[0]
+                self.assertEqual(batch.call_args.args[1], ["link set group 99 down"])
+                agents.wires(held, "up", "link r4-r5")
         self.assertEqual(sorted(ports), ["p2-4", "p2-5", "p3-5", "p3-6", "p4-1", "p4-6"])
-        self.assertEqual(batch.call_args.args[1], ["link set group 99 down"])
-        self.assertEqual(spaces.group.call_args_list[1].args, (ports, 0))
+        self.assertEqual(held.network.group.call_args_list[1].args, (ports, 0))
+        until = {each.port: each.until for each in held.down if each.since == 5.0}
+        self.assertEqual((len(until), until["p2-4"], until["p2-5"], until["p3-5"]), (6, 7.0, 7.0, float("inf")))
 
     def test_pings_while_something_changes(self) -> None:
-        """All pairs are pinged from before the change until all have settled, but those of routers that are away."""
+        """All pairs are pinged and watched from before the change until all have settled, but those of routers that are
+        away."""
         course: list[str] = []
         changing = agents.Change("one goes", lambda: course.append("change"), (6,), (6, 9))
         held = mock.Mock(network=mock.Mock(plan=network.PLAN))
@@ -204,10 +211,15 @@ class Changes(unittest.TestCase):
             course.append("pings")
             return mock.Mock(end=lambda: course.append("end"))
 
-        with mock.patch.object(agents, "Pinging") as pinging, mock.patch.object(agents.time, "sleep"):
-            pinging.side_effect = began
-            agents.pinged(held, changing)
-        self.assertEqual(course, ["pings", "change", "settled without (6,)", "end"])
+        def watches(*_: object) -> mock.Mock:
+            course.append("watch")
+            return mock.Mock(end=lambda down, counted: course.append("watched"))
+
+        with mock.patch.object(agents, "Pinging") as pinging, mock.patch.object(agents, "Watch", watches):
+            with mock.patch.object(agents.time, "sleep"):
+                pinging.side_effect = began
+                agents.pinged(held, changing)
+        self.assertEqual(course, ["watch", "pings", "change", "settled without (6,)", "end", "watched"])
         chosen = pinging.call_args.args[1]
         self.assertEqual((len(chosen), {6, 9} & {one for pair in chosen for one in pair}), (42, set()))
 
@@ -215,11 +227,28 @@ class Changes(unittest.TestCase):
         self.assertEqual([pinging.gap_of(pairs) for pairs in (2, 72, 90, 240)], [10, 10, 10, 27])
 
     def test_what_a_change_cost(self) -> None:
-        counted, bare = Counted({(1, 2): 3, (2, 1): 4}, 9, 9, 9, 5), Counted({(1, 2): 8}, 9, 9, 9, 8)
-        row = agents.Row("one goes", 9, 485, 0.34, 1.26, 0.92, counted, bare)
-        self.assertEqual(row.cells, ("one goes", "9", "485", "0.3", "1.3", "0.9", "7", "8"))
-        told = "agent: with agents 7 pings were lost, and 5 packets circled; without them 8 and 8"
-        self.assertEqual(agents.circled([row]), told)
+        lost = [
+            dropped.Lost(7.5 + place / 8, 1, 2, False, 3, None, cause, "so")
+            for place, cause in enumerate([dropped.DAEMONS] * 5 + [dropped.AGENTS, dropped.FAILURE])
+        ]
+        pinged = outcomes.Pinged(7.0, Counted({(1, 2): 3, (2, 1): 4}, 9, 9, 9, 5), lost)
+        bare = outcomes.Pinged(5.0, Counted({(1, 2): 8}, 9, 9, 9, 8), [])
+        row = outcomes.Row("one goes", {1: 4, 2: 0, 3: 481}, {1: (0.1, 0.4), 3: (0.34, 1.26)}, pinged, bare)
+        self.assertEqual(row.cells, ("one goes", "2", "485", "0.3", "1.3", "0.9", "7", "8"))
+        told = "agent: with agents 7 pings were lost, 1 of them by an agent, and 5 packets circled; without them 8 and 8"
+        self.assertEqual(outcomes.circled([row]), told)
+        self.assertEqual([line.split()[-3:] for line in outcomes.times([row], [1, 2, 3])][1:], [
+            ["r1", "r2", "r3"],
+            ["0.4/0.3", "-", "1.3/0.9"],
+        ])
+        self.assertEqual(list(outcomes.losses([row]))[1].split()[2:], ["1", "5", "0", "1", "0", *["0"] * 5])
+        record = row.told()
+        self.assertEqual(record["routers"]["r3"], {"changes": 481, "word": 0.34, "tables": 1.26})
+        self.assertEqual(record["routers"]["r2"], {"changes": 0})
+        found = record["lost"]["with"]
+        self.assertEqual((found["counted"], found["by"]["agents"], found["pings"][0]["at"]), (7, 1, 0.5))
+        # (of one kind so many are told)
+        self.assertEqual(len(found["pings"]), outcomes.SHOWN + 2)
 
     def test_an_answer_that_comes_late_is_no_loss(self) -> None:
         spaces = mock.Mock(plan=network.PLAN)

@@ -121,6 +121,9 @@ class Marks(unittest.TestCase):
         before = here.marks()
         self.assertIn("chain write", before)
         self.assertEqual((self.marked([]), here.marks()), (1, before))
+        # (and as they are listed they can be put there again)
+        here.mark(kernel.NO_MARKING + before)
+        self.assertEqual(here.marks(), before)
         self.inside("r", "nft", "flush", "ruleset")
         self.assertEqual(here.marks(), "")
 

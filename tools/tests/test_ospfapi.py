@@ -1,5 +1,6 @@
 """The client of FRR's own interface, against a server that stands in and does what a broken or hostile one would, and
 against FRR itself where it is installed."""
+import contextlib
 import os
 import select
 import signal
@@ -9,7 +10,7 @@ import subprocess
 import tempfile
 import time
 import unittest
-from typing import Callable, ClassVar
+from typing import Callable, ClassVar, Iterator
 from unittest import mock
 
 from mrttools import exposure, listing, lsas, ospfapi, sockets
@@ -660,6 +661,8 @@ class Sockets(unittest.TestCase):
 
 
 LACKS = lacks(*Frr.needs)
+# Seconds that are waited for what has to come, on a machine with much other work; and those of a whole test.
+PATIENCE, ALARM = 120, 300
 ALONE = Plan("alone", [1], [Wire("198.51.100", {1: 10}, 1)], joiner=1)
 BOTH = Plan("both", [1, 2], [link(1, 2, 10, "10.0.12"), Wire("198.51.100", {1: 10, 2: 10}, 2)], joiner=2)
 
@@ -687,14 +690,16 @@ class Routers(unittest.TestCase):
     def setUp(self) -> None:
         self.lists = self.lists_of(1)
         self.enterContext(inside(self.network.of(1)))
-        signal.alarm(60)
+        signal.alarm(ALARM)
         self.addCleanup(signal.alarm, 0)
+        self.settle()
 
     @classmethod
     def start(cls, router: int) -> None:
         """Starts a router whose LSAs may follow one another at once."""
         cls.lab.start(router)
-        while cls.lists_of(router).database() is None:
+        end = time.monotonic() + PATIENCE
+        while cls.lists_of(router).database() is None and time.monotonic() < end:
             cls.lab.look_after()
             time.sleep(0.1)
         cls.configure(router, "router ospf", "timers throttle lsa all 0", "timers lsa min-arrival 0")
@@ -706,7 +711,7 @@ class Routers(unittest.TestCase):
     @classmethod
     def settle(cls) -> None:
         """Waits until all have all routers, and the LAN of more than one, and the same of them."""
-        size, end = len(cls.plan.routers) + (len(cls.plan.routers) > 1), time.monotonic() + 40
+        size, end = len(cls.plan.routers) + (len(cls.plan.routers) > 1), time.monotonic() + PATIENCE
         while time.monotonic() < end:
             first, *others = [cls.lists_of(router).database() or {} for router in cls.plan.routers]
             if len(first) == size and all(other == first for other in others):
@@ -717,17 +722,32 @@ class Routers(unittest.TestCase):
 
     def until(self, api: Api, wanted: "Callable[[], bool]") -> None:
         """Follows the daemon until something is so."""
-        end = time.monotonic() + 30
+        end = time.monotonic() + PATIENCE
         while not wanted():
             self.assertLess(time.monotonic(), end)
             select.select([api], [], [], min(0.2, max(0, api.due - time.monotonic())))
             api.read()
 
     def whole(self) -> Api:
+        """FRR's word, as much of it as comes at once."""
         made = Api(0)
         self.addCleanup(made.close)
         self.until(made, lambda: made.whole)
         return made
+
+    def agreeing(self) -> Api:
+        """The same, when it is what the daemon lists, and that of all routers: on a machine with other work neighbors may
+        part for a while."""
+        made = self.whole()
+        self.until(made, lambda: len(made.instances) == 3 and made.instances == self.lists.database())
+        return made
+
+    def in_time(self, is_so: "Callable[[], bool]") -> None:
+        """Waits until something is so."""
+        end = time.monotonic() + PATIENCE
+        while not is_so():
+            self.assertLess(time.monotonic(), end)
+            time.sleep(0.2)
 
     @classmethod
     def configure(cls, router: int, *lines: str) -> None:
@@ -742,22 +762,24 @@ class BesideFrr(Routers):
     plan = BOTH
 
     def test_it_is_the_daemons_list(self) -> None:
-        api = self.whole()
+        api = self.agreeing()
         self.assertEqual((api.router, api.told), (address("10.255.0.1"), []))
-        self.assertEqual(api.instances, self.lists.database())
         self.assertEqual(sorted(each.kind for each in api.found), [1, 1, 2])
         self.assertFalse(any(map(lsas.damage, api.found.values())))
 
     @unittest.skipUnless(os.path.exists(MRT), "the program is not built")
     def test_mrt_makes_a_certificate_of_it(self) -> None:
-        with tempfile.NamedTemporaryFile() as file:
-            file.write(self.whole().database())
-            file.flush()
-            done = subprocess.run([MRT, "table", file.name, "-", "10.255.0.1"], capture_output=True, check=True)
-        self.assertEqual(done.stdout.splitlines()[0], b"router 10.255.0.1 root 10.255.0.2 nodes 3 links 3")
+        def told() -> bytes:
+            with tempfile.NamedTemporaryFile() as file:
+                file.write(self.agreeing().database())
+                file.flush()
+                words = [MRT, "table", file.name, "-", "10.255.0.1"]
+                return subprocess.run(words, capture_output=True, check=True).stdout.splitlines()[0]
+
+        self.in_time(lambda: told() == b"router 10.255.0.1 root 10.255.0.2 nodes 3 links 3")
 
     def test_changes_come_by_themselves(self) -> None:
-        api = self.whole()
+        api = self.agreeing()
         before = api.found
         for metric in (77, 10):
             self.configure(2, "interface to-r1", f"ip ospf cost {metric}")
@@ -768,11 +790,12 @@ class BesideFrr(Routers):
                 return metric in [each.metric for each in links if each.kind == lsas.POINT_TO_POINT]
 
             self.until(api, is_told)
-        self.assertEqual(api.found.keys(), before.keys())
+        self.until(api, lambda: api.found.keys() == before.keys())
 
     def test_what_is_flushed_is_gone(self) -> None:
-        api = self.whole()
+        api = self.agreeing()
         lan = next(key for key in api.found if key.kind == lsas.NETWORK)
+        self.addCleanup(self.configure, 2, "interface to-lan", "ip ospf area 0")
         self.configure(2, "interface to-lan", "no ip ospf area 0")
         self.until(api, lambda: lan not in api.found)
         self.until(api, lambda: api.instances == self.lists.database())
@@ -781,26 +804,42 @@ class BesideFrr(Routers):
 
     def test_a_long_one_is_not_told(self) -> None:
         """FRR does not send it, and what it sends is not all: that it is not, the list says."""
-        space = self.network.of(2)
-
-        def loopbacks(verb: str) -> None:
-            lines = "".join(f"addr {verb} 192.0.2.{number}/32 dev lo\n" for number in range(1, 151))
-            subprocess.run(["ip", "-n", space, "-batch", "-"], input=lines, text=True, check=True)
-
-        loopbacks("add")
         far = Key(1, address("10.255.0.2"), address("10.255.0.2"))
-        api = self.whole()
-        self.until(api, lambda: far not in api.found and far in (self.lists.database() or {}))
-        self.assertNotEqual(self.whole().instances, self.lists.database())
-        loopbacks("del")
-        self.until(api, lambda: len(self.whole().instances) == 3)
-        self.assertEqual(self.whole().instances, self.lists.database())
+        with self.loopbacks():
+            api = self.whole()
+            self.until(api, lambda: far not in api.found and far in (self.lists.database() or {}))
+            self.assertNotEqual(self.whole().instances, self.lists.database())
+
+        def is_whole() -> bool:
+            made = Api(0)
+            try:
+                self.until(made, lambda: made.whole)
+                return len(made.instances) == 3 and made.instances == self.lists.database()
+            finally:
+                made.close()
+
+        self.in_time(is_whole)
+
+    @contextlib.contextmanager
+    def loopbacks(self) -> Iterator[None]:
+        """So many at the second router that its LSA is a long one; whatever fails, they go."""
+
+        def change(verb: str) -> None:
+            lines = "".join(f"addr {verb} 192.0.2.{number}/32 dev lo\n" for number in range(1, 151))
+            words = ["ip", "-n", self.network.of(2), "-batch", "-"]
+            subprocess.run(words, input=lines, text=True, check=True)
+
+        change("add")
+        try:
+            yield
+        finally:
+            change("del")
 
     def test_it_is_open_until_a_rule_closes_it(self) -> None:
         def reached() -> bool:
             with inside(self.network.of(2)):
                 try:
-                    socket.create_connection(("10.0.12.1", ospfapi.PORT), 0.5).close()
+                    socket.create_connection(("10.0.12.1", ospfapi.PORT), 2).close()
                 except TimeoutError:
                     return False
                 return True
@@ -817,7 +856,7 @@ class BesideFrr(Routers):
         self.addCleanup(lambda: subprocess.run(["nft", "delete table inet ospfapi"], check=True))
         self.assertIsNone(exposure.open_to_others(ospfapi.PORT))
         self.assertFalse(reached())
-        self.assertEqual(self.whole().instances, self.lists.database())
+        self.agreeing()
 
 
 class WithoutOspf(Routers):

@@ -13,9 +13,9 @@ from tests.making import MRT, TOOLS
 
 ROOT = os.path.dirname(TOOLS)
 DATA = os.path.join("crates", "mrt", "data")
-WORDS = {"README.md": 2500, "docs/AUDIT.md": 2000}
+WORDS = {"README.md": 2500, "docs/AUDIT.md": 2200}
 NARROW = ["README.md", "docs/COMMANDS.md", "docs/AUDIT.md", "docs/DECISIONS.md"]
-ALL_WORDS = 33500
+ALL_WORDS = 34500
 MADE = {"docs/CLAUSES.md", "docs/DEFINITIONS.md"}
 
 
