@@ -1,43 +1,44 @@
--- Bytes in which no field is at fault, read field by field: what they spell.
-use Rattle.std.proofs.Common.{◌≡◌, ◌+◌, ◌<◌, ◌≤◌, ◌^◌, ℕ, zero, suc, ltb, List, [], ◌∷◌, ◌++◌, length, take, drop, Option, Some, None, inl, inr, refl, sym, ap, ◌∙◌, append_assoc, take-append-drop, arith}
-use Rattle.std.specs.Int.{Width, w8, w16, w32, byte_len, from_be_bytes, to_be_bytes}
-use Rattle.std.specs.List.{flat_map}
-use Rattle.std.specs.Prelude.{codes}
+-- Bytes in which no field is at fault, read field by field: the file that they spell.
+use Rattle.std.proofs.Common.{◌≡◌, ◌+◌, ◌<◌, ◌≤◌, ℕ, zero, suc, ltb, List, [], ◌∷◌, ◌++◌, length, take, drop, Option, Some, None, inl, inr, refl, sym, ap, ◌∙◌, take-append-drop, arith, ◌⊎◌, ◌==◌, ◌^◌, subst}
+use Rattle.std.specs.Int.{w8, w16, w32, byte_len, from_be_bytes, to_be_bytes}
+use Rattle.std.specs.List.{flat_map, AllByRecursion}
+use Rattle.std.specs.Prelude.{codes, if◌then◌else◌}
 use Rattle.std.proofs.lemmas.Bool.{cases_Bool, ltb-false}
-use Rattle.std.proofs.lemmas.List.{length-take-le}
+use Rattle.std.proofs.lemmas.List.{length-take-le, append-nil}
 use Rattle.mrt_graph.proofs.Bytes.{IsBytes, bytes_after}
 use Rattle.mrt_graph.specs.Certificate.{IsCertLink}
-use Rattle.mrt_graph.specs.Tags.{tag_number}
 use Rattle.mrt_graph.specs.declared.cert.CertNode.{CertNode}
 use Rattle.mrt_graph.specs.declared.cert.CertLink.{CertLink}
 use Rattle.mrt_graph.specs.declared.cert.Row.{Row}
 use Rattle.cert_format.specs.declared.error.CertKind.{CertKind}
 use Rattle.cert_format.specs.declared.error.CertKind.TheVariants.{Heads, Trailing, Truncated}
 use Rattle.cert_format.specs.declared.header.Header.{Header}
-use Rattle.cert_format.specs.CertText.{header_text, kind_number, link_text, node_text, role_number, row_text}
-use Rattle.cert_format.specs.FirstFault.{fault_in, number_of}
-use Rattle.cert_format.specs.Layout.{End, Field, Form, Then, after_nodes, allows, any, collected, exactly, head_place, header_form, kind_named, known_version, link_form, link_named, node_form, node_named, role_named, row_form, row_named, tag, tag_named, within}
-use Rattle.cert_format.specs.Reading.{IsFileRow, IsHeader, IsListOf, IsNode}
-use Rattle.cert_format.specs.Versions.{most_links, most_nodes, stray_head}
-use Rattle.cert_format.proofs.Fields.{IsWide, wide8, wide16, wide32, field_told}
-use Rattle.cert_format.proofs.Parts.{kind_told, role_told, tag_told}
-use Rattle.cert_format.proofs.Files.{head_fails}
+use Rattle.cert_format.specs.CertText.{header_text, link_text, node_text, row_text, cert_text}
+use Rattle.cert_format.specs.FirstFault.{fault_in, number_of, first_fault}
+use Rattle.cert_format.specs.Layout.{End, Field, Form, Then, after_nodes, allows, any, collected, exactly, head_place, header_form, known_version, link_form, link_named, node_form, node_named, row_form, row_named, tag, within, after_links}
+use Rattle.cert_format.specs.Reading.{IsFileRow, IsHeader, IsListOf, IsNode, Rest, Took, TookField, rest_of}
+use Rattle.cert_format.specs.Versions.{most_links, most_nodes, stray_head, row_count, tag_count}
+use Rattle.cert_format.proofs.Fields.{IsWide, wide8, wide16, wide32, took_field}
+use Rattle.cert_format.proofs.Files.{head_fails, heads_pass}
+use Rattle.cert_format.proofs.Lists.{Took-then}
+use Rattle.cert_format.proofs.Parts.{link_read, node_read, row_read, took_as}
+use Rattle.mrt_graph.specs.Kin.{kin_of}
+use Rattle.mrt_graph.specs.declared.cert.CertFile.{CertFile}
+use Rattle.cert_format.specs.Limits.{IsCertFile}
+use Rattle.cert_format.specs.Steps.{AreWhole, Parts, text_of}
+use Rattle.cert_format.proofs.Finished.{file_of}
 
--- something that is spelled at the front and keeps this, and then bytes in which no field of the form is at fault
-pub record Reads {A : Type 0} (text : A → List ℕ) (Keeps : A → Type 0) (next : A → Form) (bytes : List ℕ) : Type 0 where
+-- what was read at the front, and then bytes in which no field of the form is at fault
+pub record Reads {A : Type 0} (Is : A → Rest → Type 0) (next : A → Form) : Type 0 where
   pub one : A
-  pub keeps : Keeps one
-  pub at : ℕ
-  pub rest : List ℕ
-  pub spelled : bytes ≡ text one ++ rest
-  pub are : IsBytes rest
-  pub faultless : fault_in (next one) at rest ≡ None
+  pub after : Rest
+  pub is : Is one after
+  pub are : IsBytes after.bytes
+  pub faultless : fault_in (next one) after.at after.bytes ≡ None
 
--- a number that a field allows
-pub record IsAllowed (field : Field) (number : ℕ) : Type 0 where
-  pub fits : number < 256 ^ byte_len field.width
-  pub least : field.least ≤ number
-  pub below : number < field.bound
+-- something that is spelled so and keeps this
+abbrev pub ReadsAs : {A : Type 0} → (A → List ℕ) → (A → Type 0) → Rest → (A → Form) → Type 0
+ReadsAs {A} text Keeps before next = Reads (λ (x : A) (after : Rest). Took (text x) before after × Keeps x) next
 
 pub some_none : {X : Type 0} (x : X) → ◌≡◌ {A = Option X} (Some x) None → ⊥
 some_none x e = cc
@@ -48,182 +49,121 @@ bytes_taken (suc n) [] are i = omega arith
 bytes_taken (suc n) (byte ∷ bytes) are zero = are 0
 bytes_taken (suc n) (byte ∷ bytes) are (suc i) = bytes_taken n bytes (λ k. are (suc k)) i
 
-pub field_read : (field : Field) (next : ℕ → Form) (at : ℕ) (bytes : List ℕ) → IsWide field.width → IsBytes bytes
-    → fault_in (Then field next) at bytes ≡ None → Reads (to_be_bytes field.width) (IsAllowed field) next bytes
+pub field_read : (field : Field) (next : ℕ → Form) (before : Rest) → IsWide field.width → IsBytes before.bytes
+    → fault_in (Then field next) before.at before.bytes ≡ None → Reads (λ (n : ℕ) (after : Rest). TookField field n before after) next
 unfolding fault_in
-field_read field next at bytes wide are none = elim (cases_Bool (ltb (length bytes) (byte_len field.width))) [
+field_read field next before wide are none = elim (cases_Bool (ltb (length before.bytes) (byte_len field.width))) [
   | inl few ↦
-      let here : ◌≡◌ {A = Option (ℕ × CertKind)} (Some (at, Truncated)) None = rw few at none in
-      absurd (some_none (at, Truncated) here)
+      let here : ◌≡◌ {A = Option (ℕ × CertKind)} (Some (before.at, Truncated)) None = rw few at none in
+      absurd (some_none (before.at, Truncated) here)
   | inr long ↦
       let size = byte_len field.width in
-      let len = length-take-le size bytes (ltb-false _ _ long) in
-      let fits = bytes_taken size bytes are in
-      elim (cases_Bool (allows field (number_of field bytes))) [
+      let n = number_of field before.bytes in
+      let len = length-take-le size before.bytes (ltb-false _ _ long) in
+      let fits = bytes_taken size before.bytes are in
+      elim (cases_Bool (allows field n)) [
         | inl allowed ↦
-            let later : fault_in (next (number_of field bytes)) (at + size) (drop size bytes) ≡ None = rw (long, allowed) at none in
+            let later : fault_in (next n) (before.at + size) (drop size before.bytes) ≡ None = rw (long, allowed) at none in
+            let after = rest_of (before.at + size) (drop size before.bytes) in
+            let took : Took (to_be_bytes field.width n) before after = record {
+              parts = sym (take-append-drop size before.bytes) ∙ ap (λ (t : List ℕ). t ++ drop size before.bytes) (sym (wide.back (take size before.bytes) len fits));
+              place = omega (arith, wide.len n);
+            } in
             record {
-              one = number_of field bytes;
-              keeps = record { fits = wide.small (take size bytes) len fits; least = (field_told field (number_of field bytes) allowed).0; below = (field_told field (number_of field bytes) allowed).1 };
-              at = at + size;
-              rest = drop size bytes;
-              spelled = sym (take-append-drop size bytes) ∙ ap (λ (t : List ℕ). t ++ drop size bytes) (sym (wide.back (take size bytes) len fits));
-              are = bytes_after size bytes are;
+              one = n;
+              after = after;
+              is = took_field field n before after wide took (wide.small (take size before.bytes) len fits) allowed;
+              are = bytes_after size before.bytes are;
               faultless = later;
             }
         | inr refused ↦
-            let here : ◌≡◌ {A = Option (ℕ × CertKind)} (Some (at, field.fault)) None = rw (long, refused) at none in
-            absurd (some_none (at, field.fault) here)
+            let here : ◌≡◌ {A = Option (ℕ × CertKind)} (Some (before.at, field.fault)) None = rw (long, refused) at none in
+            absurd (some_none (before.at, field.fault) here)
       ]
 ]
 
--- texts one after another
-three_texts : (a b c bytes r s t : List ℕ) → bytes ≡ a ++ r → r ≡ b ++ s → s ≡ c ++ t → bytes ≡ a ++ (b ++ (c ++ t))
-three_texts a b c bytes r s t first second third = first ∙ ap (λ (it : List ℕ). a ++ it) (second ∙ ap (λ (it : List ℕ). b ++ it) third)
-
-four_texts : (a b c d bytes r s t u : List ℕ) → bytes ≡ a ++ r → r ≡ b ++ s → s ≡ c ++ t → t ≡ d ++ u → bytes ≡ a ++ (b ++ (c ++ (d ++ u)))
-four_texts a b c d bytes r s t u first second third fourth =
-    first ∙ ap (λ (it : List ℕ). a ++ it) (three_texts b c d r s t u second third fourth)
-
-five_texts : (a b c d e bytes r s t u v : List ℕ) → bytes ≡ a ++ r → r ≡ b ++ s → s ≡ c ++ t → t ≡ d ++ u → u ≡ e ++ v
-    → bytes ≡ a ++ (b ++ (c ++ (d ++ (e ++ v))))
-five_texts a b c d e bytes r s t u v first second third fourth fifth =
-    first ∙ ap (λ (it : List ℕ). a ++ it) (four_texts b c d e r s t u v second third fourth fifth)
-
--- a number in place of another one
-number_text : (w : Width) (x y : ℕ) (bytes rest : List ℕ) → bytes ≡ to_be_bytes w x ++ rest → x ≡ y → bytes ≡ to_be_bytes w y ++ rest
-number_text w x y bytes rest spelled same = spelled ∙ ap (λ (it : ℕ). to_be_bytes w it ++ rest) same
-
-pub header_read : (next : ℕ → ℕ → ℕ → Form) (at : ℕ) (bytes : List ℕ) → IsBytes bytes → fault_in (header_form next) at bytes ≡ None
-    → Reads (λ it. header_text it.version it.nodes it.links it.root) (λ it. IsHeader it.version it.nodes it.links it.root)
-    (λ (it : Header). next it.version it.nodes it.links) bytes
-header_read next at bytes are none =
+pub header_read : (next : ℕ → ℕ → ℕ → Form) (before : Rest) → IsBytes before.bytes → fault_in (header_form next) before.at before.bytes ≡ None
+    → ReadsAs (λ (it : Header). header_text it.version it.nodes it.links it.root) (λ (it : Header). IsHeader it.version it.nodes it.links it.root) before
+    (λ (it : Header). next it.version it.nodes it.links)
+header_read next before are none =
     let wanted = from_be_bytes w32 (codes "MRTC") in
-    let m = field_read (exactly w32 wanted) _ at bytes wide32 are none in
-    let v = field_read known_version _ m.at m.rest wide16 m.are m.faultless in
-    let n = field_read (within w16 1 (most_nodes v.one + 1)) _ v.at v.rest wide16 v.are v.faultless in
-    let l = field_read (within w16 0 (most_links v.one + 1)) _ n.at n.rest wide16 n.are n.faultless in
-    let r = field_read (any w32) _ l.at l.rest wide32 l.are l.faultless in
+    let m = field_read (exactly w32 wanted) _ before wide32 are none in
+    let v = field_read known_version _ m.after wide16 m.are m.faultless in
+    let n = field_read (within w16 1 (most_nodes v.one + 1)) _ v.after wide16 v.are v.faultless in
+    let l = field_read (within w16 0 (most_links v.one + 1)) _ n.after wide16 n.are n.faultless in
+    let r = field_read (any w32) _ l.after wide32 l.are l.faultless in
+    let ends = to_be_bytes w16 l.one ++ to_be_bytes w32 r.one in
+    let counts = to_be_bytes w16 n.one ++ ends in
     record {
       one = record { version = v.one; nodes = n.one; links = l.one; root = r.one };
-      keeps = record {
-        from_one = v.keeps.least;
-        to_two = omega (arith, v.keeps.below);
-        some_node = n.keeps.least;
-        few_nodes = omega (arith, n.keeps.below);
-        few_links = omega (arith, l.keeps.below);
-        root_fits = r.keeps.fits;
-      };
-      at = r.at;
-      rest = r.rest;
-      spelled = five_texts (codes "MRTC") (to_be_bytes w16 v.one) (to_be_bytes w16 n.one) (to_be_bytes w16 l.one) (to_be_bytes w32 r.one)
-          bytes m.rest v.rest n.rest l.rest r.rest
-          (number_text w32 m.one wanted bytes m.rest m.spelled (omega (arith, m.keeps.least, m.keeps.below))) v.spelled n.spelled l.spelled r.spelled;
+      after = r.after;
+      is = (
+        Took-then (codes "MRTC") (to_be_bytes w16 v.one ++ counts) before m.after r.after (took_as w32 m.one wanted before m.after (omega (arith, m.is.least, m.is.below)) m.is.took)
+            (Took-then (to_be_bytes w16 v.one) counts m.after v.after r.after v.is.took
+            (Took-then (to_be_bytes w16 n.one) ends v.after n.after r.after n.is.took (Took-then (to_be_bytes w16 l.one) (to_be_bytes w32 r.one) n.after l.after r.after l.is.took r.is.took))),
+        record {
+          from_one = v.is.least;
+          to_two = omega (arith, v.is.below);
+          some_node = n.is.least;
+          few_nodes = omega (arith, n.is.below);
+          few_links = omega (arith, l.is.below);
+          root_fits = r.is.fits;
+        },
+      );
       are = r.are;
       faultless = r.faultless;
     }
 
-pub node_read : (nodes : ℕ) (next : CertNode → Form) (at : ℕ) (bytes : List ℕ) → IsBytes bytes → fault_in (node_form nodes next) at bytes ≡ None
-    → Reads node_text (IsNode nodes) next bytes
-node_read nodes next at bytes are none =
-    let k = field_read (within w8 1 3) _ at bytes wide8 are none in
-    let i = field_read (any w32) _ k.at k.rest wide32 k.are k.faultless in
-    let o = field_read (within w16 1 (nodes + 1)) _ i.at i.rest wide16 i.are i.faultless in
-    let h = field_read (within w16 0 nodes) _ o.at o.rest wide16 o.are o.faultless in
-    let b = field_read (within w16 0 nodes) _ h.at h.rest wide16 h.are h.faultless in
-    record {
-      one = node_named k.one i.one o.one h.one b.one;
-      keeps = record {
-        kept = record {
-          order_from_one = o.keeps.least;
-          order_to_n = omega (arith, o.keeps.below);
-          head = h.keeps.below;
-          block = b.keeps.below;
-        };
-        number = i.keeps.fits;
-      };
-      at = b.at;
-      rest = b.rest;
-      spelled = five_texts (to_be_bytes w8 (kind_number (kind_named k.one))) (to_be_bytes w32 i.one) (to_be_bytes w16 o.one) (to_be_bytes w16 h.one) (to_be_bytes w16 b.one)
-          bytes k.rest i.rest o.rest h.rest b.rest
-          (number_text w8 k.one (kind_number (kind_named k.one)) bytes k.rest k.spelled (sym (kind_told k.one k.keeps.least k.keeps.below))) i.spelled o.spelled h.spelled b.spelled;
-      are = b.are;
-      faultless = b.faultless;
-    }
+pub faultless_node : (nodes : ℕ) (next : CertNode → Form) (before : Rest) → IsBytes before.bytes → fault_in (node_form nodes next) before.at before.bytes ≡ None
+    → ReadsAs node_text (IsNode nodes) before next
+faultless_node nodes next before are none =
+    let k = field_read (within w8 1 3) _ before wide8 are none in
+    let i = field_read (any w32) _ k.after wide32 k.are k.faultless in
+    let o = field_read (within w16 1 (nodes + 1)) _ i.after wide16 i.are i.faultless in
+    let h = field_read (within w16 0 nodes) _ o.after wide16 o.are o.faultless in
+    let b = field_read (within w16 0 nodes) _ h.after wide16 h.are h.faultless in
+    let is = node_read nodes k.one i.one o.one h.one b.one before k.after i.after o.after h.after b.after k.is i.is o.is h.is b.is in
+    record { one = node_named k.one i.one o.one h.one b.one; after = b.after; is = is; are = b.are; faultless = b.faultless }
 
-pub link_read : (nodes : ℕ) (next : CertLink → Form) (at : ℕ) (bytes : List ℕ) → IsBytes bytes → fault_in (link_form nodes next) at bytes ≡ None
-    → Reads link_text (IsCertLink nodes) next bytes
-link_read nodes next at bytes are none =
-    let a = field_read (any w16) _ at bytes wide16 are none in
-    let b = field_read (within w16 (a.one + 1) nodes) _ a.at a.rest wide16 a.are a.faultless in
-    let k = field_read (within w16 0 nodes) _ b.at b.rest wide16 b.are b.faultless in
-    let r = field_read (within w8 0 3) _ k.at k.rest wide8 k.are k.faultless in
-    record {
-      one = link_named a.one b.one k.one r.one;
-      keeps = record {
-        ascending = omega (arith, b.keeps.least);
-        upper = b.keeps.below;
-        block = k.keeps.below;
-      };
-      at = r.at;
-      rest = r.rest;
-      spelled = four_texts (to_be_bytes w16 a.one) (to_be_bytes w16 b.one) (to_be_bytes w16 k.one) (to_be_bytes w8 (role_number (role_named r.one)))
-          bytes a.rest b.rest k.rest r.rest a.spelled b.spelled k.spelled
-          (number_text w8 r.one (role_number (role_named r.one)) k.rest r.rest r.spelled (sym (role_told r.one r.keeps.below)));
-      are = r.are;
-      faultless = r.faultless;
-    }
+pub faultless_link : (nodes : ℕ) (next : CertLink → Form) (before : Rest) → IsBytes before.bytes → fault_in (link_form nodes next) before.at before.bytes ≡ None
+    → ReadsAs link_text (IsCertLink nodes) before next
+faultless_link nodes next before are none =
+    let a = field_read (any w16) _ before wide16 are none in
+    let b = field_read (within w16 (a.one + 1) nodes) _ a.after wide16 a.are a.faultless in
+    let k = field_read (within w16 0 nodes) _ b.after wide16 b.are b.faultless in
+    let r = field_read (within w8 0 3) _ k.after wide8 k.are k.faultless in
+    let is = link_read nodes a.one b.one k.one r.one before a.after b.after k.after r.after a.is b.is k.is r.is in
+    record { one = link_named a.one b.one k.one r.one; after = r.after; is = is; are = r.are; faultless = r.faultless }
 
-pub row_read : (count links : ℕ) → count ≤ 7 → (next : Row → Form) (at : ℕ) (bytes : List ℕ) → IsBytes bytes → fault_in (row_form count links next) at bytes ≡ None
-    → Reads row_text (IsFileRow count links) next bytes
-row_read count links few next at bytes are none =
-    let b = field_read (within w16 0 links) _ at bytes wide16 are none in
-    let r = field_read (within w16 0 links) _ b.at b.rest wide16 b.are b.faultless in
-    let t = field_read (tag count) _ r.at r.rest wide8 r.are r.faultless in
-    let told = tag_told t.one (omega (arith, t.keeps.below, few)) in
-    record {
-      one = row_named b.one r.one t.one;
-      keeps = record {
-        kept = record {
-          blue = b.keeps.below;
-          red = r.keeps.below;
-        };
-        tagged = omega (arith, t.keeps.below, told);
-      };
-      at = t.at;
-      rest = t.rest;
-      spelled = three_texts (to_be_bytes w16 b.one) (to_be_bytes w16 r.one) (to_be_bytes w8 (tag_number (tag_named t.one)))
-          bytes b.rest r.rest t.rest b.spelled r.spelled
-          (number_text w8 t.one (tag_number (tag_named t.one)) r.rest t.rest t.spelled (sym told));
-      are = t.are;
-      faultless = t.faultless;
-    }
-
--- one part, and others after it
-with_one_before : {A : Type 0} (text : A → List ℕ) (Keeps : A → Type 0) (count : ℕ) (next : List A → Form) (bytes rest : List ℕ) (one : A)
-    → Keeps one → bytes ≡ text one ++ rest → Reads (flat_map text) (IsListOf count Keeps) (λ xs. next (one ∷ xs)) rest
-    → Reads (flat_map text) (IsListOf (suc count) Keeps) next bytes
-with_one_before text Keeps count next bytes rest one keeps spelled others = record {
-  one = one ∷ others.one;
-  keeps = record { many = ap suc others.keeps.many; each = (keeps, others.keeps.each) };
-  at = others.at;
-  rest = others.rest;
-  spelled = spelled ∙ ap (λ (t : List ℕ). text one ++ t) others.spelled ∙ sym (append_assoc (text one) (flat_map text others.one) others.rest);
-  are = others.are;
-  faultless = others.faultless;
-}
+pub faultless_row : (count links : ℕ) → count ≤ 7 → (next : Row → Form) (before : Rest) → IsBytes before.bytes → fault_in (row_form count links next) before.at before.bytes ≡ None
+    → ReadsAs row_text (IsFileRow count links) before next
+faultless_row count links few next before are none =
+    let b = field_read (within w16 0 links) _ before wide16 are none in
+    let r = field_read (within w16 0 links) _ b.after wide16 b.are b.faultless in
+    let t = field_read (tag count) _ r.after wide8 r.are r.faultless in
+    let is = row_read count links b.one r.one t.one before b.after r.after t.after few b.is r.is t.is in
+    record { one = row_named b.one r.one t.one; after = t.after; is = is; are = t.are; faultless = t.faultless }
 
 -- so many parts, which decide what follows them
 pub collected_read : {A : Type 0} (part : (A → Form) → Form) (text : A → List ℕ) (Keeps : A → Type 0)
-    → ((next : A → Form) (at : ℕ) (bytes : List ℕ) → IsBytes bytes → fault_in (part next) at bytes ≡ None → Reads text Keeps next bytes)
-    → (count : ℕ) (next : List A → Form) (at : ℕ) (bytes : List ℕ) → IsBytes bytes → fault_in (collected count part next) at bytes ≡ None
-    → Reads (flat_map text) (IsListOf count Keeps) next bytes
-collected_read part text Keeps reads zero next at bytes are none =
-    record { one = []; keeps = record { many = refl; each = tt }; at = at; rest = bytes; spelled = refl; are = are; faultless = none }
-collected_read part text Keeps reads (suc count) next at bytes are none =
-    let first = reads (λ x. collected count part (λ xs. next (x ∷ xs))) at bytes are none in
-    with_one_before text Keeps count next bytes first.rest first.one first.keeps first.spelled
-    (collected_read part text Keeps reads count (λ xs. next (first.one ∷ xs)) first.at first.rest first.are first.faultless)
+    → ((next : A → Form) (before : Rest) → IsBytes before.bytes → fault_in (part next) before.at before.bytes ≡ None → ReadsAs text Keeps before next)
+    → (count : ℕ) (next : List A → Form) (before : Rest) → IsBytes before.bytes → fault_in (collected count part next) before.at before.bytes ≡ None
+    → ReadsAs (flat_map text) (IsListOf count Keeps) before next
+collected_read part text Keeps reads zero next before are none =
+    record { one = []; after = before; is = (record { parts = refl; place = omega arith }, record { many = refl; each = tt }); are = are; faultless = none }
+collected_read part text Keeps reads (suc count) next before are none =
+    let first = reads (λ x. collected count part (λ xs. next (x ∷ xs))) before are none in
+    let others = collected_read part text Keeps reads count (λ xs. next (first.one ∷ xs)) first.after first.are first.faultless in
+    record {
+      one = first.one ∷ others.one;
+      after = others.after;
+      is = (
+        Took-then (text first.one) (flat_map text others.one) before first.after others.after first.is.0 others.is.0,
+        record { many = ap suc others.is.1.many; each = (first.is.1, others.is.1.each) },
+      );
+      are = others.are;
+      faultless = others.faultless;
+    }
 
 -- no head is at fault
 pub heads_read : (version links at : ℕ) (ns : List CertNode) (bytes : List ℕ) → fault_in (after_nodes version links ns) at bytes ≡ None
@@ -239,3 +179,58 @@ pub end_read : (at : ℕ) (bytes : List ℕ) → fault_in End at bytes ≡ None 
 unfolding fault_in
 end_read at [] none = refl
 end_read at (byte ∷ bytes) none = absurd (some_none (at, Trailing) none)
+
+-- ---- a whole file
+
+bytes_of : (bytes : List ℕ) → AllByRecursion (λ byte. byte < 2 ^ 8) bytes → IsBytes bytes
+bytes_of [] all i = omega arith
+bytes_of (byte ∷ bytes) all zero = all.0
+bytes_of (byte ∷ bytes) all (suc i) = bytes_of bytes all.1 i
+
+few_tag_count : (version : ℕ) → tag_count version ≤ 7
+few_tag_count version = elim (cases_Bool (version == 1)) [ inl one ↦ rw one (omega arith) | inr two ↦ rw two (omega arith) ]
+
+file_spelled : (bytes : List ℕ) → IsBytes bytes → first_fault bytes ≡ None → (f : CertFile) × IsCertFile f × (bytes ≡ cert_text f)
+file_spelled bytes are none =
+    let h = header_read (λ version nodes links. collected nodes (node_form nodes) (after_nodes version links)) (rest_of 0 bytes) are none in
+    let header = h.one in
+    let n = collected_read (node_form header.nodes) node_text (IsNode header.nodes) (faultless_node header.nodes) header.nodes (after_nodes header.version header.links) h.after h.are h.faultless in
+    let heads = heads_read header.version header.links n.after.at n.one n.after.bytes n.faultless in
+    let count = length n.one in
+    let tags = tag_count header.version in
+    let l = collected_read (link_form count) link_text (IsCertLink count) (faultless_link count) header.links (λ all. after_links header.version header.links n.one) n.after n.are
+    (sym (heads_pass header.version header.links n.after.at n.one n.after.bytes heads) ∙ n.faultless) in
+    let r = collected_read (row_form tags header.links) row_text (IsFileRow tags header.links) (faultless_row tags header.links (few_tag_count header.version)) (row_count header.version n.one) (λ rows. End) l.after l.are l.faultless in
+    let parts : Parts = record { header = Some header; nodes = n.one; links = l.one; rows = r.one; kin = if header.version == 1 then None else Some (kin_of n.one) } in
+    let text : bytes ≡ text_of parts =
+    h.is.0.parts ∙ ap (λ (t : List ℕ). header_text header.version header.nodes header.links header.root ++ t)
+    (n.is.0.parts ∙ ap (λ (t : List ℕ). flat_map node_text n.one ++ t) (l.is.0.parts ∙ ap (λ (t : List ℕ). flat_map link_text l.one ++ t)
+    (r.is.0.parts ∙ ap (λ (t : List ℕ). flat_map row_text r.one ++ t) (end_read r.after.at r.after.bytes r.faultless) ∙ append-nil (flat_map row_text r.one)))) in
+    let whole : AreWhole header parts = record {
+      header = refl;
+      under = record {
+        header = h.is.1;
+        nodes = record { few = omega (arith, n.is.1.many); each = n.is.1.each };
+        links = record { few = omega (arith, l.is.1.many); each = subst (λ (k : ℕ). AllByRecursion (IsCertLink k) l.one) n.is.1.many l.is.1.each };
+        rows = record { few = omega (arith, r.is.1.many); each = r.is.1.each };
+        nodes_first = λ fewer. absurd (omega (arith, fewer, n.is.1.many));
+        links_first = λ fewer. absurd (omega (arith, fewer, l.is.1.many));
+        known = λ all. record { heads = heads; index = refl };
+      };
+      nodes = n.is.1.many;
+      links = l.is.1.many;
+      rows = r.is.1.many;
+    } in
+    let file = file_of header parts whole in
+    (file.0, file.1.0, text ∙ file.1.1)
+
+-- these bytes are a certificate file, or have a first fault
+abbrev pub AreEither : List ℕ → Type 0
+AreEither bytes = ((f : CertFile) × IsCertFile f × (bytes ≡ cert_text f)) ⊎ ((at : ℕ) × (kind : CertKind) × (first_fault bytes ≡ Some (at, kind)))
+
+pub either : (bytes : List ℕ) → AllByRecursion (λ byte. byte < 2 ^ 8) bytes → AreEither bytes
+either bytes all = go (first_fault bytes) refl
+  where
+    go : (o : Option (ℕ × CertKind)) → first_fault bytes ≡ o → AreEither bytes
+    go None none = inl (file_spelled bytes (bytes_of bytes all) none)
+    go (Some fault) some = inr (fault.0, fault.1, some)

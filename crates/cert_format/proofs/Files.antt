@@ -108,17 +108,9 @@ nodes_so : (n : ℕ) (ns : List CertNode) → AllByRecursion (IsCertNode n) ns �
 nodes_so n [] kept numbers = tt
 nodes_so n (x ∷ ns) kept numbers = (record { kept = kept.0; number = numbers.0 }, nodes_so n ns kept.1 numbers.1)
 
-version_known : (f : CertFile) → IsOfVersion f → (1 ≤ f.version) × (f.version ≤ 2)
-version_known f (inl one) = (omega (arith, one.version), omega (arith, one.version))
-version_known f (inr two) = (omega (arith, two.version), omega (arith, two.version))
-
-version_nodes : (f : CertFile) → IsOfVersion f → length f.cert.nodes ≤ most_nodes f.version
-version_nodes f (inl one) = rw one.version one.nodes
-version_nodes f (inr two) = rw two.version two.nodes
-
-version_links : (f : CertFile) → IsOfVersion f → length f.cert.links ≤ most_links f.version
-version_links f (inl one) = rw one.version one.links
-version_links f (inr two) = rw two.version two.links
+version_limits : (f : CertFile) → IsOfVersion f → (1 ≤ f.version) × (f.version ≤ 2) × (length f.cert.nodes ≤ most_nodes f.version) × (length f.cert.links ≤ most_links f.version)
+version_limits f (inl one) = rw one.version (omega arith, omega arith, one.nodes, one.links)
+version_limits f (inr two) = rw two.version (omega arith, omega arith, two.nodes, two.links)
 
 -- no head of a file is at fault
 version_heads : (f : CertFile) → IsOfVersion f → stray_head f.version f.cert.nodes ≡ None
@@ -127,14 +119,9 @@ version_heads f (inr two) =
     rw two.version (no_head_fault (certificate_of f.cert.nodes [] []) (record { top = two.foldable.top; least = two.foldable.least; chains = two.foldable.chains }))
 
 pub file_header : (f : CertFile) → IsCertFile f → IsHeader f.version (length f.cert.nodes) (length f.cert.links) f.root
-file_header f is = record {
-  from_one = (version_known f is.of_version).0;
-  to_two = (version_known f is.of_version).1;
-  some_node = is.certificate.some_node;
-  few_nodes = version_nodes f is.of_version;
-  few_links = version_links f is.of_version;
-  root_fits = is.root;
-}
+file_header f is =
+    let limits = version_limits f is.of_version in
+    record { from_one = limits.0; to_two = limits.1; some_node = is.certificate.some_node; few_nodes = limits.2; few_links = limits.3; root_fits = is.root }
 
 pub file_nodes : (f : CertFile) → IsCertFile f → AllByRecursion (IsNode (length f.cert.nodes)) f.cert.nodes
 file_nodes f is = nodes_so (length f.cert.nodes) f.cert.nodes is.certificate.nodes_kept is.numbers

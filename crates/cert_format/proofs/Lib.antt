@@ -1,7 +1,5 @@
-pub mod Certain
 pub mod Faultless
 pub mod Fields
-pub mod FileOrFault
 pub mod FileRows
 pub mod Files
 pub mod Finished
@@ -10,10 +8,7 @@ pub mod GoesOn
 pub mod HeadFaults
 pub mod Lists
 pub mod Parts
-pub mod PartsRead
 pub mod Puttings
-pub mod RoomLeft
 pub mod SpellingLength
 pub mod Streams
 pub mod Taking
-pub mod Unique

@@ -20,7 +20,7 @@ use Rattle.cert_format.specs.CertText.{header_text, node_text, link_text, row_te
 use Rattle.cert_format.specs.Layout.{End, Form, after_links, after_nodes, cert_form, collected, header_form, node_form, link_form, row_form}
 use Rattle.cert_format.specs.FirstFault.{fault_in, first_fault}
 use Rattle.cert_format.specs.Reading.{Ends, IsFileRow, IsHeader, IsNode, Names, ReadsList, Rest, Took, TookMore}
-use Rattle.cert_format.specs.Steps.{AreBelow, AreFirst, AreKnown, AreParts, AreUnder, AreWhole, Begins, Grew, Knows, Parts, ReadsOn, Stops, Takes, TookParts, text_of, text_of_header}
+use Rattle.cert_format.specs.Steps.{AreBelow, AreFirst, AreKnown, AreParts, AreUnder, AreWhole, Begins, Grew, Knows, Parts, ReadsOn, Stops, TookParts, text_of, text_of_header}
 use Rattle.cert_format.specs.Stream.{is_cut}
 use Rattle.cert_format.specs.Versions.{row_count, tag_count}
 use Rattle.cert_format.proofs.Files.{all_nodes_pass, few_most_links, few_most_nodes, head_fails, trailing}
@@ -75,12 +75,12 @@ stops_then : (a b c : Parts) (x y : Rest) (at : ℕ) (kind : CertKind) → TookP
 stops_then a b c x y at kind took stops =
     record { left = stops.left; took = took_then a b c x y stops.left took stops.took; first = stops.first; cut = stops.cut }
 
-pub on_error : (a b c : Parts) (x y : Rest) (e : CertError) → TookParts a x b y → Takes b y c (Err e) → ReadsOn a x c (Err e)
-on_error a b c x y (errors.Fault at kind) took stops = stops_then a b c x y at kind took stops
-on_error a b c x y errors.NoMemory took stops = tt
-
-pub whole_then : (a b : Parts) (x y : Rest) → TookParts a x b y → ReadsOn b y b (Ok tt) → ReadsOn a x b (Ok tt)
-whole_then a b x y took reads = (reads.0, reads.1 ∙ ap (λ (it : List ℕ). it ++ y.bytes) took.adds ∙ append_assoc (text_of a) took.text y.bytes ∙ ap (λ (it : List ℕ). text_of a ++ it) (sym took.took.parts))
+-- what follows is read too
+pub reads_then : (a b c : Parts) (x y : Rest) (result : Result Unit CertError) → TookParts a x b y → ReadsOn b y c result → ReadsOn a x c result
+reads_then a b c x y (Ok _) took reads =
+    (reads.0, reads.1 ∙ ap (λ (it : List ℕ). it ++ y.bytes) took.adds ∙ append_assoc (text_of a) took.text y.bytes ∙ ap (λ (it : List ℕ). text_of a ++ it) (sym took.took.parts))
+reads_then a b c x y (Err (errors.Fault at kind)) took stops = stops_then a b c x y at kind took stops
+reads_then a b c x y (Err errors.NoMemory) took reads = tt
 
 -- ---- parts of one kind
 
@@ -156,6 +156,9 @@ with_nodes parts nodes kin = record { header = parts.header; nodes = nodes; link
 pub first_more : {A : Type 0} (count most : ℕ) (Keeps : A → Type 0) (xs more ys : List A) → AreFirst count Keeps xs → ys ≡ xs ++ more → AllByRecursion Keeps more → length ys ≤ most → AreFirst most Keeps ys
 first_more count most Keeps xs more ys first e all few = record { few = few; each = subst (AllByRecursion Keeps) (sym e) (all_append Keeps xs more first.each all) }
 
+pub grew_header : (parts : Parts) (header : Header) → Grew parts (with_header parts header)
+grew_header parts header = record { nodes = begins_all parts.nodes; links = begins_all parts.links; rows = begins_all parts.rows; kin = λ kin is. is }
+
 pub grew_nodes : (parts : Parts) (nodes : List CertNode) (kin : Option Kin) → parts.kin ≡ None → Begins parts.nodes nodes → Grew parts (with_nodes parts nodes kin)
 grew_nodes parts nodes kin none begins =
     record { nodes = begins; links = begins_all parts.links; rows = begins_all parts.rows; kin = λ some is. let other : ◌≡◌ {A = Option Kin} None (Some some) = sym none ∙ is in absurd cc }
@@ -169,6 +172,9 @@ grew_rows parts rows begins = record { nodes = begins_all parts.nodes; links = b
 module _ (parts : Parts) (header : Header) (is : parts.header ≡ Some header) (so : AreUnder header parts) where
   few_links : header.links ≤ 65535
   few_links = omega (arith, so.header.few_links, few_most_links header.version)
+
+  few_nodes : header.nodes ≤ 65535
+  few_nodes = omega (arith, so.header.few_nodes, few_most_nodes header.version)
 
   module _ (nodes : List CertNode) (kin : Option Kin) (lacks : length parts.nodes < header.nodes) where
     pub nodes_grow : (more : List CertNode) → nodes ≡ parts.nodes ++ more → text_of (with_nodes parts nodes kin) ≡ text_of parts ++ flat_map node_text more
@@ -192,12 +198,9 @@ module _ (parts : Parts) (header : Header) (is : parts.header ≡ Some header) (
           known = known;
         }
 
-    few_nodes : header.nodes ≤ 65535
-    few_nodes = omega (arith, so.header.few_nodes, few_most_nodes header.version)
-
     -- not all nodes are there
     pub nodes_stop : kin ≡ None → (before : Rest) (e : CertError) → before.at ≡ length (text_of parts)
-        → ReadsList (node_form header.nodes) node_text (IsNode header.nodes) header.nodes parts.nodes nodes before (Err e) → Takes parts before (with_nodes parts nodes kin) (Err e)
+        → ReadsList (node_form header.nodes) node_text (IsNode header.nodes) header.nodes parts.nodes nodes before (Err e) → ReadsOn parts before (with_nodes parts nodes kin) (Err e)
     nodes_stop none before (errors.Fault at kind) place (left, it, fewer, fault) =
         let so_far = nodes_under it.more it.adds it.each (omega (arith, fewer)) (λ few. none) (λ all. absurd (omega (arith, all, fewer))) in
         let bare = so.nodes_first lacks in
@@ -208,7 +211,7 @@ module _ (parts : Parts) (header : Header) (is : parts.header ≡ Some header) (
 
     -- all nodes are there
     pub nodes_done : (before after : Rest) → TookMore node_text (IsNode header.nodes) parts.nodes nodes before after → length nodes ≡ header.nodes → AreKnown header.version nodes kin
-        → Takes parts before (with_nodes parts nodes kin) (Ok after)
+        → TookParts parts before (with_nodes parts nodes kin) after × AreParts (with_nodes parts nodes kin)
     nodes_done before after it all known = (
       list_took (node_form header.nodes) node_text (IsNode header.nodes) 11 (node_part header.nodes few_nodes) header.nodes parts.nodes nodes parts (with_nodes parts nodes kin) nodes_grow before after it,
       are_under (with_nodes parts nodes kin) header is (nodes_under it.more it.adds it.each (omega (arith, all)) (λ few. absurd (omega (arith, all, few))) (λ every. known)),
@@ -216,7 +219,7 @@ module _ (parts : Parts) (header : Header) (is : parts.header ≡ Some header) (
 
     -- a head is at fault
     pub heads_stop : (before after : Rest) (e : CertError) → TookMore node_text (IsNode header.nodes) parts.nodes nodes before after → length nodes ≡ header.nodes
-        → Knows header.version nodes kin (Err e) → Takes parts before (with_nodes parts nodes kin) (Err e)
+        → Knows header.version nodes kin (Err e) → ReadsOn parts before (with_nodes parts nodes kin) (Err e)
     heads_stop before after (errors.Fault at kind) it all knows =
         let bare = so.nodes_first lacks in
         let new = with_nodes parts nodes kin in
@@ -261,18 +264,21 @@ module _ (parts : Parts) (header : Header) (is : parts.header ≡ Some header) (
         known = so.known;
       }
 
-      pub links_taken : (before : Rest) (result : Result Rest CertError) → before.at ≡ length (text_of parts)
-          → ReadsList (link_form header.nodes) link_text (IsCertLink header.nodes) header.links parts.links links before result → Takes parts before (with_links parts links) result
-      links_taken before (Ok after) place (it, all) = (
-        list_took (link_form header.nodes) link_text (IsCertLink header.nodes) 7 (link_part header.nodes (omega (arith, so.header.few_nodes, few_most_nodes header.version))) header.links parts.links links parts (with_links parts links) links_grow before after it,
+      pub links_done : (before after : Rest) → TookMore link_text (IsCertLink header.nodes) parts.links links before after → length links ≡ header.links
+          → TookParts parts before (with_links parts links) after × AreParts (with_links parts links)
+      links_done before after it all = (
+        list_took (link_form header.nodes) link_text (IsCertLink header.nodes) 7 (link_part header.nodes few_nodes) header.links parts.links links parts (with_links parts links) links_grow before after it,
         are_under (with_links parts links) header is (links_under it.more it.adds it.each (omega (arith, all))),
       )
-      links_taken before (Err (errors.Fault at kind)) place (left, it, fewer, fault) =
+
+      pub links_stop : (before : Rest) (e : CertError) → before.at ≡ length (text_of parts)
+          → ReadsList (link_form header.nodes) link_text (IsCertLink header.nodes) header.links parts.links links before (Err e) → ReadsOn parts before (with_links parts links) (Err e)
+      links_stop before (errors.Fault at kind) place (left, it, fewer, fault) =
           let new = with_links parts links in
           let so_far = links_under it.more it.adds it.each (omega (arith, fewer)) in
-          list_stops (link_form header.nodes) link_text (IsCertLink header.nodes) 7 (link_part header.nodes (omega (arith, so.header.few_nodes, few_most_nodes header.version))) header.links parts.links links parts new links_grow
+          list_stops (link_form header.nodes) link_text (IsCertLink header.nodes) 7 (link_part header.nodes few_nodes) header.links parts.links links parts new links_grow
           (λ all. after_links header.version header.links parts.nodes) (are_under new header is so_far) (links_left new header is so_far nodes (so.links_first lacks)) before left at kind place it fewer fault
-      links_taken before (Err errors.NoMemory) place same = tt
+      links_stop before errors.NoMemory place same = tt
 
     -- ---- rows
 
@@ -300,19 +306,22 @@ module _ (parts : Parts) (header : Header) (is : parts.header ≡ Some header) (
           known = so.known;
         }
 
-        pub rows_taken : (before : Rest) (result : Result Rest CertError) → before.at ≡ length (text_of parts)
-            → ReadsList (row_form (tag_count header.version) header.links) row_text (IsFileRow (tag_count header.version) header.links) (row_count header.version parts.nodes) parts.rows rows before result
-            → Takes parts before (with_rows parts rows) result
-        rows_taken before (Ok after) place (it, all) = (
+        pub rows_done : (before after : Rest) → TookMore row_text (IsFileRow (tag_count header.version) header.links) parts.rows rows before after → length rows ≡ row_count header.version parts.nodes
+            → TookParts parts before (with_rows parts rows) after × AreWhole header (with_rows parts rows)
+        rows_done before after it all = (
           list_took (row_form (tag_count header.version) header.links) row_text (IsFileRow (tag_count header.version) header.links) 5 (row_part (tag_count header.version) header.links few_links) (row_count header.version parts.nodes) parts.rows rows parts (with_rows parts rows) rows_grow before after it,
-          are_under (with_rows parts rows) header is (rows_under it.more it.adds it.each (omega (arith, all))),
+          record { header = is; under = rows_under it.more it.adds it.each (omega (arith, all)); nodes = nodes; links = links; rows = all },
         )
-        rows_taken before (Err (errors.Fault at kind)) place (left, it, fewer, fault) =
+
+        pub rows_stop : (before : Rest) (e : CertError) → before.at ≡ length (text_of parts)
+            → ReadsList (row_form (tag_count header.version) header.links) row_text (IsFileRow (tag_count header.version) header.links) (row_count header.version parts.nodes) parts.rows rows before (Err e)
+            → ReadsOn parts before (with_rows parts rows) (Err e)
+        rows_stop before (errors.Fault at kind) place (left, it, fewer, fault) =
             let new = with_rows parts rows in
             let so_far = rows_under it.more it.adds it.each (omega (arith, fewer)) in
             list_stops (row_form (tag_count header.version) header.links) row_text (IsFileRow (tag_count header.version) header.links) 5 (row_part (tag_count header.version) header.links few_links) (row_count header.version parts.nodes) parts.rows rows parts new rows_grow
             (λ every. End) (are_under new header is so_far) (rows_left new header is so_far nodes links) before left at kind place it fewer fault
-        rows_taken before (Err errors.NoMemory) place same = tt
+        rows_stop before errors.NoMemory place same = tt
 
 -- ---- the end
 
@@ -327,7 +336,7 @@ whole_read header parts whole rest none = ((header, whole), sym (ap (λ (it : Li
 
 -- something does
 pub end_stops : (header : Header) (parts : Parts) → AreWhole header parts → (rest : Rest) (fault : CertFault) → rest.at ≡ length (text_of parts) → Ends rest (Err fault)
-    → Takes parts rest parts (Err (errors.Fault fault.at fault.kind))
+    → ReadsOn parts rest parts (Err (errors.Fault fault.at fault.kind))
 end_stops header parts whole rest fault place (some, at, kind) = record {
   left = rest;
   took = took_none parts rest;

@@ -139,17 +139,6 @@ pub record Stops (old : Parts) (before : Rest) (new : Parts) (at : ℕ) (kind : 
   pub first : first_fault (text_of new ++ left.bytes) ≡ Some (at, kind)
   pub cut : is_cut kind ≡ true → AreParts new × (length left.bytes < 14)
 
--- all parts of one kind were taken off the rest, or those up to a fault
-abbrev pub Takes : Parts → Rest → Parts → Result Rest CertError → Type 0
-Takes old before new (Ok after) = TookParts old before new after × AreParts new
-Takes old before new (Err (errors.Fault at kind)) = Stops old before new at kind
-Takes old before new (Err errors.NoMemory) = Unit {0}
-
-abbrev pub TakesHeader : Parts → Rest → Parts → Result (Header × Rest) CertError → Type 0
-TakesHeader old before new (Ok x) = TookParts old before new x.1 × AreParts new × (new.header ≡ Some x.0)
-TakesHeader old before new (Err (errors.Fault at kind)) = Stops old before new at kind
-TakesHeader old before new (Err errors.NoMemory) = ⊥
-
 -- all parts were taken, or those up to a fault
 abbrev pub ReadsOn : Parts → Rest → Parts → Result Unit CertError → Type 0
 ReadsOn old before new (Ok _) = ((announced : Header) × AreWhole announced new) × (text_of new ≡ text_of old ++ before.bytes)

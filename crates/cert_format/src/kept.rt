@@ -1,25 +1,10 @@
 //! What a reader keeps of a certificate file: the parts that it has read.
 
-ghost use Rattle.std.specs.Prelude.{◌≡◌, ◌<◌, ◌≤◌, ◌+◌, ◌-◌, ◌*◌, ◌^◌, ◌++◌, None, Some, OnOk, length};
+ghost use Rattle.std.specs.Prelude.{◌≡◌, ◌<◌, ◌≤◌, ◌+◌, ◌-◌, ◌*◌, ◌^◌, ◌++◌, None, Some, length};
 ghost use Rattle.std.specs.List.{AllByRecursion};
 ghost use Rattle.cert_format.specs.Layout.{head_place};
 ghost use Rattle.cert_format.specs.Reading.{IsHeader, IsNode};
-ghost use Rattle.cert_format.specs.Steps.{
-  AreParts,
-  AreWhole,
-  Grew,
-  IsFileOf,
-  Knows,
-  ReadsOn,
-  Takes,
-  TakesHeader,
-  front_of,
-  mark_of,
-  no_parts,
-  parts_of,
-  text_of,
-  text_of_header,
-};
+ghost use Rattle.cert_format.specs.Steps.{AreParts, AreWhole, Grew, IsFileOf, Knows, ReadsOn, front_of, mark_of, no_parts, parts_of, text_of, text_of_header};
 ghost use Rattle.cert_format.specs.Versions.{all_rows, row_count};
 
 use crate::error::{CertError, CertKind};
@@ -88,42 +73,28 @@ impl Kept {
         ensures reads { ReadsOn (parts_of self.old) rest.entry (parts_of self.new) result }
         ensures grew { Grew (parts_of self.old) (parts_of self.new) }
     {
-        let (header, rest) = self.take_header(rest)?;
-        let rest = self.take_nodes(header, rest)?;
-        let rest = self.take_links(header, rest)?;
-        let rest = self.take_rows(header, rest)?;
-        rest.end()?;
-        Ok(())
-    }
-
-    fn take_header<'a>(&mut self, rest: Rest<'a>) -> Result<(Header, Rest<'a>), CertError>
-        requires parts { AreParts (parts_of self.old) }
-        requires place { rest.at ≡ length (text_of (parts_of self.old)) }
-        ensures takes { TakesHeader (parts_of self.old) rest.entry (parts_of self.new) result }
-        ensures grew { Grew (parts_of self.old) (parts_of self.new) }
-    {
         if let Some(header) = self.header {
-            return Ok((header, rest));
+            return self.read_nodes(header, rest);
         }
         let (header, rest) = Header::read(rest)?;
         self.header = Some(header);
-        Ok((header, rest))
+        self.read_nodes(header, rest)
     }
 
-    fn take_nodes<'a>(&mut self, header: Header, rest: Rest<'a>) -> Result<Rest<'a>, CertError>
+    /// The nodes, and what follows them.
+    fn read_nodes(&mut self, header: Header, rest: Rest<'_>) -> Result<(), CertError>
         requires parts { AreParts (parts_of self.old) }
         requires place { rest.at ≡ length (text_of (parts_of self.old)) }
         requires header { self.old.header ≡ Some header }
-        ensures takes { Takes (parts_of self.old) rest.entry (parts_of self.new) result }
-        ensures all { OnOk result ((self.new.header ≡ Some header) × (length self.new.nodes.items ≡ header.nodes)) }
+        ensures reads { ReadsOn (parts_of self.old) rest.entry (parts_of self.new) result }
         ensures grew { Grew (parts_of self.old) (parts_of self.new) }
     {
         if self.nodes.len() == header.nodes as usize {
-            return Ok(rest);
+            return self.read_links(header, rest);
         }
         let rest = read_parts(&mut self.nodes, rest, header.nodes as usize, header)?;
         self.know(header)?;
-        Ok(rest)
+        self.read_links(header, rest)
     }
 
     /// Looks at all nodes, once they were read.
@@ -145,35 +116,36 @@ impl Kept {
         Ok(())
     }
 
-    fn take_links<'a>(&mut self, header: Header, rest: Rest<'a>) -> Result<Rest<'a>, CertError>
+    /// The links, and what follows them.
+    fn read_links(&mut self, header: Header, rest: Rest<'_>) -> Result<(), CertError>
         requires parts { AreParts (parts_of self.old) }
         requires place { rest.at ≡ length (text_of (parts_of self.old)) }
         requires header { self.old.header ≡ Some header }
         requires nodes { length self.old.nodes.items ≡ header.nodes }
-        ensures takes { Takes (parts_of self.old) rest.entry (parts_of self.new) result }
-        ensures same { self.new ≡ record self.old { links = self.new.links } }
-        ensures all { OnOk result (length self.new.links.items ≡ header.links) }
+        ensures reads { ReadsOn (parts_of self.old) rest.entry (parts_of self.new) result }
         ensures grew { Grew (parts_of self.old) (parts_of self.new) }
     {
         if self.links.len() == header.links as usize {
-            return Ok(rest);
+            return self.read_rows(header, rest);
         }
-        read_parts(&mut self.links, rest, header.links as usize, header)
+        let rest = read_parts(&mut self.links, rest, header.links as usize, header)?;
+        self.read_rows(header, rest)
     }
 
-    fn take_rows<'a>(&mut self, header: Header, rest: Rest<'a>) -> Result<Rest<'a>, CertError>
+    /// The rows, after which nothing follows.
+    fn read_rows(&mut self, header: Header, rest: Rest<'_>) -> Result<(), CertError>
         requires parts { AreParts (parts_of self.old) }
         requires place { rest.at ≡ length (text_of (parts_of self.old)) }
         requires header { self.old.header ≡ Some header }
         requires nodes { length self.old.nodes.items ≡ header.nodes }
         requires links { length self.old.links.items ≡ header.links }
-        ensures takes { Takes (parts_of self.old) rest.entry (parts_of self.new) result }
-        ensures same { self.new ≡ record self.old { rows = self.new.rows } }
-        ensures all { OnOk result (length self.new.rows.items ≡ row_count header.version self.old.nodes.items) }
+        ensures reads { ReadsOn (parts_of self.old) rest.entry (parts_of self.new) result }
         ensures grew { Grew (parts_of self.old) (parts_of self.new) }
     {
         let count = self.row_count(header);
-        read_parts(&mut self.rows, rest, count, header)
+        let rest = read_parts(&mut self.rows, rest, count, header)?;
+        rest.end()?;
+        Ok(())
     }
 
     /// How many rows there are in the file.

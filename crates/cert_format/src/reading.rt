@@ -16,7 +16,7 @@ use std::alloc::Global;
 ///
 /// It is one pass, by a [`CertReader`]. Each list is reserved once.
 ///
-/// It takes time in proportion to the bytes, and of version 2 to all pairs of nodes.
+/// It takes time in proportion to the bytes, and of version 2 to the nodes too, some 13 times.
 ///
 /// # Example
 ///

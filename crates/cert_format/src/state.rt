@@ -1,19 +1,7 @@
 //! How far a stream is read.
 
 ghost use Rattle.std.specs.Prelude.{◌≡◌, ◌++◌, ◌∷◌, [], Ok, IfErr, OnOk, OnErr, true, false, length};
-ghost use Rattle.cert_format.specs.Steps.{
-  AreParts,
-  Finishes,
-  Grew,
-  IsReading,
-  Parts,
-  Stops,
-  Tells,
-  has_failed,
-  parts_of,
-  progress_of,
-  text_of,
-};
+ghost use Rattle.cert_format.specs.Steps.{AreParts, Finishes, Grew, IsReading, Parts, Stops, Tells, has_failed, parts_of, progress_of, text_of};
 ghost use Rattle.cert_format.specs.Reading.{rest_of};
 ghost use Rattle.cert_format.specs.Stream.{fed, is_cut, seen};
 

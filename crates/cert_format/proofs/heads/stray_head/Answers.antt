@@ -1,11 +1,10 @@
-use Rattle.std.proofs.Common.{◌≡◌, ◌∙◌, ◌==◌, ℕ, Option, Some, not, length, sym, ap}
+use Rattle.std.proofs.Common.{◌≡◌, ◌∙◌, ◌==◌, ℕ, Option, Some, not, length, sym, ap, List, []}
 use Rattle.std.specs.List.{slice_index_or}
 use Rattle.std.specs.Option.{option_map_or}
 use Rattle.mrt_graph.specs.BothThere.{are_equal}
 use Rattle.mrt_graph.specs.Certificate.{certificate_of}
 use Rattle.mrt_graph.specs.Foldable.{comes_to}
 use Rattle.mrt_graph.specs.declared.cert.CertNode.{CertNode}
-use Rattle.std.proofs.Common.{List, []}
 use Rattle.cert_format.specs.Folded.{AreEnds, least}
 use Rattle.cert_format.proofs.HeadFaults.{least_alike}
 use Rattle.cert_format.proofs.heads.stray_head.Goals as goal

@@ -1,4 +1,4 @@
-use Rattle.cert_format.proofs.PartsRead.{link_read}
+use Rattle.cert_format.proofs.Parts.{link_read}
 use Rattle.cert_format.proofs.part.link.Goals as goal
 
 pub returns : goal.returns

@@ -1,4 +1,4 @@
-use Rattle.cert_format.proofs.PartsRead.{node_read}
+use Rattle.cert_format.proofs.Parts.{node_read}
 use Rattle.cert_format.proofs.part.node.Goals as goal
 
 pub returns : goal.returns

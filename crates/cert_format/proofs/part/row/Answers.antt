@@ -1,4 +1,4 @@
-use Rattle.cert_format.proofs.PartsRead.{row_read}
+use Rattle.cert_format.proofs.Parts.{row_read}
 use Rattle.cert_format.proofs.part.row.Goals as goal
 
 pub returns : goal.returns

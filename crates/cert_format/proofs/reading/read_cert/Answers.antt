@@ -9,7 +9,7 @@ use Rattle.cert_format.specs.Limits.{IsCertFile}
 use Rattle.cert_format.specs.Outcome.{OrNoMemory, ReadsFile}
 use Rattle.cert_format.proofs.Files.{no_fault}
 use Rattle.cert_format.proofs.Forms.{same_fault}
-use Rattle.cert_format.proofs.Unique.{one_file}
+use Rattle.cert_format.proofs.Finished.{one_file}
 use Rattle.cert_format.proofs.reading.read_cert.Goals as goal
 
 spelled_is_read : (bytes : List ℕ) (r : Result CertFile CertError) → ReadsFile bytes r → (f : CertFile) → IsCertFile f → bytes ≡ cert_text f → OrNoMemory r (Ok f)

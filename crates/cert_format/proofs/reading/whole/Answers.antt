@@ -6,7 +6,7 @@ use Rattle.cert_format.specs.declared.error.CertError.{CertError}
 use Rattle.cert_format.specs.declared.error.CertError.TheVariants as errors
 use Rattle.cert_format.specs.Outcome.{ReadsFile}
 use Rattle.cert_format.specs.Stream.{Progress, end_fault, fed}
-use Rattle.cert_format.proofs.Certain.{end_is_first, seen_ok}
+use Rattle.cert_format.proofs.Streams.{end_is_first, seen_ok}
 use Rattle.cert_format.proofs.reading.whole.Goals as goal
 
 fault_first : (bytes : List ℕ) (e : CertError) (before now : Progress) → before ≡ Ok []

@@ -1,7 +1,5 @@
 use Rattle.std.proofs.Common.{◌≡◌, ◌∙◌, ◌+◌, ◌*◌, ◌++◌, ℕ, List, length, refl, ap, append_assoc, length-append, arith}
 use Rattle.std.specs.List.{flat_map}
-use Rattle.mrt_graph.specs.declared.cert.CertNode.{CertNode}
-use Rattle.mrt_graph.specs.declared.cert.CertLink.{CertLink}
 use Rattle.cert_format.proofs.Lists.{length_texts}
 use Rattle.cert_format.specs.CertText.{header_text, link_text, node_text, row_text}
 use Rattle.cert_format.specs.Versions.{rows_in}
@@ -29,43 +27,24 @@ put_parts-requires c =
     let len = rw (c.unwrap.ensures, c.header_bytes-header.ensures) at c.extend_from_slice.ensures.len in
     omega (arith, len, c.in_ok-out.ensures.len, c.in_ok-out.ensures.capacity, c.extend_from_slice.ensures.capacity, length_texts node_text 11 c.nodes-nodes.result.now (λ x. refl))
 
--- how many bytes are there once the nodes are put
-nodes_there : (nodes : List CertNode) (before now : List ℕ) → now ≡ before ++ flat_map node_text nodes → length now ≡ length before + 11 * length nodes
-nodes_there nodes before now e = omega (arith, ap length e, length-append before (flat_map node_text nodes), length_texts node_text 11 nodes (λ x. refl))
-
-links_there : (links : List CertLink) (before now : List ℕ) → now ≡ before ++ flat_map link_text links → length now ≡ length before + 7 * length links
-links_there links before now e = omega (arith, ap length e, length-append before (flat_map link_text links), length_texts link_text 7 links (λ x. refl))
+-- how many bytes are there once parts are put
+parts_there : {A : Type 0} (text : A → List ℕ) (size : ℕ) (xs : List A) (before now : List ℕ) → ((x : A) → length (text x) ≡ size) → now ≡ before ++ flat_map text xs → length now ≡ length before + size * length xs
+parts_there text size xs before now sized e = ap length e ∙ length-append before (flat_map text xs) ∙ ap (λ (k : ℕ). length before + k) (length_texts text size xs sized)
 
 pub put_parts-requires-2 : goal.put_parts-requires-2
 put_parts-requires-2 c =
     let len = rw (c.unwrap.ensures, c.header_bytes-header.ensures) at c.extend_from_slice.ensures.len in
-    omega (
-      arith,
-      len,
-      c.in_ok-out.ensures.len,
-      c.in_ok-out.ensures.capacity,
-      c.extend_from_slice.ensures.capacity,
-      c.put_parts.ensures.capacity,
-      nodes_there c.nodes-nodes.result.now c.extend_from_slice.new.self.items c.put_parts.new.out.items c.put_parts.ensures.text,
-      length_texts link_text 7 c.links-links.result.now (λ x. refl),
-    )
+    let nodes = parts_there node_text 11 c.nodes-nodes.result.now c.extend_from_slice.new.self.items c.put_parts.new.out.items (λ x. refl) c.put_parts.ensures.text in
+    let links = length_texts link_text 7 c.links-links.result.now (λ x. refl) in
+    omega (arith, len, c.in_ok-out.ensures.len, c.in_ok-out.ensures.capacity, c.extend_from_slice.ensures.capacity, c.put_parts.ensures.capacity, nodes, links)
 
 pub put_rows_of-requires : goal.put_rows_of-requires
 put_rows_of-requires c =
     let len = rw (c.unwrap.ensures, c.header_bytes-header.ensures) at c.extend_from_slice.ensures.len in
-    omega (
-      arith,
-      len,
-      c.in_ok-out.ensures.len,
-      c.in_ok-out.ensures.capacity,
-      c.extend_from_slice.ensures.capacity,
-      c.put_parts.ensures.capacity,
-      c.put_parts-2.ensures.capacity,
-      nodes_there c.nodes-nodes.result.now c.extend_from_slice.new.self.items c.put_parts.new.out.items c.put_parts.ensures.text,
-      links_there c.links-links.result.now c.put_parts.new.out.items c.put_parts-2.new.out.items c.put_parts-2.ensures.text,
-      c.count_rows_of-rows.ensures,
-      length_texts row_text 5 (rows_in c.args.f.now.version c.args.f.now.cert.rows) (λ x. refl),
-    )
+    let nodes = parts_there node_text 11 c.nodes-nodes.result.now c.extend_from_slice.new.self.items c.put_parts.new.out.items (λ x. refl) c.put_parts.ensures.text in
+    let links = parts_there link_text 7 c.links-links.result.now c.put_parts.new.out.items c.put_parts-2.new.out.items (λ x. refl) c.put_parts-2.ensures.text in
+    let rows = length_texts row_text 5 (rows_in c.args.f.now.version c.args.f.now.cert.rows) (λ x. refl) in
+    omega (arith, len, c.in_ok-out.ensures.len, c.in_ok-out.ensures.capacity, c.extend_from_slice.ensures.capacity, c.put_parts.ensures.capacity, c.put_parts-2.ensures.capacity, nodes, links, c.count_rows_of-rows.ensures, rows)
 
 -- four parts, one after another
 joined : (head nodes links rows one two three four : List ℕ) → one ≡ head → two ≡ one ++ nodes → three ≡ two ++ links → four ≡ three ++ rows

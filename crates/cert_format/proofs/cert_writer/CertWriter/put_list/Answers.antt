@@ -3,8 +3,7 @@ use Rattle.std.proofs.lemmas.Result.{err_from_is_err_and}
 use Rattle.std.specs.List.{flat_map}
 use Rattle.cert_format.specs.Putting.{Puts}
 use Rattle.cert_format.proofs.Lists.{texts_next}
-use Rattle.cert_format.proofs.Puttings.{puts_as, puts_none, turn_done, turn_failed, turn_fits}
-use Rattle.cert_format.proofs.RoomLeft.{all_given, none_left}
+use Rattle.cert_format.proofs.Puttings.{all_given, none_left, puts_as, puts_none, turn_done, turn_failed, turn_fits}
 use Rattle.cert_format.proofs.cert_writer.CertWriter.put_list.Goals as goal
 
 pub put_few-requires-clause-short : goal.put_few-requires-clause-short

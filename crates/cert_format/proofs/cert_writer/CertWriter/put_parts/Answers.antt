@@ -4,8 +4,7 @@ use Rattle.std.specs.List.{flat_map}
 use Rattle.cert_format.specs.CertText.{link_text, node_text, row_text}
 use Rattle.cert_format.specs.Putting.{Puts}
 use Rattle.cert_format.specs.Versions.{rows_in}
-use Rattle.cert_format.proofs.Puttings.{all_parts, puts_failed, second_failed}
-use Rattle.cert_format.proofs.RoomLeft.{first_fits, rest_fits}
+use Rattle.cert_format.proofs.Puttings.{all_parts, first_fits, puts_failed, rest_fits, second_failed}
 use Rattle.cert_format.proofs.cert_writer.CertWriter.put_parts.Goals as goal
 
 pub returns-in_err-put_links : goal.returns-in_err-put_links

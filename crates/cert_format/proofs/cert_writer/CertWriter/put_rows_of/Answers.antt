@@ -9,8 +9,7 @@ use Rattle.cert_format.specs.CertText.{row_text, row_text_in}
 use Rattle.cert_format.specs.Putting.{Puts, Writer}
 use Rattle.cert_format.proofs.FileRows.{near_same, rows_put, short_row}
 use Rattle.cert_format.proofs.Lists.{texts_next}
-use Rattle.cert_format.proofs.Puttings.{puts_as, puts_none, turn_done, turn_failed, turn_fits}
-use Rattle.cert_format.proofs.RoomLeft.{all_given}
+use Rattle.cert_format.proofs.Puttings.{all_given, puts_as, puts_none, turn_done, turn_failed, turn_fits}
 use Rattle.cert_format.proofs.cert_writer.CertWriter.put_rows_of.Goals as goal
 
 pub put_rows-requires : goal.put_rows-requires

@@ -26,27 +26,19 @@ put_file-requires-clause-small g c =
     let all = whole c.self.inside.file c.args.self c.self.inside.writer c.nodes.result.now c.links.result.now c.self.inside.file.cert.rows c.self.invariant.header c.nodes.ensures.value c.links.ensures refl c.self.view_is in
     omega (arith, ap length all, longest_spelling c.args.self (subst IsCertFile c.self.view_is c.self.invariant.within))
 
-pub returns-clause-gained : goal.returns-clause-gained
-returns-clause-gained g c =
+pub returns : goal.returns
+returns g c =
     let all = whole c.self.inside.file c.args.self c.self.inside.writer c.nodes.result.now c.links.result.now c.self.inside.file.cert.rows c.self.invariant.header c.nodes.ensures.value c.links.ensures refl c.self.view_is in
-    subst (λ (it : List ℕ). OnOk c.put_file.result (Gained (g.K.Sink.written c.args.sink.now) it (g.K.Sink.written c.put_file.new.sink))) all c.put_file.ensures.gained
-
-pub returns-clause-part : goal.returns-clause-part
-returns-clause-part g c =
-    let all = whole c.self.inside.file c.args.self c.self.inside.writer c.nodes.result.now c.links.result.now c.self.inside.file.cert.rows c.self.invariant.header c.nodes.ensures.value c.links.ensures refl c.self.view_is in
-    subst (λ (it : List ℕ). IfErr c.put_file.result (GainedPart (g.K.Sink.written c.args.sink.now) it (g.K.Sink.written c.put_file.new.sink))) all c.put_file.ensures.part
-
-pub returns-clause-succeeds : goal.returns-clause-succeeds
-returns-clause-succeeds g c = λ healthy.
-    let all = whole c.self.inside.file c.args.self c.self.inside.writer c.nodes.result.now c.links.result.now c.self.inside.file.cert.rows c.self.invariant.header c.nodes.ensures.value c.links.ensures refl c.self.view_is in
-    c.put_file.ensures.succeeds (length (cert_text c.args.self)) healthy (omega (arith, ap length all))
-
-pub returns-clause-no_fault : goal.returns-clause-no_fault
-returns-clause-no_fault g c = λ n healthy enough.
-    let all = whole c.self.inside.file c.args.self c.self.inside.writer c.nodes.result.now c.links.result.now c.self.inside.file.cert.rows c.self.invariant.header c.nodes.ensures.value c.links.ensures refl c.self.view_is in
-    c.put_file.ensures.no_fault n healthy (omega (arith, ap length all, enough))
-
-pub returns-clause-stays_healthy : goal.returns-clause-stays_healthy
-returns-clause-stays_healthy g c = λ n healthy enough.
-    let all = whole c.self.inside.file c.args.self c.self.inside.writer c.nodes.result.now c.links.result.now c.self.inside.file.cert.rows c.self.invariant.header c.nodes.ensures.value c.links.ensures refl c.self.view_is in
-    subst (λ (it : List ℕ). g.K.Sink.healthy_for c.put_file.new.sink (n - length it)) all (c.put_file.ensures.stays_healthy n healthy (omega (arith, ap length all, enough)))
+    let size = ap length all in
+    let put = c.put_file.ensures in
+    record {
+      gained = subst (λ (it : List ℕ). OnOk c.put_file.result (Gained (g.K.Sink.written c.args.sink.now) it (g.K.Sink.written c.put_file.new.sink))) all put.gained;
+      within = subst IsCertFile c.self.view_is c.self.invariant.within;
+      part = subst (λ (it : List ℕ). IfErr c.put_file.result (GainedPart (g.K.Sink.written c.args.sink.now) it (g.K.Sink.written c.put_file.new.sink))) all put.part;
+      cause = put.cause;
+      count = put.count;
+      succeeds = λ healthy. put.succeeds (length (cert_text c.args.self)) healthy (omega (arith, size));
+      no_fault = λ n healthy enough. put.no_fault n healthy (omega (arith, size, enough));
+      stays_healthy = λ n healthy enough.
+          subst (λ (it : List ℕ). g.K.Sink.healthy_for c.put_file.new.sink (n - length it)) all (put.stays_healthy n healthy (omega (arith, size, enough)));
+    }
