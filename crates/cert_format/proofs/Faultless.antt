@@ -2,7 +2,7 @@
 use Rattle.std.proofs.Common.{◌≡◌, ◌+◌, ◌<◌, ◌≤◌, ℕ, zero, suc, ltb, List, [], ◌∷◌, ◌++◌, length, take, drop, Option, Some, None, inl, inr, refl, sym, ap, ◌∙◌, take-append-drop, arith, ◌⊎◌, ◌==◌, ◌^◌, subst}
 use Rattle.std.specs.Int.{w8, w16, w32, byte_len, from_be_bytes, to_be_bytes}
 use Rattle.std.specs.List.{flat_map, AllByRecursion}
-use Rattle.std.specs.Prelude.{codes, if◌then◌else◌}
+use Rattle.std.specs.Prelude.{codes}
 use Rattle.std.proofs.lemmas.Bool.{cases_Bool, ltb-false}
 use Rattle.std.proofs.lemmas.List.{length-take-le, append-nil}
 use Rattle.mrt_graph.proofs.Bytes.{IsBytes, bytes_after}
@@ -20,12 +20,12 @@ use Rattle.cert_format.specs.Reading.{IsFileRow, IsHeader, IsListOf, IsNode, Res
 use Rattle.cert_format.specs.Versions.{most_links, most_nodes, stray_head, row_count, tag_count}
 use Rattle.cert_format.proofs.Fields.{IsWide, wide8, wide16, wide32, took_field}
 use Rattle.cert_format.proofs.Files.{head_fails, heads_pass}
+use Rattle.cert_format.proofs.GoesOn.{all_made, made_of}
 use Rattle.cert_format.proofs.Lists.{Took-then}
 use Rattle.cert_format.proofs.Parts.{link_read, node_read, row_read, took_as}
-use Rattle.mrt_graph.specs.Kin.{kin_of}
 use Rattle.mrt_graph.specs.declared.cert.CertFile.{CertFile}
 use Rattle.cert_format.specs.Limits.{IsCertFile}
-use Rattle.cert_format.specs.Steps.{AreWhole, Parts, text_of}
+use Rattle.cert_format.specs.Steps.{text_of}
 use Rattle.cert_format.proofs.Finished.{file_of}
 
 -- what was read at the front, and then bytes in which no field of the form is at fault
@@ -201,26 +201,13 @@ file_spelled bytes are none =
     let l = collected_read (link_form count) link_text (IsCertLink count) (faultless_link count) header.links (λ all. after_links header.version header.links n.one) n.after n.are
     (sym (heads_pass header.version header.links n.after.at n.one n.after.bytes heads) ∙ n.faultless) in
     let r = collected_read (row_form tags header.links) row_text (IsFileRow tags header.links) (faultless_row tags header.links (few_tag_count header.version)) (row_count header.version n.one) (λ rows. End) l.after l.are l.faultless in
-    let parts : Parts = record { header = Some header; nodes = n.one; links = l.one; rows = r.one; kin = if header.version == 1 then None else Some (kin_of n.one) } in
+    let parts = made_of header n.one l.one r.one in
     let text : bytes ≡ text_of parts =
     h.is.0.parts ∙ ap (λ (t : List ℕ). header_text header.version header.nodes header.links header.root ++ t)
     (n.is.0.parts ∙ ap (λ (t : List ℕ). flat_map node_text n.one ++ t) (l.is.0.parts ∙ ap (λ (t : List ℕ). flat_map link_text l.one ++ t)
     (r.is.0.parts ∙ ap (λ (t : List ℕ). flat_map row_text r.one ++ t) (end_read r.after.at r.after.bytes r.faultless) ∙ append-nil (flat_map row_text r.one)))) in
-    let whole : AreWhole header parts = record {
-      header = refl;
-      under = record {
-        header = h.is.1;
-        nodes = record { few = omega (arith, n.is.1.many); each = n.is.1.each };
-        links = record { few = omega (arith, l.is.1.many); each = subst (λ (k : ℕ). AllByRecursion (IsCertLink k) l.one) n.is.1.many l.is.1.each };
-        rows = record { few = omega (arith, r.is.1.many); each = r.is.1.each };
-        nodes_first = λ fewer. absurd (omega (arith, fewer, n.is.1.many));
-        links_first = λ fewer. absurd (omega (arith, fewer, l.is.1.many));
-        known = λ all. record { heads = heads; index = refl };
-      };
-      nodes = n.is.1.many;
-      links = l.is.1.many;
-      rows = r.is.1.many;
-    } in
+    let links : IsListOf header.links (IsCertLink header.nodes) l.one = subst (λ (k : ℕ). IsListOf header.links (IsCertLink k) l.one) n.is.1.many l.is.1 in
+    let whole = all_made header n.one l.one r.one h.is.1 n.is.1 links r.is.1 heads in
     let file = file_of header parts whole in
     (file.0, file.1.0, text ∙ file.1.1)
 

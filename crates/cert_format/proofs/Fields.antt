@@ -124,19 +124,10 @@ pub kind_fits : (kind : Kind) → (1 ≤ kind_number kind) × (kind_number kind 
 kind_fits kinds.Router = (omega arith, omega arith)
 kind_fits kinds.Network = (omega arith, omega arith)
 
-pub kind_small : (kind : Kind) → kind_number kind < 256
-kind_small kind = omega (arith, (kind_fits kind).1)
-
 pub role_fits : (role : Role) → role_number role < 3
 role_fits roles.Plain = omega arith
 role_fits roles.Sole = omega arith
 role_fits roles.Closing = omega arith
-
-pub role_small : (role : Role) → role_number role < 256
-role_small role = omega (arith, role_fits role)
-
-pub tag_small : (row_tag : Tag) → tag_number row_tag < 256
-tag_small row_tag = omega (arith, few_tags row_tag)
 
 pub any_is_read : (w : Width) (before : Rest) (r : Result (ℕ × Rest) CertFault) → IsWide w → ReadsNumber w before r → ReadsField (any w) before r
 any_is_read w before (Ok x) wide read = took_field (any w) x.0 before x.1 wide read.0 read.1 (field_allows (any w) x.0 (omega arith) read.1)

@@ -25,7 +25,8 @@ use Rattle.cert_format.specs.Steps.{AreKnown, AreWhole, Finishes, IsFileOf, Part
 use Rattle.cert_format.specs.Stream.{Progress, end_fault}
 use Rattle.cert_format.specs.Versions.{rows_in, tag_count, row_count}
 use Rattle.cert_format.proofs.FileRows.{all_stand, tag_near, file_rows_count}
-use Rattle.cert_format.proofs.Files.{few_most_links, few_most_nodes, no_fault, file_header, file_nodes, file_rows}
+use Rattle.cert_format.proofs.Files.{few_most_links, few_most_nodes, file_header, file_nodes, file_rows}
+use Rattle.cert_format.proofs.GoesOn.{no_fault}
 use Rattle.cert_format.proofs.Forms.{same_fault}
 use Rattle.cert_format.proofs.HeadFaults.{heads_sound}
 use Rattle.std.specs.Int.{Width, w8, w16, w32, byte_len, from_be_bytes, to_be_bytes}
@@ -33,7 +34,7 @@ use Rattle.std.specs.Prelude.{codes}
 use Rattle.std.proofs.lemmas.List.{take_at, drop_at, append-nil}
 use Rattle.cert_format.specs.Layout.{kind_named, role_named, tag_named}
 use Rattle.cert_format.proofs.Parts.{kind_again, role_again, tag_again}
-use Rattle.cert_format.proofs.Fields.{IsWide, wide8, wide16, wide32, kind_small, role_small, tag_small}
+use Rattle.cert_format.proofs.Fields.{IsWide, wide8, wide16, wide32, few_tags, kind_fits, role_fits}
 use Rattle.mrt_graph.proofs.OneUnfolding.{one_unfolding}
 
 -- ---- no two files have one spelling
@@ -48,38 +49,30 @@ numbers w x y r s wide lx ly e =
     let p = pieces (byte_len w) (to_be_bytes w x) (to_be_bytes w y) r s (wide.len x) (wide.len y) e in
     (sym (wide.again x lx) ∙ ap (from_be_bytes w) p.0 ∙ wide.again y ly, p.1)
 
-node_is : (x y : CertNode) → x.id.kind ≡ y.id.kind → x.id.number ≡ y.id.number → x.order ≡ y.order → x.head ≡ y.head → x.block ≡ y.block → x ≡ y
-node_is x y kind number order head block = λ i. record { id = record { kind = kind i; number = number i }; order = order i; head = head i; block = block i }
-
-link_is : (x y : CertLink) → x.a ≡ y.a → x.b ≡ y.b → x.block ≡ y.block → x.role ≡ y.role → x ≡ y
-link_is x y a b block role = λ i. record { a = a i; b = b i; block = block i; role = role i }
-
-row_is : (x y : Row) → x.blue ≡ y.blue → x.red ≡ y.red → x.tag ≡ y.tag → x ≡ y
-row_is x y blue red tag = λ i. record { blue = blue i; red = red i; tag = tag i }
-
 nodes_one : (n : ℕ) → n ≤ 65535 → (x y : CertNode) → IsNode n x → IsNode n y → node_text x ≡ node_text y → x ≡ y
 nodes_one n few x y kx ky e =
-    let k = numbers w8 (kind_number x.id.kind) (kind_number y.id.kind) _ _ wide8 (kind_small x.id.kind) (kind_small y.id.kind) e in
+    let k = numbers w8 (kind_number x.id.kind) (kind_number y.id.kind) _ _ wide8 (omega (arith, (kind_fits x.id.kind).1)) (omega (arith, (kind_fits y.id.kind).1)) e in
     let i = numbers w32 x.id.number y.id.number _ _ wide32 kx.number ky.number k.1 in
     let o = numbers w16 x.order y.order _ _ wide16 (omega arith) (omega arith) i.1 in
     let h = numbers w16 x.head y.head _ _ wide16 (omega arith) (omega arith) o.1 in
     let b = numbers w16 x.block y.block [] [] wide16 (omega arith) (omega arith) h.1 in
-    node_is x y (sym (kind_again x.id.kind) ∙ ap kind_named k.0 ∙ kind_again y.id.kind) i.0 o.0 h.0 b.0
+    let kind = sym (kind_again x.id.kind) ∙ ap kind_named k.0 ∙ kind_again y.id.kind in
+    λ j. record { id = record { kind = kind j; number = i.0 j }; order = o.0 j; head = h.0 j; block = b.0 j }
 
 links_one : (n : ℕ) → n ≤ 65535 → (x y : CertLink) → IsCertLink n x → IsCertLink n y → link_text x ≡ link_text y → x ≡ y
 links_one n few x y kx ky e =
     let a = numbers w16 x.a y.a _ _ wide16 (omega arith) (omega arith) e in
     let b = numbers w16 x.b y.b _ _ wide16 (omega arith) (omega arith) a.1 in
     let k = numbers w16 x.block y.block _ _ wide16 (omega arith) (omega arith) b.1 in
-    let r = numbers w8 (role_number x.role) (role_number y.role) [] [] wide8 (role_small x.role) (role_small y.role) k.1 in
-    link_is x y a.0 b.0 k.0 (sym (role_again x.role) ∙ ap role_named r.0 ∙ role_again y.role)
+    let r = numbers w8 (role_number x.role) (role_number y.role) [] [] wide8 (omega (arith, role_fits x.role)) (omega (arith, role_fits y.role)) k.1 in
+    let role = sym (role_again x.role) ∙ ap role_named r.0 ∙ role_again y.role in λ j. record { a = a.0 j; b = b.0 j; block = k.0 j; role = role j }
 
 rows_one : (tags m : ℕ) → m ≤ 65535 → (x y : Row) → IsFileRow tags m x → IsFileRow tags m y → row_text x ≡ row_text y → x ≡ y
 rows_one tags m few x y kx ky e =
     let b = numbers w16 x.blue y.blue _ _ wide16 (omega (arith, kx.kept.blue)) (omega (arith, ky.kept.blue)) e in
     let r = numbers w16 x.red y.red _ _ wide16 (omega (arith, kx.kept.red)) (omega (arith, ky.kept.red)) b.1 in
-    let t = numbers w8 (tag_number x.tag) (tag_number y.tag) [] [] wide8 (tag_small x.tag) (tag_small y.tag) r.1 in
-    row_is x y b.0 r.0 (sym (tag_again x.tag) ∙ ap tag_named t.0 ∙ tag_again y.tag)
+    let t = numbers w8 (tag_number x.tag) (tag_number y.tag) [] [] wide8 (omega (arith, few_tags x.tag)) (omega (arith, few_tags y.tag)) r.1 in
+    let tag = sym (tag_again x.tag) ∙ ap tag_named t.0 ∙ tag_again y.tag in λ j. record { blue = b.0 j; red = r.0 j; tag = tag j }
 
 lists_one : {A : Type 0} (text : A → List ℕ) (Keeps : A → Type 0) (size : ℕ) → ((x : A) → length (text x) ≡ size) → ((x y : A) → Keeps x → Keeps y → text x ≡ text y → x ≡ y)
     → (xs ys : List A) (r s : List ℕ) → length xs ≡ length ys → AllByRecursion Keeps xs → AllByRecursion Keeps ys → flat_map text xs ++ r ≡ flat_map text ys ++ s → (xs ≡ ys) × (r ≡ s)
@@ -95,20 +88,14 @@ lists_one text Keeps size sized one (x ∷ xs) (y ∷ ys) r s same kx ky e =
     let there : xs ≡ ys = others.0 in
     (cc, others.1)
 
-file_is : (f g : CertFile) → f.version ≡ g.version → f.root ≡ g.root → f.cert.nodes ≡ g.cert.nodes → f.cert.links ≡ g.cert.links → f.cert.rows ≡ g.cert.rows → f ≡ g
-file_is f g version root nodes links rows = λ i. record { version = version i; root = root i; cert = record { nodes = nodes i; links = links i; rows = rows i } }
-
-one_or_two : ◌≡◌ {A = ℕ} 1 2 → ⊥
-one_or_two e = omega (arith, e)
-
 -- the rows that stand in a file fix all its rows
 all_rows_one : (f g : CertFile) → IsCertFile f → IsCertFile g → f.version ≡ g.version → f.cert.nodes ≡ g.cert.nodes → rows_in f.version f.cert.rows ≡ rows_in g.version g.cert.rows
     → IsOfVersion f → IsOfVersion g → f.cert.rows ≡ g.cert.rows
 all_rows_one f g kf kg v n e (inl one) (inl other) =
     sym (all_stand f.cert.rows) ∙ ap (λ (it : ℕ). rows_in it f.cert.rows) (sym one.version) ∙ e
     ∙ ap (λ (it : ℕ). rows_in it g.cert.rows) other.version ∙ all_stand g.cert.rows
-all_rows_one f g kf kg v n e (inl one) (inr other) = absurd (one_or_two (sym one.version ∙ v ∙ other.version))
-all_rows_one f g kf kg v n e (inr one) (inl other) = absurd (one_or_two (sym other.version ∙ sym v ∙ one.version))
+all_rows_one f g kf kg v n e (inl one) (inr other) = absurd (omega (arith, one.version, v, other.version))
+all_rows_one f g kf kg v n e (inr one) (inl other) = absurd (omega (arith, one.version, v, other.version))
 all_rows_one f g kf kg v n e (inr one) (inr other) =
     let near : rows_in 2 f.cert.rows ≡ rows_in 2 g.cert.rows =
     ap (λ (it : ℕ). rows_in it f.cert.rows) (sym one.version) ∙ e ∙ ap (λ (it : ℕ). rows_in it g.cert.rows) other.version in
@@ -143,7 +130,8 @@ one_file f g kf kg e =
     file_rows_count f kf ∙ ap (λ (k : ℕ). row_count k f.cert.nodes) v.0 ∙ ap (row_count g.version) ns.0 ∙ sym (file_rows_count g kg) in
     let rows : flat_map row_text rows_f ++ [] ≡ flat_map row_text rows_g ++ [] = append-nil (flat_map row_text rows_f) ∙ ls.1 ∙ sym (append-nil (flat_map row_text rows_g)) in
     let rs = lists_one row_text (IsFileRow tags (length f.cert.links)) 5 (λ x. refl) (rows_one tags (length f.cert.links) kf.certificate.few_links) rows_f rows_g [] [] many (file_rows f kf) kept_g rows in
-    file_is f g v.0 r.0 ns.0 ls.0 (all_rows_one f g kf kg v.0 ns.0 rs.0 kf.of_version kg.of_version)
+    let all = all_rows_one f g kf kg v.0 ns.0 rs.0 kf.of_version kg.of_version in
+    λ j. record { version = v.0 j; root = r.0 j; cert = record { nodes = ns.0 j; links = ls.0 j; rows = all j } }
 
 -- ---- the file of whole parts
 

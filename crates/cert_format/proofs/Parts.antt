@@ -13,7 +13,7 @@ use Rattle.cert_format.specs.CertText.{kind_number, role_number, node_text, link
 use Rattle.cert_format.specs.Layout.{any, kind_named, link_named, node_named, role_named, row_named, tag_named, within, tag, node_form, link_form, row_form}
 use Rattle.cert_format.specs.FirstFault.{fault_in}
 use Rattle.cert_format.specs.Reading.{IsFileRow, IsNode, ReadsPart, Rest, Took, TookField}
-use Rattle.cert_format.proofs.Fields.{wide8, wide16, wide32, field_passes, kind_fits, role_fits, kind_small, role_small, tag_small}
+use Rattle.cert_format.proofs.Fields.{wide8, wide16, wide32, field_passes, few_tags, kind_fits, role_fits}
 use Rattle.cert_format.proofs.Lists.{IsPart, Took-then}
 
 -- numbers that spell something
@@ -62,7 +62,7 @@ pub node_part : (nodes : ℕ) → nodes ≤ 65535 → IsPart (node_form nodes) n
 node_part nodes few = record {
   sized = λ x. refl;
   passes = λ x keeps next at rest.
-      field_passes (within w8 1 3) _ _ (kind_number x.id.kind) _ wide8 (kind_small x.id.kind) (kind_fits x.id.kind).0 (kind_fits x.id.kind).1
+      field_passes (within w8 1 3) _ _ (kind_number x.id.kind) _ wide8 (omega (arith, (kind_fits x.id.kind).1)) (kind_fits x.id.kind).0 (kind_fits x.id.kind).1
       ∙ field_passes (any w32) _ _ x.id.number _ wide32 keeps.number (omega arith) keeps.number
       ∙ field_passes (within w16 1 (nodes + 1)) _ _ x.order _ wide16 (omega arith) keeps.kept.order_from_one (omega arith)
       ∙ field_passes (within w16 0 nodes) _ _ x.head _ wide16 (omega arith) (omega arith) keeps.kept.head
@@ -80,7 +80,7 @@ link_part nodes few = record {
       field_passes (any w16) _ _ x.a _ wide16 (omega arith) (omega arith) (omega arith)
       ∙ field_passes (within w16 (x.a + 1) nodes) _ _ x.b _ wide16 (omega arith) (omega arith) keeps.upper
       ∙ field_passes (within w16 0 nodes) _ _ x.block _ wide16 (omega arith) (omega arith) keeps.block
-      ∙ field_passes (within w8 0 3) _ _ (role_number x.role) _ wide8 (role_small x.role) (omega arith) (role_fits x.role)
+      ∙ field_passes (within w8 0 3) _ _ (role_number x.role) _ wide8 (omega (arith, role_fits x.role)) (omega arith) (role_fits x.role)
       ∙ ap (λ (a : ℕ). fault_in (next (link_named x.a x.b x.block (role_number x.role))) a rest) (omega arith)
       ∙ ap (λ (role : Role). fault_in (next (record { a = x.a; b = x.b; block = x.block; role = role })) (at + 7) rest) (role_again x.role);
   spans = (omega arith, refl, λ a. (omega arith, refl, λ b. (omega arith, refl, λ block. (omega arith, refl, λ role. refl))));
@@ -93,7 +93,7 @@ row_part tags links few = record {
   passes = λ x keeps next at rest.
       field_passes (within w16 0 links) _ _ x.blue _ wide16 (omega (arith, keeps.kept.blue)) (omega arith) keeps.kept.blue
       ∙ field_passes (within w16 0 links) _ _ x.red _ wide16 (omega (arith, keeps.kept.red)) (omega arith) keeps.kept.red
-      ∙ field_passes (tag tags) _ _ (tag_number x.tag) _ wide8 (tag_small x.tag) (omega arith) keeps.tagged
+      ∙ field_passes (tag tags) _ _ (tag_number x.tag) _ wide8 (omega (arith, few_tags x.tag)) (omega arith) keeps.tagged
       ∙ ap (λ (a : ℕ). fault_in (next (row_named x.blue x.red (tag_number x.tag))) a rest) (omega arith)
       ∙ ap (λ (it : Tag). fault_in (next (record { blue = x.blue; red = x.red; tag = it })) (at + 5) rest) (tag_again x.tag);
   spans = (omega arith, refl, λ blue. (omega arith, refl, λ red. (omega arith, refl, λ it. refl)));

@@ -1,6 +1,6 @@
 -- Steps of a writer, one after another.
 use Rattle.std.proofs.Common.{◌≡◌, ◌∙◌, ◌==◌, ◌<◌, ◌≤◌, ◌+◌, ◌-◌, ◌^◌, ◌++◌, ℕ, Bool, true, List, [], length, take, drop, Option, Some, None, Result, Ok, Err, refl, sym, ap, subst, arith, append_assoc, length-append, length-drop}
-use Rattle.std.specs.Prelude.{IfErr, OnOk}
+use Rattle.std.specs.Prelude.{IfErr, IsOk, OnOk}
 use Rattle.std.proofs.Math.Seq.{take-add}
 use Rattle.std.proofs.lemmas.Bool.Decides.{nat_tests}
 use Rattle.std.proofs.lemmas.List.{append-nil, nil_from_length, take-append-le, take_at, drop_at}
@@ -9,7 +9,7 @@ use Rattle.mrt_io.specs.Counts.{Rose, last_count}
 use Rattle.mrt_io.specs.Writing.{Gained, GainedPart}
 use Rattle.mrt_io.specs.declared.device.PutError.{PutError}
 use Rattle.mrt_io.specs.declared.device.PutError.TheVariants.{Failed}
-use Rattle.cert_format.specs.Putting.{IsFailedWithin, IsGiven, Puts, Writer, later_error}
+use Rattle.cert_format.specs.Putting.{IsFailedWithin, IsGiven, Puts, Writer, Wrote, later_error}
 
 -- more bytes are held, and the sink is left alone
 pub puts_held : (told : Option (List ℕ)) (was : ℕ) (healthy : ℕ → Type 0) (more : List ℕ) (old new : Writer) → new.version ≡ old.version → new.gone ≡ old.gone → new.held ≡ old.held ++ more
@@ -228,52 +228,66 @@ module _ (t0 t1 t2 t3 : Option (List ℕ)) (f0 f1 f2 f3 : ℕ) (h0 h1 h2 h3 : �
       subst (λ (it : List ℕ). Puts t0 t3 f0 f3 h0 h3 it w0 w3 result) (append_assoc a b c)
       (puts_then t0 t2 t3 f0 f2 f3 h0 h2 h3 (a ++ b) c w0 w2 w3 both_parts result three)
 
-pub second_failed : (t0 t1 t2 : Option (List ℕ)) (f0 f1 f2 : ℕ) (h0 h1 h2 : ℕ → Type 0) (a b c : List ℕ) (w0 w1 w2 : Writer) (e : PutError)
-    → Puts t0 t1 f0 f1 h0 h1 a w0 w1 (Ok tt) → Puts t1 t2 f1 f2 h1 h2 b w1 w2 (Err e) → Puts t0 t2 f0 f2 h0 h2 (a ++ (b ++ c)) w0 w2 (Err e)
-second_failed t0 t1 t2 f0 f1 f2 h0 h1 h2 a b c w0 w1 w2 e one two =
-    subst (λ (it : List ℕ). Puts t0 t2 f0 f2 h0 h2 it w0 w2 (Err e)) (append_assoc a b c)
-    (puts_failed t0 t2 f0 f2 h0 h2 (a ++ b) c w0 w2 e (puts_then t0 t1 t2 f0 f1 f2 h0 h1 h2 a b w0 w1 w2 one (Err e) two))
-
--- a file that failed
-pub record FailsWith (told tells : Option (List ℕ)) (was is : ℕ) (healthy stays : ℕ → Type 0) (text : List ℕ) (e : PutError) : Type 0 where
-  pub part : GainedPart told text tells e
-  pub cause : Rose was is
-  pub count : was ≤ is
-  pub never : (n : ℕ) → healthy n → length text ≤ n → ⊥
-
-pub whole_failed : (told tells : Option (List ℕ)) (was is : ℕ) (healthy stays : ℕ → Type 0) (more text : List ℕ) (old new : Writer) (e : PutError) → old.gone ≡ 0 → old.held ++ more ≡ text
-    → Puts told tells was is healthy stays more old new (Err e) → FailsWith told tells was is healthy stays text e
-whole_failed told tells was is healthy stays more text old new e none whole step = record {
+-- what is told once a whole file was written
+pub wrote_failed : (told tells : Option (List ℕ)) (was is : ℕ) (healthy stays : ℕ → Type 0) (more text : List ℕ) (old new : Writer) (e : PutError) → old.gone ≡ 0 → old.held ++ more ≡ text
+    → Puts told tells was is healthy stays more old new (Err e) → Wrote told tells was is healthy stays text (Err e)
+wrote_failed told tells was is healthy stays more text old new e none whole step = record {
+  gained = tt;
   part =
       let same : old.held ++ (more ++ []) ≡ text = ap (λ (it : List ℕ). old.held ++ it) (append-nil more) ∙ whole in
       subst (λ (it : List ℕ). GainedPart told it tells e) same (step.part told old.held [] (begun told old none));
   cause = step.cause;
   count = step.count;
-  never = λ n well enough.
-      let less : n ≡ n - old.gone = omega (arith, none) in
-      let ok = step.succeeds n (subst healthy less well) (omega (arith, none, enough, ap length whole)) in
-      absurd cc;
+  succeeds = λ n well enough. absurd (never n well enough);
+  no_fault = λ n well enough. absurd (never n well enough);
+  stays_healthy = λ n well enough. absurd (never n well enough);
 }
+  where
+    never : (n : ℕ) → healthy n → length text ≤ n → ⊥
+    never n well enough =
+        let less : n ≡ n - old.gone = omega (arith, none) in
+        let ok = step.succeeds n (subst healthy less well) (omega (arith, none, enough, ap length whole)) in
+        absurd cc
 
--- a whole file, before its end is closed
-pub record IsAlmost (told tells : Option (List ℕ)) (was is : ℕ) (healthy stays : ℕ → Type 0) (text : List ℕ) (new : Writer) : Type 0 where
-  pub given : IsGiven told tells text new
-  pub count : was ≤ is
-  pub size : new.gone + length new.held ≡ length text
-  pub no_fault : (n : ℕ) → healthy n → length text ≤ n → is ≡ was
-  pub stays_healthy : (n : ℕ) → healthy n → length text ≤ n → stays (n - new.gone)
+-- all parts were given, and then what was held went out or failed
+module _ (t0 t1 : Option (List ℕ)) (f0 f1 : ℕ) (h0 h1 : ℕ → Type 0) (more text : List ℕ) (old mid : Writer)
+    (none : old.gone ≡ 0) (whole : old.held ++ more ≡ text) (step : Puts t0 t1 f0 f1 h0 h1 more old mid (Ok tt)) where
+  pub all_size : mid.gone + length mid.held ≡ length text
+  all_size = omega (arith, step.size, none, ap length whole)
 
-pub almost : (told tells : Option (List ℕ)) (was is : ℕ) (healthy stays : ℕ → Type 0) (more : List ℕ) (old new : Writer) → old.gone ≡ 0
-    → Puts told tells was is healthy stays more old new (Ok tt) → IsAlmost told tells was is healthy stays (old.held ++ more) new
-almost told tells was is healthy stays more old new none step =
-    let less : (n : ℕ) → n ≡ n - old.gone = λ n. omega (arith, none) in
-    record {
-      given = step.given told old.held (begun told old none);
-      count = step.count;
-      size = omega (arith, step.size, none);
-      no_fault = λ n well enough. step.no_fault n (subst healthy (less n) well) (omega (arith, none, enough));
-      stays_healthy = λ n well enough. step.stays_healthy n (subst healthy (less n) well) (omega (arith, none, enough));
-    }
+  given : IsGiven t0 t1 text mid
+  given = subst (λ (it : List ℕ). IsGiven t0 t1 it mid) whole (step.given t0 old.held (begun t0 old none))
+
+  first : (n : ℕ) → h0 n → h0 (n - old.gone)
+  first n well = let same : n ≡ n - old.gone = omega (arith, none) in subst h0 same well
+
+  enough_for : (n : ℕ) → length text ≤ n → old.gone + length (old.held ++ more) ≤ n
+  enough_for n enough = omega (arith, none, enough, ap length whole)
+
+  well_then : (n : ℕ) → h0 n → length text ≤ n → h1 (n - mid.gone)
+  well_then n well enough = step.stays_healthy n (first n well) (enough_for n enough)
+
+  cause_later : (f2 : ℕ) (result : Result Unit PutError) → IfErr result (λ _. Rose f1 f2) → IfErr result (λ _. Rose f0 f2)
+  cause_later f2 (Ok x) cause = tt
+  cause_later f2 (Err e) cause = omega (arith, step.count, cause)
+
+  pub wrote : (t2 : Option (List ℕ)) (f2 : ℕ) (h2 : ℕ → Type 0) (result : Result Unit PutError)
+      → ((before : Option (List ℕ)) (bytes : List ℕ) → IsGiven before t1 bytes mid → OnOk result (Gained before bytes t2))
+      → ((before : Option (List ℕ)) (bytes : List ℕ) → IsGiven before t1 bytes mid → IfErr result (GainedPart before bytes t2))
+      → IfErr result (λ _. Rose f1 f2) → f1 ≤ f2
+      → ((n : ℕ) → h1 (n - mid.gone) → mid.gone + length mid.held ≤ n → IsOk result)
+      → ((n : ℕ) → h1 (n - mid.gone) → mid.gone + length mid.held ≤ n → f2 ≡ f1)
+      → ((n : ℕ) → h1 (n - mid.gone) → mid.gone + length mid.held ≤ n → h2 (n - (mid.gone + length mid.held)))
+      → Wrote t0 t2 f0 f2 h0 h2 text result
+  wrote t2 f2 h2 result gained part cause count succeeds no_fault stays = record {
+    gained = gained t0 text given;
+    part = part t0 text given;
+    cause = cause_later f2 result cause;
+    count = omega (arith, step.count, count);
+    succeeds = λ n well enough. succeeds n (well_then n well enough) (omega (arith, all_size, enough));
+    no_fault = λ n well enough. no_fault n (well_then n well enough) (omega (arith, all_size, enough)) ∙ step.no_fault n (first n well) (enough_for n enough);
+    stays_healthy = λ n well enough. subst (λ (k : ℕ). h2 (n - k)) all_size (stays n (well_then n well enough) (omega (arith, all_size, enough)));
+  }
 
 -- the first part of what is given
 pub first_fits : (gone : ℕ) (held a b : List ℕ) → gone + length (held ++ (a ++ b)) < 2 ^ 64 → gone + length (held ++ a) < 2 ^ 64

@@ -4,16 +4,14 @@ use Rattle.std.proofs.lemmas.Bool.{cases_Bool, false≢true}
 use Rattle.std.proofs.lemmas.List.{append-nil, drop_at}
 use Rattle.std.specs.Option.{option_map_or, option_and_then}
 use Rattle.std.specs.Prelude.{OnOk, codes}
+use Rattle.cert_format.specs.declared.error.CertError.TheVariants as errors
 use Rattle.cert_format.specs.declared.error.CertFault.{CertFault}
 use Rattle.cert_format.specs.declared.error.CertKind.TheVariants.{Truncated}
-use Rattle.cert_format.specs.declared.header.Header.{Header}
 use Rattle.cert_format.specs.FirstFault.{first_fault}
 use Rattle.cert_format.specs.Reading.{Rest}
-use Rattle.cert_format.specs.Steps.{AreParts, AreReading, AreWhole, Parts, Stops, TookParts, has_failed, no_parts, progress_by, text_of}
+use Rattle.cert_format.specs.Steps.{AreParts, AreReading, Parts, ReadsOn, TookParts, has_failed, no_parts, progress_by, text_of}
 use Rattle.cert_format.specs.Stream.{Progress, end_fault, fed, is_cut, seen, if_certain, certain_fault, fed_all}
-use Rattle.cert_format.proofs.Files.{no_fault}
-use Rattle.cert_format.proofs.Finished.{file_of}
-use Rattle.cert_format.proofs.GoesOn.{are_under}
+use Rattle.cert_format.proofs.GoesOn.{are_under, faultless}
 use Rattle.std.specs.Int.{w32, from_be_bytes}
 use Rattle.std.specs.List.{flat_map}
 use Rattle.cert_format.specs.declared.error.CertKind.{CertKind}
@@ -115,10 +113,6 @@ failed_told fault failed = elim (cases_Bool (is_cut fault.kind)) [ inl cut ↦ a
 more_told : (fault : CertFault) → has_failed (Some fault) ≡ false → is_cut fault.kind ≡ true
 more_told fault more = elim (cases_Bool (is_cut fault.kind)) [ inl cut ↦ cut | inr certain ↦ absurd (false≢true (sym more ∙ ap not certain)) ]
 
--- no field of a whole file is at fault
-pub faultless : (header : Header) (parts : Parts) → AreWhole header parts → first_fault (text_of parts) ≡ None
-faultless header parts whole = let file = file_of header parts whole in ap first_fault file.1.1 ∙ no_fault file.0 file.1.0
-
 -- ---- a stream that goes on
 
 module _ (fault : Option CertFault) (parts : Parts) (held : List ℕ) where
@@ -183,11 +177,12 @@ byte_then old start now byte piece rest all e is so_far =
 pub at_front : AreReading (Some (record { at = 0; kind = Truncated })) no_parts []
 at_front = λ cut. record { are = (refl, record { links = refl; rows = refl; kin = refl }); few = omega arith; first = empty_cut }
 
-pub whole_seen : (header : Header) (old new : Parts) (bytes : List ℕ) → AreWhole header new → text_of new ≡ text_of old ++ bytes → Ok (text_of new ++ []) ≡ seen (text_of old ++ bytes)
-whole_seen header old new bytes whole text =
-    ap (λ (it : List ℕ). Ok it) (append-nil (text_of new)) ∙ sym (faultless_seen (text_of new) (none_is (text_of new) (faultless header new whole))) ∙ ap seen text
+pub whole_seen : (old new : Parts) (before : Rest) → ReadsOn old before new (Ok tt) → Ok (text_of new ++ []) ≡ seen (text_of old ++ before.bytes)
+whole_seen old new before reads =
+    let text = ap (λ (it : List ℕ). text_of new ++ it) (sym reads.comes.1) ∙ stream_is old new before reads.left reads.took in
+    ap (λ (it : List ℕ). Ok it) (append-nil (text_of new)) ∙ sym (faultless_seen (text_of new) (none_is (text_of new) (faultless reads.comes.0.0 new reads.comes.0.1))) ∙ ap seen (sym (append-nil (text_of new)) ∙ text)
 
-module _ (old parts : Parts) (before : Rest) (fault : CertFault) (stops : Stops old before parts fault.at fault.kind) where
+module _ (old parts : Parts) (before : Rest) (fault : CertFault) (stops : ReadsOn old before parts (Err (errors.Fault fault.at fault.kind))) where
   same_stream : text_of parts ++ stops.left.bytes ≡ text_of old ++ before.bytes
   same_stream = stream_is old parts before stops.left stops.took
 
@@ -199,7 +194,7 @@ module _ (old parts : Parts) (before : Rest) (fault : CertFault) (stops : Stops 
 
   pub cut_seen : (held : List ℕ) → (is_cut fault.kind ≡ true → held ≡ stops.left.bytes) → progress_by (Some fault) parts held ≡ seen (text_of old ++ before.bytes)
   cut_seen held is = elim (cases_Bool (is_cut fault.kind)) [
-    | inl cut ↦ rw cut (ap (λ (it : List ℕ). Ok (text_of parts ++ it)) (is cut) ∙ sym (faultless_seen (text_of parts ++ stops.left.bytes) (cut_is (text_of parts ++ stops.left.bytes) fault.at fault.kind stops.first cut)) ∙ ap seen same_stream)
+    | inl cut ↦ rw cut (ap (λ (it : List ℕ). Ok (text_of parts ++ it)) (is cut) ∙ sym (faultless_seen (text_of parts ++ stops.left.bytes) (cut_is (text_of parts ++ stops.left.bytes) fault.at fault.kind stops.comes.first cut)) ∙ ap seen same_stream)
     | inr certain ↦ rw certain (sym (ap (λ (o : Option _). option_map_or (λ it. Err it) o (Ok (text_of old ++ before.bytes)))
-        (certain_is (text_of old ++ before.bytes) fault.at fault.kind (ap first_fault (sym same_stream) ∙ stops.first) certain)))
+        (certain_is (text_of old ++ before.bytes) fault.at fault.kind (ap first_fault (sym same_stream) ∙ stops.comes.first) certain)))
   ]

@@ -59,6 +59,18 @@ pub record Puts (told tells : Option (List ℕ)) (was is : ℕ) (healthy stays :
   pub size : OnOk result (new.gone + length new.held ≡ old.gone + length (old.held ++ more))
   pub same : new.version ≡ old.version
 
+-- A writer wrote this text, all that it was to, or failed. The sink told `told` before and tells `tells` now, its count of
+-- faults was `was` and is `is`, and it was healthy for these numbers of bytes and is for those.
+pub record Wrote (told tells : Option (List ℕ)) (was is : ℕ) (healthy stays : ℕ → Type 0) (text : List ℕ)
+    (result : Result Unit PutError) : Type 0 where
+  pub gained : OnOk result (Gained told text tells)
+  pub part : IfErr result (GainedPart told text tells)
+  pub cause : IfErr result (λ _. Rose was is)
+  pub count : was ≤ is
+  pub succeeds : (n : ℕ) → healthy n → length text ≤ n → IsOk result
+  pub no_fault : (n : ℕ) → healthy n → length text ≤ n → is ≡ was
+  pub stays_healthy : (n : ℕ) → healthy n → length text ≤ n → stays (n - length text)
+
 -- the error of a later piece, after so many bytes: how many were taken of all
 abbrev pub later_error : ℕ → PutError → PutError
 later_error before (Failed taken) = Failed (before + taken)

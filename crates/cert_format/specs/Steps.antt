@@ -131,19 +131,24 @@ pub record TookParts (old : Parts) (before : Rest) (new : Parts) (after : Rest) 
   pub text : List ℕ
   pub adds : text_of new ≡ text_of old ++ text
   pub took : Took text before after
+  pub grew : Grew old new
 
--- parts were taken off the rest, up to a fault, which is the first one; where it is a cut, fewer bytes are left than a part has
-pub record Stops (old : Parts) (before : Rest) (new : Parts) (at : ℕ) (kind : CertKind) : Type 0 where
+-- the first fault of what is left after parts; where it is a cut, fewer bytes are left than a part has
+pub record AreFollowed (parts : Parts) (left : Rest) (at : ℕ) (kind : CertKind) : Type 0 where
+  pub first : first_fault (text_of parts ++ left.bytes) ≡ Some (at, kind)
+  pub cut : is_cut kind ≡ true → AreParts parts × (length left.bytes < 14)
+
+-- all parts are there and nothing is left, or this is the first fault
+abbrev pub Comes : Parts → Rest → Result Unit CertError → Type 0
+Comes parts left (Ok _) = ((announced : Header) × AreWhole announced parts) × (left.bytes ≡ [])
+Comes parts left (Err (errors.Fault at kind)) = AreFollowed parts left at kind
+Comes parts left (Err errors.NoMemory) = Unit {0}
+
+-- parts were taken off the rest, as far as the file goes
+pub record ReadsOn (old : Parts) (before : Rest) (new : Parts) (result : Result Unit CertError) : Type 0 where
   pub left : Rest
   pub took : TookParts old before new left
-  pub first : first_fault (text_of new ++ left.bytes) ≡ Some (at, kind)
-  pub cut : is_cut kind ≡ true → AreParts new × (length left.bytes < 14)
-
--- all parts were taken, or those up to a fault
-abbrev pub ReadsOn : Parts → Rest → Parts → Result Unit CertError → Type 0
-ReadsOn old before new (Ok _) = ((announced : Header) × AreWhole announced new) × (text_of new ≡ text_of old ++ before.bytes)
-ReadsOn old before new (Err (errors.Fault at kind)) = Stops old before new at kind
-ReadsOn old before new (Err errors.NoMemory) = Unit {0}
+  pub comes : Comes new left result
 
 -- what is known of nodes, or the fault of a head
 abbrev pub Knows : ℕ → List CertNode → Option Kin → Result Unit CertError → Type 0

@@ -3,7 +3,6 @@
 ghost use Rattle.std.specs.Prelude.{◌≡◌, ℕ, Ok, Err, IsOk, IfOk, IfErr, OnOk, Some};
 ghost use Rattle.mrt_graph.specs.declared.cert.CertFile.{CertFile};
 ghost use Rattle.cert_format.specs.{declared.error.CertKind.CertKind, CertText.cert_text, Limits.IsCertFile, Stream.end_fault, Stream.fed};
-ghost use Rattle.cert_format.specs.Steps.{Finishes};
 
 use crate::error::{CertError, CertFault};
 use crate::state::State;
@@ -19,9 +18,8 @@ use std::marker::Model;
 /// The file is the one that [`read_cert`](crate::read_cert) reads from the whole stream, and the fault is the same,
 /// however the stream is cut.
 ///
-/// It takes room for all nodes, for all links and for all rows in the file, each where the first of them may follow, and for
-/// an index with the last node of version 2: with other pieces no memory is taken. No clause says with which piece
-/// `NoMemory` can come.
+/// Its room for the nodes, the links and the rows grows as they come, to at most twice what the bytes so far may spell; with
+/// the last node of version 2 it takes an index. No clause says with which piece `NoMemory` can come.
 pub struct CertReader {
     state: State,
 }
@@ -98,13 +96,6 @@ impl CertReader {
         ensures fault { IfErr result (λ fault. end_fault self ≡ Some (fault.at, fault.kind)) }
         ensures faulty { (at : ℕ) (kind : CertKind) → end_fault self ≡ Some (at, kind)
             → result ≡ Err (record { at = at; kind = kind }) }
-    {
-        self.end()
-    }
-
-    /// The file with its one exact answer, from which the clauses of `finish` follow.
-    fn end(self) -> Result<CertFile, CertFault>
-        ensures { Finishes self result }
     {
         let Self { state } = self;
         state.end()

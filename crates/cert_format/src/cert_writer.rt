@@ -4,13 +4,15 @@ ghost use Rattle.std.specs.Prelude.{◌≡◌, ◌<◌, ◌≤◌, ◌+◌, ◌-
 ghost use Rattle.std.specs.List.{flat_map};
 ghost use Rattle.mrt_io.specs.{Counts.Rose, Writing.Gained, Writing.GainedPart};
 ghost use Rattle.cert_format.specs.{Versions.rows_in};
-ghost use Rattle.cert_format.specs.CertText.{header_text, link_text, node_text, row_text};
-ghost use Rattle.cert_format.specs.Putting.{IsFailedWithin, IsGiven, Puts, later_error, parts_text};
+ghost use Rattle.cert_format.specs.CertText.{cert_text, header_text, link_text, node_text, row_text};
+ghost use Rattle.cert_format.specs.Limits.{IsOfVersion};
+ghost use Rattle.cert_format.specs.Putting.{IsFailedWithin, IsGiven, IsWritable, Puts, Wrote, later_error, parts_text};
 
 use crate::header::header_bytes;
+use crate::limits::within_limits;
 use crate::list::put_parts;
 use crate::part::Part;
-use mrt_graph::{Cert, CertLink, CertNode, NoMemory, Row};
+use mrt_graph::{Cert, CertFile, CertLink, CertNode, NoMemory, Row};
 use mrt_io::{PutError, Sink, put_all};
 use std::alloc::Global;
 use std::marker::Model;
@@ -140,33 +142,27 @@ impl CertWriter {
         writer.put_held(sink)
     }
 
-    /// Writes a whole file, of which it was given the header.
-    pub(crate) fn put_file<K: Sink>(
-        self,
-        sink: &mut K,
-        nodes: &[CertNode],
-        links: &[CertLink],
-        cert: &Cert,
-    ) -> Result<(), PutError>
-        requires none { self.gone ≡ 0 }
-        requires small { length (self.held ++ parts_text self.version nodes.now links.now cert.now.rows) < 2 ^ 64 }
-        ensures gained { OnOk result (Gained (K.written sink.old)
-            (self.held ++ parts_text self.version nodes.now links.now cert.now.rows) (K.written sink.new)) }
-        ensures part { IfErr result (GainedPart (K.written sink.old)
-            (self.held ++ parts_text self.version nodes.now links.now cert.now.rows) (K.written sink.new)) }
-        ensures cause { IfErr result (λ _. Rose (K.faults sink.old) (K.faults sink.new)) }
-        ensures count { K.faults sink.old ≤ K.faults sink.new }
-        ensures succeeds { (n : ℕ) → K.healthy_for sink.old n
-            → length (self.held ++ parts_text self.version nodes.now links.now cert.now.rows) ≤ n → IsOk result }
-        ensures no_fault { (n : ℕ) → K.healthy_for sink.old n
-            → length (self.held ++ parts_text self.version nodes.now links.now cert.now.rows) ≤ n
-            → K.faults sink.new ≡ K.faults sink.old }
-        ensures stays_healthy { (n : ℕ) → K.healthy_for sink.old n
-            → length (self.held ++ parts_text self.version nodes.now links.now cert.now.rows) ≤ n
-            → K.healthy_for sink.new (n - length (self.held ++ parts_text self.version nodes.now links.now cert.now.rows)) }
+    /// A writer that was given the header of a file of its version.
+    pub(crate) fn begun(alloc: Global, file: &CertFile) -> Result<CertWriter, NoMemory>
+        requires { IsOfVersion file.now }
+        ensures { IfOk result (IsWritable file.now) }
+    {
+        within_limits(file);
+        let cert = &file.cert;
+        let (nodes, links) = (cert.node_count(), cert.link_count());
+        let writer = CertWriter::new(alloc, file.version, nodes, links, file.root)?;
+        Ok(writer)
+    }
+
+    /// Writes the rest of a whole file.
+    pub(crate) fn put_file<K: Sink>(self, sink: &mut K, file: &CertFile) -> Result<(), PutError>
+        requires { IsWritable file.now self }
+        ensures { Wrote (K.written sink.old) (K.written sink.new) (K.faults sink.old) (K.faults sink.new)
+            (K.healthy_for sink.old) (K.healthy_for sink.new) (cert_text file.now) result }
     {
         let mut writer = self;
-        writer.put_parts(sink, nodes, links, cert)?;
+        let cert = &file.cert;
+        writer.put_parts(sink, cert.nodes(), cert.links(), cert)?;
         writer.finish(sink)
     }
 

@@ -47,24 +47,11 @@ impl Header {
 pub fn header_bytes(version: u16, nodes: u16, links: u16, root: u32) -> [u8; 14]
     ensures { result ≡ header_text version nodes links root }
 {
-    let [version, version_low] = version.to_be_bytes();
-    let [nodes, nodes_low] = nodes.to_be_bytes();
-    let [links, links_low] = links.to_be_bytes();
+    let [v, v_low] = version.to_be_bytes();
+    let [n, n_low] = nodes.to_be_bytes();
+    let [m, m_low] = links.to_be_bytes();
     let [a, b, c, d] = root.to_be_bytes();
     [
-        b'M',
-        b'R',
-        b'T',
-        b'C',
-        version,
-        version_low,
-        nodes,
-        nodes_low,
-        links,
-        links_low,
-        a,
-        b,
-        c,
-        d,
+        b'M', b'R', b'T', b'C', v, v_low, n, n_low, m, m_low, a, b, c, d,
     ]
 }

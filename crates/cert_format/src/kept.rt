@@ -4,7 +4,7 @@ ghost use Rattle.std.specs.Prelude.{◌≡◌, ◌<◌, ◌≤◌, ◌+◌, ◌-
 ghost use Rattle.std.specs.List.{AllByRecursion};
 ghost use Rattle.cert_format.specs.Layout.{head_place};
 ghost use Rattle.cert_format.specs.Reading.{IsHeader, IsNode};
-ghost use Rattle.cert_format.specs.Steps.{AreParts, AreWhole, Grew, IsFileOf, Knows, ReadsOn, front_of, mark_of, no_parts, parts_of, text_of, text_of_header};
+ghost use Rattle.cert_format.specs.Steps.{AreParts, AreWhole, IsFileOf, Knows, ReadsOn, front_of, mark_of, no_parts, parts_of, text_of, text_of_header};
 ghost use Rattle.cert_format.specs.Versions.{all_rows, row_count};
 
 use crate::error::{CertError, CertKind};
@@ -70,8 +70,7 @@ impl Kept {
     pub fn read_on(&mut self, rest: Rest<'_>) -> Result<(), CertError>
         requires parts { AreParts (parts_of self.old) }
         requires place { rest.at ≡ length (text_of (parts_of self.old)) }
-        ensures reads { ReadsOn (parts_of self.old) rest.entry (parts_of self.new) result }
-        ensures grew { Grew (parts_of self.old) (parts_of self.new) }
+        ensures { ReadsOn (parts_of self.old) rest.entry (parts_of self.new) result }
     {
         if let Some(header) = self.header {
             return self.read_nodes(header, rest);
@@ -86,8 +85,7 @@ impl Kept {
         requires parts { AreParts (parts_of self.old) }
         requires place { rest.at ≡ length (text_of (parts_of self.old)) }
         requires header { self.old.header ≡ Some header }
-        ensures reads { ReadsOn (parts_of self.old) rest.entry (parts_of self.new) result }
-        ensures grew { Grew (parts_of self.old) (parts_of self.new) }
+        ensures { ReadsOn (parts_of self.old) rest.entry (parts_of self.new) result }
     {
         if self.nodes.len() == header.nodes as usize {
             return self.read_links(header, rest);
@@ -122,8 +120,7 @@ impl Kept {
         requires place { rest.at ≡ length (text_of (parts_of self.old)) }
         requires header { self.old.header ≡ Some header }
         requires nodes { length self.old.nodes.items ≡ header.nodes }
-        ensures reads { ReadsOn (parts_of self.old) rest.entry (parts_of self.new) result }
-        ensures grew { Grew (parts_of self.old) (parts_of self.new) }
+        ensures { ReadsOn (parts_of self.old) rest.entry (parts_of self.new) result }
     {
         if self.links.len() == header.links as usize {
             return self.read_rows(header, rest);
@@ -139,8 +136,7 @@ impl Kept {
         requires header { self.old.header ≡ Some header }
         requires nodes { length self.old.nodes.items ≡ header.nodes }
         requires links { length self.old.links.items ≡ header.links }
-        ensures reads { ReadsOn (parts_of self.old) rest.entry (parts_of self.new) result }
-        ensures grew { Grew (parts_of self.old) (parts_of self.new) }
+        ensures { ReadsOn (parts_of self.old) rest.entry (parts_of self.new) result }
     {
         let count = self.row_count(header);
         let rest = read_parts(&mut self.rows, rest, count, header)?;

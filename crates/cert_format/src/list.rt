@@ -9,7 +9,10 @@ use crate::header::Header;
 use crate::part::Part;
 use crate::rest::Rest;
 
-/// Reads parts until there are so many. Room for all of them is taken before the first one is read.
+/// How many bytes a part has at least.
+const LEAST: usize = 5;
+
+/// Reads parts until there are so many. Room is taken before the first one is read, for as many as the rest may have.
 pub fn read_parts<'a, P: Part>(
     parts: &mut Vec<P>,
     rest: Rest<'a>,
@@ -17,12 +20,13 @@ pub fn read_parts<'a, P: Part>(
     header: Header,
 ) -> Result<Rest<'a>, CertError>
     requires sized { (part : P) → length (P.text part) ≡ P.size }
+    requires long { 5 ≤ P.size }
     requires few { vec_len parts.old ≤ count }
     requires place { rest.at + P.size * count < 2 ^ 32 - 16 }
     ensures { ReadsList (P.form header) P.text (P.keeps header) count parts.old.items parts.new.items rest.entry result }
 {
     let lacking = count - parts.len();
-    parts.reserve_exact(lacking)?;
+    parts.reserve(lacking.min(rest.len() / LEAST))?;
     let mut rest = rest;
     for _ in 0..lacking {
         let (part, after) = P::read(rest.again(), header)?;

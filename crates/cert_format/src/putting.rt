@@ -5,7 +5,6 @@ ghost use Rattle.mrt_io.specs.{Counts.Rose, Writing.Gained, Writing.GainedPart};
 ghost use Rattle.cert_format.specs.{CertText.cert_text, Limits.IsCertFile, Limits.IsOfVersion};
 
 use crate::cert_writer::CertWriter;
-use crate::limits::within_limits;
 use mrt_graph::{CertFile, NoMemory};
 use mrt_io::{PutError, Sink};
 use std::alloc::Global;
@@ -48,15 +47,7 @@ impl WritableCert {
         ensures file { IfOk result (λ writable. writable ≡ file) }
         ensures within { IfOk result (λ _. IsCertFile file) }
     {
-        within_limits(&file);
-        let cert = &file.cert;
-        let writer = CertWriter::new(
-            alloc,
-            file.version,
-            cert.node_count(),
-            cert.link_count(),
-            file.root,
-        )?;
+        let writer = CertWriter::begun(alloc, &file)?;
         Ok(WritableCert { file, writer })
     }
 
@@ -83,7 +74,6 @@ impl WritableCert {
             → K.healthy_for sink.new (n - length (cert_text self)) }
     {
         let WritableCert { file, writer } = self;
-        let cert = &file.cert;
-        writer.put_file(sink, cert.nodes(), cert.links(), cert)
+        writer.put_file(sink, &file)
     }
 }

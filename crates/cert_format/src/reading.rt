@@ -4,17 +4,18 @@ ghost use Rattle.std.specs.Prelude.{◌≡◌, ◌⊎◌, ◌<◌, ◌≤◌, �
 ghost use Rattle.std.specs.List.{AllByRecursion, flat_map};
 ghost use Rattle.mrt_graph.specs.declared.cert.CertFile.{CertFile};
 ghost use Rattle.cert_format.specs.{declared.error.CertKind.CertKind, CertText.cert_text, FirstFault.first_fault, Limits.IsCertFile};
-ghost use Rattle.cert_format.specs.Outcome.{OrNoMemory, ReadsFile};
+ghost use Rattle.cert_format.specs.Outcome.{OrNoMemory};
 ghost use Rattle.cert_format.specs.Stream.{end_fault, fed, fed_all};
 
-use crate::cert_reader::CertReader;
 use crate::error::CertError;
+use crate::state::State;
 use mrt_graph::CertFile;
 use std::alloc::Global;
 
 /// The certificate file of version 1 or 2 that the bytes spell, all of the bytes.
 ///
-/// It is one pass, by a [`CertReader`]. Each list is reserved once.
+/// It is one pass, that of a [`CertReader`](crate::CertReader). Each list is reserved once, for no
+/// more than the bytes may spell.
 ///
 /// It takes time in proportion to the bytes, and of version 2 to the nodes too, some 13 times.
 ///
@@ -60,16 +61,9 @@ pub fn read_cert(alloc: Global, bytes: &[u8]) -> Result<CertFile, CertError>
     ensures fault { (at : ℕ) (kind : CertKind) → result ≡ Err (CertError.Fault at kind) → first_fault bytes.now ≡ Some (at, kind) }
     ensures faulty { (at : ℕ) (kind : CertKind) → first_fault bytes.now ≡ Some (at, kind) → OrNoMemory result (Err (CertError.Fault at kind)) }
 {
-    whole(alloc, bytes)
-}
-
-/// The file with its one exact answer, from which the clauses of [`read_cert`] follow.
-fn whole(alloc: Global, bytes: &[u8]) -> Result<CertFile, CertError>
-    ensures { ReadsFile bytes.now result }
-{
-    let mut reader = CertReader::new(alloc);
-    reader.feed(bytes)?;
-    let file = reader.finish()?;
+    let mut state = State::new(alloc);
+    state.read_or_stay(bytes)?;
+    let file = state.end()?;
     Ok(file)
 }
 
@@ -94,7 +88,7 @@ pub fn bytes_are_a_certificate_or_have_a_fault()
 
 /// A stream is read as a whole is, however it is cut into pieces that are fed one after another.
 ///
-/// The pieces lead a [`CertReader`] from its front to where their bytes lead it in one piece. Unless that is a fault,
+/// The pieces lead a [`CertReader`](crate::CertReader) from its front to where their bytes lead it in one piece. Unless that is a fault,
 /// the stream is these bytes. Where the stream ends there, its fault is the first one of the bytes, and a spelling has
 /// none.
 pub fn any_pieces()

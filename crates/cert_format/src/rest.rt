@@ -1,6 +1,6 @@
 //! One field after another.
 
-ghost use Rattle.std.specs.Prelude.{◌≡◌, ◌<◌, ◌^◌, ◌-◌};
+ghost use Rattle.std.specs.Prelude.{◌≡◌, ◌<◌, ◌^◌, ◌-◌, length};
 
 use crate::error::{CertFault, CertKind};
 use std::marker::Model;
@@ -45,6 +45,13 @@ impl<'a> Rest<'a> {
         ensures { result ≡ self.now.at }
     {
         self.at
+    }
+
+    /// How many bytes are left.
+    pub fn len(&self) -> usize
+        ensures { result ≡ length self.now.bytes }
+    {
+        self.bytes.len()
     }
 
     /// Nothing is left after the last part.

@@ -1,7 +1,7 @@
 //! How far a stream is read.
 
-ghost use Rattle.std.specs.Prelude.{◌≡◌, ◌++◌, ◌∷◌, [], Ok, IfErr, OnOk, OnErr, true, false, length};
-ghost use Rattle.cert_format.specs.Steps.{AreParts, Finishes, Grew, IsReading, Parts, Stops, Tells, has_failed, parts_of, progress_of, text_of};
+ghost use Rattle.std.specs.Prelude.{◌≡◌, ◌++◌, ◌∷◌, [], Ok, Err, IfErr, OnOk, OnErr, true, false, length};
+ghost use Rattle.cert_format.specs.Steps.{AreParts, Finishes, Grew, IsReading, Parts, ReadsOn, Tells, has_failed, parts_of, progress_of, text_of};
 ghost use Rattle.cert_format.specs.Reading.{rest_of};
 ghost use Rattle.cert_format.specs.Stream.{fed, is_cut, seen};
 
@@ -120,10 +120,11 @@ impl State {
     /// nothing.
     fn stop(&mut self, fault: CertFault, bytes: &[u8], place: u32)
         requires { (old : Parts) × (place ≡ length (text_of old))
-            × Stops old (rest_of place bytes.now) (parts_of self.old.kept) fault.at fault.kind }
+            × ReadsOn old (rest_of place bytes.now) (parts_of self.old.kept) (Err (CertError.Fault fault.at fault.kind)) }
         ensures kept { self.new.kept ≡ self.old.kept }
         ensures reading { IsReading self.new }
-        ensures stopped { (old : Parts) → place ≡ length (text_of old) → Stops old (rest_of place bytes.now) (parts_of self.old.kept) fault.at fault.kind
+        ensures stopped { (old : Parts) → place ≡ length (text_of old)
+            → ReadsOn old (rest_of place bytes.now) (parts_of self.old.kept) (Err (CertError.Fault fault.at fault.kind))
             → progress_of self.new ≡ seen (text_of old ++ bytes.now) }
     {
         self.fault = Some(fault);

@@ -1,22 +1,18 @@
 //! Certificate files written.
 
-ghost use Rattle.std.specs.Prelude.{◌≡◌, ◌≤◌, ◌+◌, ◌++◌, length, IfOk, vec_len, vec_capacity};
-ghost use Rattle.std.specs.List.{flat_map};
-ghost use Rattle.cert_format.specs.CertText.{row_text, cert_text};
-ghost use Rattle.cert_format.specs.{Limits.IsCertFile, Limits.IsOfVersion, Versions.rows_in};
+ghost use Rattle.std.specs.Prelude.{◌≡◌, IfOk};
+ghost use Rattle.cert_format.specs.{CertText.cert_text, Limits.IsCertFile, Limits.IsOfVersion};
 
-use crate::header::header_bytes;
-use crate::limits::within_limits;
-use crate::list::put_parts;
-use crate::part::Part;
-use crate::versions::stands_in;
-use mrt_graph::{Cert, CertFile, NoMemory, Row};
+use crate::cert_writer::CertWriter;
+use mrt_graph::{CertFile, NoMemory};
+use mrt_io::{PutFailed, Sink};
 use std::alloc::Global;
 
-/// The bytes of a certificate file: of n nodes, m links and r rows in the file `14 + 11n + 7m + 5r`, reserved once. Of
-/// version 1 all n(n - 1) rows stand in the file, of version 2 those that are not Carried.
+/// The bytes of a certificate file: of n nodes, m links and r rows in the file `14 + 11n + 7m + 5r`. Of version 1 all
+/// n(n - 1) rows stand in the file, of version 2 those that are not Carried.
 ///
-/// It takes time in proportion to the rows and to the bytes that it gives.
+/// It takes time in proportion to the rows and to the bytes that it gives, and memory for at most twice these and 65,536
+/// more.
 ///
 /// # Errors
 ///
@@ -26,46 +22,50 @@ pub fn write_cert(alloc: Global, f: &CertFile) -> Result<Vec<u8>, NoMemory>
     ensures text { IfOk result (λ v. v.items ≡ cert_text f.now) }
     ensures within { IfOk result (λ _. IsCertFile f.now) }
 {
-    within_limits(f);
-    let cert = &f.cert;
-    let nodes = cert.nodes();
-    let links = cert.links();
-    let rows = count_rows_of(f.version, cert);
-    let mut out = Vec::with_capacity(alloc, 14 + 11 * nodes.len() + 7 * links.len() + 5 * rows)?;
-    let header = header_bytes(f.version, cert.node_count(), cert.link_count(), f.root);
-    out.extend_from_slice(&header).unwrap();
-    put_parts(&mut out, f.version, nodes);
-    put_parts(&mut out, f.version, links);
-    put_rows_of(&mut out, f.version, cert);
-    Ok(out)
-}
-
-/// How many rows stand in a file of this version of the certificate.
-fn count_rows_of(version: u16, cert: &Cert) -> usize
-    ensures { result ≡ length (rows_in version cert.now.rows) }
-{
-    if version == 1 {
-        return cert.row_count();
-    }
-    count_rows(version, cert.held_rows())
-}
-
-/// Those of the certificate's rows that stand in a file of this version.
-fn put_rows_of(out: &mut Vec<u8>, version: u16, cert: &Cert)
-    requires { vec_len out.old + length (flat_map row_text (rows_in version cert.now.rows)) ≤ vec_capacity out.old }
-    ensures { out.new.items ≡ out.old.items ++ flat_map row_text (rows_in version cert.now.rows) }
-{
-    if version != 1 {
-        return put_parts(out, version, cert.held_rows());
-    }
-    for place in 0..cert.row_count() {
-        cert.row_at(place).put(version, out);
+    let writer = CertWriter::begun(alloc, f)?;
+    let mut text = Text {
+        bytes: Vec::new(alloc),
+        faults: 0,
+    };
+    match writer.put_file(&mut text, f) {
+        Ok(()) => Ok(text.into_bytes()),
+        Err(_) => Err(NoMemory),
     }
 }
 
-/// How many of the rows stand in a file of this version.
-fn count_rows(version: u16, rows: &[Row]) -> usize
-    ensures { result ≡ length (rows_in version rows.now) }
-{
-    rows.iter().filter(|row| stands_in(version, row)).count()
+/// Bytes in memory, which fail where there is none for more of them.
+#[derive(Drop)]
+struct Text {
+    bytes: Vec<u8>,
+    faults: u64,
+}
+
+impl Text {
+    fn into_bytes(self) -> Vec<u8>
+        ensures { result.items ≡ self.bytes.items }
+    {
+        let Self { bytes, faults: _ } = self;
+        bytes
+    }
+}
+
+impl Sink for Text {
+    ghost use Rattle.std.specs.Prelude.{Some};
+
+    ghost written = { λ text. Some text.bytes.items };
+
+    ghost faults = { λ text. text.faults };
+
+    ghost healthy_for = { λ _ _. ⊥ };
+
+    ghost healthy_below = { λ _ _ never. absurd never };
+
+    fn put(&mut self, piece: &[u8]) -> Result<u32, PutFailed> {
+        let count = piece.len().min(u32::MAX as usize);
+        if self.bytes.extend_from_slice(&piece[..count]).is_err() {
+            self.faults = self.faults.saturating_add(1);
+            return Err(PutFailed);
+        }
+        Ok(count as u32)
+    }
 }

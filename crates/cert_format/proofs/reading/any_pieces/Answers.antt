@@ -1,6 +1,6 @@
 use Rattle.cert_format.specs.CertText.{cert_text}
 use Rattle.cert_format.proofs.Streams.{all_fed, end_is_first, faultless_seen, none_is, one_stream}
-use Rattle.cert_format.proofs.Files.{no_fault}
+use Rattle.cert_format.proofs.GoesOn.{no_fault}
 use Rattle.cert_format.proofs.reading.any_pieces.Goals as goal
 
 pub returns : goal.returns

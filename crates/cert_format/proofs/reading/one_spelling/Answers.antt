@@ -1,4 +1,4 @@
-use Rattle.cert_format.proofs.Files.{no_fault}
+use Rattle.cert_format.proofs.GoesOn.{no_fault}
 use Rattle.cert_format.proofs.SpellingLength.{longest_one, longest_spelling}
 use Rattle.cert_format.proofs.Finished.{one_file}
 use Rattle.cert_format.proofs.reading.one_spelling.Goals as goal

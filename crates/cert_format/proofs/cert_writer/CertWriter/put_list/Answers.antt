@@ -13,31 +13,25 @@ pub put_few-requires-clause-small : goal.put_few-requires-clause-small
 put_few-requires-clause-small g c =
     let so_far = c.loop-parts.invariant in
     let text = g.P.Part.text_in c.args.self.now.version in
-    let few = c.split_at.result.0.now in
-    let rest = c.split_at.result.1.now in
-    rw so_far.2.same (turn_fits so_far.0 (flat_map text few) (flat_map text rest) (flat_map text c.args.parts.now) c.args.self.now c.loop-parts.self
-    (texts_next text c.loop-parts.parts.now few rest so_far.0 (flat_map text c.args.parts.now) c.split_at.ensures.by_index.0 so_far.1) so_far.2.size c.requires.small)
+    let parts = texts_next text c.loop-parts.parts.now c.split_at.result.0.now c.split_at.result.1.now so_far.0 (flat_map text c.args.parts.now) c.split_at.ensures.by_index.0 so_far.1 in
+    rw so_far.2.same (turn_fits so_far.0 _ _ _ c.args.self.now c.loop-parts.self parts so_far.2.size c.requires.small)
 
 pub returns-in_err-put_few : goal.returns-in_err-put_few
 returns-in_err-put_few g c =
     let q = err_from_is_err_and c.from_residual.result c.from_residual.ensures.1 in
     let so_far = c.loop-parts.invariant in
     let text = g.P.Part.text_in c.args.self.now.version in
-    let few = c.split_at.result.0.now in
-    let rest = c.split_at.result.1.now in
-    rw (q.1, q.2) (turn_failed _ _ _ _ _ _ _ _ _ so_far.0 (flat_map text few) (flat_map text rest) (flat_map text c.args.parts.now) c.args.self.now c.loop-parts.self c.put_few.new.self
-    (texts_next text c.loop-parts.parts.now few rest so_far.0 (flat_map text c.args.parts.now) c.split_at.ensures.by_index.0 so_far.1) so_far.2 c.in_err-put_few.field-0.0
-    (puts_as _ _ _ _ _ _ _ _ _ _ _ (ap (λ (k : ℕ). flat_map (g.P.Part.text_in k) few) so_far.2.same) c.in_err-put_few.ensures))
+    let parts = texts_next text c.loop-parts.parts.now c.split_at.result.0.now c.split_at.result.1.now so_far.0 (flat_map text c.args.parts.now) c.split_at.ensures.by_index.0 so_far.1 in
+    rw (q.1, q.2) (turn_failed _ _ _ _ _ _ _ _ _ so_far.0 _ _ _ c.args.self.now c.loop-parts.self c.put_few.new.self parts so_far.2 c.in_err-put_few.field-0.0
+    (puts_as _ _ _ _ _ _ _ _ _ _ _ (ap (λ (k : ℕ). flat_map (g.P.Part.text_in k) c.split_at.result.0.now) so_far.2.same) c.in_err-put_few.ensures))
 
 pub loop-parts-preserved : goal.loop-parts-preserved
 loop-parts-preserved g c =
     let so_far = c.loop-parts.invariant in
     let text = g.P.Part.text_in c.args.self.now.version in
-    let few = c.split_at.result.0.now in
-    let rest = c.split_at.result.1.now in
-    turn_done _ _ _ _ _ _ _ _ _ so_far.0 (flat_map text few) (flat_map text rest) (flat_map text c.args.parts.now) c.args.self.now c.loop-parts.self c.put_few.new.self
-    (texts_next text c.loop-parts.parts.now few rest so_far.0 (flat_map text c.args.parts.now) c.split_at.ensures.by_index.0 so_far.1) so_far.2
-    (puts_as _ _ _ _ _ _ _ _ _ _ _ (ap (λ (k : ℕ). flat_map (g.P.Part.text_in k) few) so_far.2.same) c.in_ok-put_few.ensures)
+    let parts = texts_next text c.loop-parts.parts.now c.split_at.result.0.now c.split_at.result.1.now so_far.0 (flat_map text c.args.parts.now) c.split_at.ensures.by_index.0 so_far.1 in
+    turn_done _ _ _ _ _ _ _ _ _ so_far.0 _ _ _ c.args.self.now c.loop-parts.self c.put_few.new.self parts so_far.2
+    (puts_as _ _ _ _ _ _ _ _ _ _ _ (ap (λ (k : ℕ). flat_map (g.P.Part.text_in k) c.split_at.result.0.now) so_far.2.same) c.in_ok-put_few.ensures)
 
 pub loop-parts-init : goal.loop-parts-init
 loop-parts-init g c = ([], refl, puts_none (g.K.Sink.written c.args.sink.now) (g.K.Sink.faults c.args.sink.now) (g.K.Sink.healthy_for c.args.sink.now) c.args.self.now)

@@ -1,16 +1,16 @@
-use Rattle.std.proofs.Common.{◌≡◌, ◌∙◌, ◌<◌, ◌+◌, ◌^◌, ◌++◌, ℕ, length, sym, subst}
+use Rattle.std.proofs.Common.{◌≡◌, ◌∙◌, ◌<◌, ◌+◌, ◌^◌, ◌++◌, ℕ, length, refl, sym, subst}
 use Rattle.std.proofs.lemmas.Result.{err_from_is_err_and}
 use Rattle.std.specs.List.{flat_map}
 use Rattle.cert_format.specs.CertText.{link_text, node_text, row_text}
 use Rattle.cert_format.specs.Putting.{Puts}
 use Rattle.cert_format.specs.Versions.{rows_in}
-use Rattle.cert_format.proofs.Puttings.{all_parts, first_fits, puts_failed, rest_fits, second_failed}
+use Rattle.cert_format.proofs.Puttings.{all_parts, first_fits, puts_failed, rest_fits, turn_failed}
 use Rattle.cert_format.proofs.cert_writer.CertWriter.put_parts.Goals as goal
 
 pub returns-in_err-put_links : goal.returns-in_err-put_links
 returns-in_err-put_links g c =
     let q = err_from_is_err_and c.from_residual-in_err-put_links.result c.from_residual-in_err-put_links.ensures.1 in
-    rw (q.1, q.2) (second_failed _ _ _ _ _ _ _ _ _ (flat_map node_text c.args.nodes.now) (flat_map link_text c.args.links.now) (flat_map row_text (rows_in c.args.self.now.version c.args.cert.now.rows)) c.args.self.now c.put_nodes.new.self c.put_links.new.self c.in_err-put_links.field-0.0 c.in_ok-put_nodes.ensures c.in_err-put_links.ensures)
+    rw (q.1, q.2) (turn_failed _ _ _ _ _ _ _ _ _ (flat_map node_text c.args.nodes.now) (flat_map link_text c.args.links.now) (flat_map row_text (rows_in c.args.self.now.version c.args.cert.now.rows)) _ c.args.self.now c.put_nodes.new.self c.put_links.new.self refl c.in_ok-put_nodes.ensures c.in_err-put_links.field-0.0 c.in_err-put_links.ensures)
 
 pub returns : goal.returns
 returns g c =

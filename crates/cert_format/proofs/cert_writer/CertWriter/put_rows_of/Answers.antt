@@ -24,8 +24,12 @@ returns-then-self-ne1 g c =
     let same = ap (flat_map row_text) (near_same c.args.self.now.version c.held_rows.result.now c.args.cert.now.rows (λ one. c.if-self-ne1.true (version ∙ one)) c.held_rows.ensures.near) in
     rw same at c.put_rows.ensures
 
-next : (rows : List Row) (i : ℕ) (row : Row) → slice_get rows i ≡ Some row → drop i rows ≡ row ∷ drop (i + 1) rows
-next rows i row is = drop_more rows i row (slice_get_within rows i row is) ∙ ap (λ (it : Row). it ∷ drop (i + 1) rows) (get_or_from_slice_get rows i row row is)
+-- the next row, and those after it
+row_next : (text : Row → List ℕ) (rows : List Row) (i : ℕ) (row : Row) (done : List ℕ) → slice_get rows i ≡ Some row → done ++ flat_map text (drop i rows) ≡ flat_map text rows
+    → done ++ (flat_map text (row ∷ []) ++ flat_map text (drop (i + 1) rows)) ≡ flat_map text rows
+row_next text rows i row done is parts =
+    texts_next text (drop i rows) (row ∷ []) (drop (i + 1) rows) done (flat_map text rows)
+    (drop_more rows i row (slice_get_within rows i row is) ∙ ap (λ (it : Row). it ∷ drop (i + 1) rows) (get_or_from_slice_get rows i row row is)) parts
 
 pub put_few-requires-clause-short : goal.put_few-requires-clause-short
 put_few-requires-clause-short g c = λ row. omega (arith, short_row c.loop-place.self.version row)
@@ -34,32 +38,24 @@ pub put_few-requires-clause-small : goal.put_few-requires-clause-small
 put_few-requires-clause-small g c =
     let so_far = c.loop-place.invariant in
     let rows = c.args.cert.now.rows in
-    let rest = drop (c.loop-place.place + 1) rows in
-    let text = row_text_in c.args.self.now.version in
-    rw so_far.2.same (turn_fits so_far.0 (flat_map text (c.row_at.result ∷ [])) (flat_map text rest) (flat_map text rows) c.args.self.now c.loop-place.self
-    (texts_next text (drop c.loop-place.place rows) (c.row_at.result ∷ []) rest so_far.0 (flat_map text rows) (next rows c.loop-place.place c.row_at.result c.row_at.ensures) so_far.1)
-    so_far.2.size (rw (rows_put c.args.self.now.version rows) c.requires))
+    let parts = row_next (row_text_in c.args.self.now.version) rows c.loop-place.place c.row_at.result so_far.0 c.row_at.ensures so_far.1 in
+    rw so_far.2.same (turn_fits so_far.0 _ _ _ c.args.self.now c.loop-place.self parts so_far.2.size (rw (rows_put c.args.self.now.version rows) c.requires))
 
 pub returns-in_err-put_few : goal.returns-in_err-put_few
 returns-in_err-put_few g c =
     let q = err_from_is_err_and c.from_residual.result c.from_residual.ensures.1 in
     let so_far = c.loop-place.invariant in
     let rows = c.args.cert.now.rows in
-    let rest = drop (c.loop-place.place + 1) rows in
-    let text = row_text_in c.args.self.now.version in
-    rw (q.1, q.2, ← rows_put c.args.self.now.version rows) (turn_failed _ _ _ _ _ _ _ _ _ so_far.0 (flat_map text (c.row_at.result ∷ [])) (flat_map text rest) (flat_map text rows) c.args.self.now c.loop-place.self c.put_few.new.self
-    (texts_next text (drop c.loop-place.place rows) (c.row_at.result ∷ []) rest so_far.0 (flat_map text rows) (next rows c.loop-place.place c.row_at.result c.row_at.ensures) so_far.1)
-    so_far.2 c.in_err-put_few.field-0.0 (puts_as _ _ _ _ _ _ _ _ _ _ _ (ap (λ (k : ℕ). flat_map (row_text_in k) (c.row_at.result ∷ [])) so_far.2.same) c.in_err-put_few.ensures))
+    let parts = row_next (row_text_in c.args.self.now.version) rows c.loop-place.place c.row_at.result so_far.0 c.row_at.ensures so_far.1 in
+    rw (q.1, q.2, ← rows_put c.args.self.now.version rows) (turn_failed _ _ _ _ _ _ _ _ _ so_far.0 _ _ _ c.args.self.now c.loop-place.self c.put_few.new.self parts so_far.2 c.in_err-put_few.field-0.0
+    (puts_as _ _ _ _ _ _ _ _ _ _ _ (ap (λ (k : ℕ). flat_map (row_text_in k) (c.row_at.result ∷ [])) so_far.2.same) c.in_err-put_few.ensures))
 
 pub loop-place-preserved : goal.loop-place-preserved
 loop-place-preserved g c =
     let so_far = c.loop-place.invariant in
-    let rows = c.args.cert.now.rows in
-    let rest = drop (c.loop-place.place + 1) rows in
-    let text = row_text_in c.args.self.now.version in
-    turn_done _ _ _ _ _ _ _ _ _ so_far.0 (flat_map text (c.row_at.result ∷ [])) (flat_map text rest) (flat_map text rows) c.args.self.now c.loop-place.self c.put_few.new.self
-    (texts_next text (drop c.loop-place.place rows) (c.row_at.result ∷ []) rest so_far.0 (flat_map text rows) (next rows c.loop-place.place c.row_at.result c.row_at.ensures) so_far.1)
-    so_far.2 (puts_as _ _ _ _ _ _ _ _ _ _ _ (ap (λ (k : ℕ). flat_map (row_text_in k) (c.row_at.result ∷ [])) so_far.2.same) c.in_ok-put_few.ensures)
+    let parts = row_next (row_text_in c.args.self.now.version) c.args.cert.now.rows c.loop-place.place c.row_at.result so_far.0 c.row_at.ensures so_far.1 in
+    turn_done _ _ _ _ _ _ _ _ _ so_far.0 _ _ _ c.args.self.now c.loop-place.self c.put_few.new.self parts so_far.2
+    (puts_as _ _ _ _ _ _ _ _ _ _ _ (ap (λ (k : ℕ). flat_map (row_text_in k) (c.row_at.result ∷ [])) so_far.2.same) c.in_ok-put_few.ensures)
 
 pub loop-place-init : goal.loop-place-init
 loop-place-init g c = ([], refl, puts_none (g.K.Sink.written c.args.sink.now) (g.K.Sink.faults c.args.sink.now) (g.K.Sink.healthy_for c.args.sink.now) c.args.self.now)

@@ -18,19 +18,13 @@ returns-in-None c =
     let one = none_one header.version parts.nodes parts.kin (whole.under.known whole.nodes) c.in-None.is in
     rw (c.file.ensures, c.new.ensures) (file_one header parts whole (certificate_of parts.nodes parts.links parts.rows) refl refl (one_certificate header parts whole one) one refl)
 
-pub folded-requires-clause-rows : goal.folded-requires-clause-rows
-folded-requires-clause-rows c =
+pub folded-requires : goal.folded-requires
+folded-requires c =
     let header = c.in-Some.header in
     let parts = parts_of c.args.self in
     let whole = whole_for header parts c.in-Some.is c.requires in
-    parts_folded header parts whole (some_two header.version parts.nodes parts.kin c.in-Some-relatives.relatives (whole.under.known whole.nodes) c.in-Some-relatives.is).0
-
-pub folded-requires-clause-index : goal.folded-requires-clause-index
-folded-requires-clause-index c =
-    let header = c.in-Some.header in
-    let parts = parts_of c.args.self in
-    let whole = whole_for header parts c.in-Some.is c.requires in
-    (some_two header.version parts.nodes parts.kin c.in-Some-relatives.relatives (whole.under.known whole.nodes) c.in-Some-relatives.is).1
+    let two = some_two header.version parts.nodes parts.kin c.in-Some-relatives.relatives (whole.under.known whole.nodes) c.in-Some-relatives.is in
+    record { rows = parts_folded header parts whole two.0; index = two.1 }
 
 pub returns-in-Some-relatives : goal.returns-in-Some-relatives
 returns-in-Some-relatives c =

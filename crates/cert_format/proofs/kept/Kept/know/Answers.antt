@@ -18,17 +18,17 @@ kept_nodes n nodes items all is kept =
 pub returns-then-header-eq1-clause-knows : goal.returns-then-header-eq1-clause-knows
 returns-then-header-eq1-clause-knows c = record { heads = rw c.if-header-eq1.true refl; index = rw c.if-header-eq1.true c.requires.none }
 
-pub stray_head-requires-clause-few : goal.stray_head-requires-clause-few
-stray_head-requires-clause-few c = omega (arith, c.requires.all, c.requires.header.few_nodes, few_most_nodes c.args.header.version, ap length c.deref.ensures.value)
+pub stray_head-requires : goal.stray_head-requires
+stray_head-requires c = record {
+  few = omega (arith, c.requires.all, c.requires.header.few_nodes, few_most_nodes c.args.header.version, ap length c.deref.ensures.value);
+  kept = kept_nodes c.args.header.nodes c.args.self.now.nodes.items c.deref.result.now c.requires.all c.deref.ensures.value c.requires.kept;
+}
 
-pub stray_head-requires-clause-kept : goal.stray_head-requires-clause-kept
-stray_head-requires-clause-kept c = kept_nodes c.args.header.nodes c.args.self.now.nodes.items c.deref.result.now c.requires.all c.deref.ensures.value c.requires.kept
-
-pub new-requires-clause-few : goal.new-requires-clause-few
-new-requires-clause-few c = omega (arith, c.requires.all, c.requires.header.few_nodes, few_most_nodes c.args.header.version, ap length c.deref-2.ensures.value)
-
-pub new-requires-clause-kept : goal.new-requires-clause-kept
-new-requires-clause-kept c = kept_nodes c.args.header.nodes c.args.self.now.nodes.items c.deref-2.result.now c.requires.all c.deref-2.ensures.value c.requires.kept
+pub new-requires : goal.new-requires
+new-requires c = record {
+  few = omega (arith, c.requires.all, c.requires.header.few_nodes, few_most_nodes c.args.header.version, ap length c.deref-2.ensures.value);
+  kept = kept_nodes c.args.header.nodes c.args.self.now.nodes.items c.deref-2.result.now c.requires.all c.deref-2.ensures.value c.requires.kept;
+}
 
 pub returns-in-Some-clause-knows : goal.returns-in-Some-clause-knows
 returns-in-Some-clause-knows c =

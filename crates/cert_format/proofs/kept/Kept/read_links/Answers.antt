@@ -1,12 +1,9 @@
 use Rattle.std.proofs.Common.{arith}
 use Rattle.std.proofs.lemmas.Result.{err_from_is_err_and}
-use Rattle.mrt_graph.specs.Certificate.{IsCertLink}
-use Rattle.cert_format.specs.CertText.{link_text}
-use Rattle.cert_format.specs.Layout.{link_form}
 use Rattle.cert_format.specs.Steps.{parts_of}
 use Rattle.cert_format.proofs.Files.{few_most_links}
 use Rattle.cert_format.proofs.GoesOn.{few_bytes, under}
-use Rattle.cert_format.proofs.Taking.{begins_read, grew_links, grew_then, links_done, links_stop, place_then, reads_then, with_links}
+use Rattle.cert_format.proofs.Taking.{links_done, links_stop, place_then, reads_then, with_links}
 use Rattle.cert_format.proofs.kept.Kept.read_links.Goals as goal
 
 pub read_parts-requires-clause-place : goal.read_parts-requires-clause-place
@@ -21,24 +18,15 @@ returns-in_err-rest c =
     let links = c.read_parts.new.parts.items in
     let so = under parts header c.requires.header c.requires.parts in
     let q = err_from_is_err_and c.from_residual.result c.from_residual.ensures.1 in
-    rw (q.1, q.2) (record {
-      reads = links_stop parts header c.requires.header so c.requires.nodes links (omega (arith, c.if-len-header.false, so.links.few)) c.args.rest c.in_err-rest.field-0.0 c.requires.place c.in_err-rest.ensures;
-      grew = grew_links parts links (begins_read (link_form header.nodes) link_text (IsCertLink header.nodes) header.links parts.links links c.args.rest c.read_parts.result c.read_parts.ensures);
-    })
+    rw (q.1, q.2) (links_stop parts header c.requires.header so c.requires.nodes links (omega (arith, c.if-len-header.false, so.links.few)) c.args.rest c.in_err-rest.field-0.0 c.requires.place c.in_err-rest.ensures)
 
-pub read_rows-requires-2-clause-parts : goal.read_rows-requires-2-clause-parts
-read_rows-requires-2-clause-parts c =
-    let parts = parts_of c.args.self.now in
-    let so = under parts c.args.header c.requires.header c.requires.parts in
-    (links_done parts c.args.header c.requires.header so c.requires.nodes c.read_parts.new.parts.items (omega (arith, c.if-len-header.false, so.links.few)) c.args.rest c.in_ok-rest.rest c.in_ok-rest.ensures.0 c.in_ok-rest.ensures.1).1
-
-pub read_rows-requires-2-clause-place : goal.read_rows-requires-2-clause-place
-read_rows-requires-2-clause-place c =
+pub read_rows-requires-2 : goal.read_rows-requires-2
+read_rows-requires-2 c =
     let parts = parts_of c.args.self.now in
     let links = c.read_parts.new.parts.items in
     let so = under parts c.args.header c.requires.header c.requires.parts in
     let done = links_done parts c.args.header c.requires.header so c.requires.nodes links (omega (arith, c.if-len-header.false, so.links.few)) c.args.rest c.in_ok-rest.rest c.in_ok-rest.ensures.0 c.in_ok-rest.ensures.1 in
-    place_then parts (with_links parts links) c.args.rest c.in_ok-rest.rest done.0 c.requires.place
+    record { parts = done.1; place = place_then parts (with_links parts links) c.args.rest c.in_ok-rest.rest done.0 c.requires.place; header = c.requires.header; nodes = c.requires.nodes; links = c.in_ok-rest.ensures.1 }
 
 pub returns : goal.returns
 returns c =
@@ -49,7 +37,4 @@ returns c =
     let it = c.in_ok-rest.ensures.0 in
     let so = under parts c.args.header c.requires.header c.requires.parts in
     let done = links_done parts c.args.header c.requires.header so c.requires.nodes links (omega (arith, c.if-len-header.false, so.links.few)) c.args.rest c.in_ok-rest.rest it c.in_ok-rest.ensures.1 in
-    record {
-      reads = reads_then parts mid new c.args.rest c.in_ok-rest.rest c.read_rows-2.result done.0 c.read_rows-2.ensures.reads;
-      grew = grew_then parts mid new (grew_links parts links (it.more, it.adds)) c.read_rows-2.ensures.grew;
-    }
+    reads_then parts mid new c.args.rest c.in_ok-rest.rest c.read_rows-2.result done.0 c.read_rows-2.ensures

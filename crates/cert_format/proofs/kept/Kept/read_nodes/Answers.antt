@@ -1,12 +1,10 @@
 use Rattle.std.proofs.lemmas.Result.{err_from_is_err_and}
 use Rattle.std.proofs.Common.{◌<◌, Err, length, sym, ap, subst, ◌∙◌, arith}
-use Rattle.cert_format.specs.CertText.{node_text}
-use Rattle.cert_format.specs.Layout.{node_form}
 use Rattle.cert_format.specs.Reading.{IsNode}
-use Rattle.cert_format.specs.Steps.{AreParts, Grew, Parts, ReadsOn, TookParts, parts_of}
+use Rattle.cert_format.specs.Steps.{AreParts, Parts, ReadsOn, TookParts, parts_of}
 use Rattle.cert_format.proofs.Files.{few_most_nodes}
 use Rattle.cert_format.proofs.GoesOn.{few_bytes, under}
-use Rattle.cert_format.proofs.Taking.{begins_read, first_more, grew_nodes, grew_then, heads_stop, nodes_done, nodes_stop, place_then, reads_then}
+use Rattle.cert_format.proofs.Taking.{first_more, heads_stop, nodes_done, nodes_stop, place_then, reads_then}
 use Rattle.cert_format.proofs.kept.Kept.read_nodes.Goals as goal
 
 pub read_parts-requires-clause-place : goal.read_parts-requires-clause-place
@@ -23,29 +21,20 @@ returns-in_err-rest c =
     let lacks : length parts.nodes < header.nodes = omega (arith, c.if-len-header.false, so.nodes.few) in
     let none = (so.nodes_first lacks).kin in
     let q = err_from_is_err_and c.from_residual.result c.from_residual.ensures.1 in
-    rw (q.1, q.2) (record {
-      reads = nodes_stop parts header c.requires.header so nodes parts.kin lacks none c.args.rest c.in_err-rest.field-0.0 c.requires.place c.in_err-rest.ensures;
-      grew = grew_nodes parts nodes parts.kin none (begins_read (node_form header.nodes) node_text (IsNode header.nodes) header.nodes parts.nodes nodes c.args.rest c.read_parts.result c.read_parts.ensures);
-    })
+    rw (q.1, q.2) (nodes_stop parts header c.requires.header so nodes parts.kin lacks none c.args.rest c.in_err-rest.field-0.0 c.requires.place c.in_err-rest.ensures)
 
-pub know-requires-clause-header : goal.know-requires-clause-header
-know-requires-clause-header c = (under (parts_of c.args.self.now) c.args.header c.requires.header c.requires.parts).header
-
-pub know-requires-clause-all : goal.know-requires-clause-all
-know-requires-clause-all c = c.in_ok-rest.ensures.1
-
-pub know-requires-clause-kept : goal.know-requires-clause-kept
-know-requires-clause-kept c =
+pub know-requires : goal.know-requires
+know-requires c =
     let parts = parts_of c.args.self.now in
-    let header = c.args.header in
-    let so = under parts header c.requires.header c.requires.parts in
+    let n = c.args.header.nodes in
+    let so = under parts c.args.header c.requires.header c.requires.parts in
     let it = c.in_ok-rest.ensures.0 in
-    (first_more header.nodes header.nodes (IsNode header.nodes) parts.nodes it.more c.read_parts.new.parts.items so.nodes it.adds it.each (omega (arith, c.in_ok-rest.ensures.1))).each
-
-pub know-requires-clause-none : goal.know-requires-clause-none
-know-requires-clause-none c =
-    let so = under (parts_of c.args.self.now) c.args.header c.requires.header c.requires.parts in
-    (so.nodes_first (omega (arith, c.if-len-header.false, so.nodes.few))).kin
+    record {
+      header = so.header;
+      all = c.in_ok-rest.ensures.1;
+      kept = (first_more n n (IsNode n) parts.nodes it.more c.read_parts.new.parts.items so.nodes it.adds it.each (omega (arith, c.in_ok-rest.ensures.1))).each;
+      none = (so.nodes_first (omega (arith, c.if-len-header.false, so.nodes.few))).kin;
+    }
 
 pub returns-in_err-know : goal.returns-in_err-know
 returns-in_err-know c =
@@ -55,31 +44,21 @@ returns-in_err-know c =
     let nodes = c.read_parts.new.parts.items in
     let it = c.in_ok-rest.ensures.0 in
     let q = err_from_is_err_and c.from_residual-in_err-know.result c.from_residual-in_err-know.ensures.1 in
-    rw (q.1, q.2) (record {
-      reads = subst (λ (it : Parts). ReadsOn parts c.args.rest it (Err c.in_err-know.field-0.0)) (sym c.know.ensures.same)
-          (heads_stop parts c.args.header c.requires.header so nodes c.know.new.self.relatives lacks c.args.rest c.in_ok-rest.rest c.in_err-know.field-0.0 it c.in_ok-rest.ensures.1 c.in_err-know.ensures.knows);
-      grew = subst (λ (it : Parts). Grew parts it) (sym c.know.ensures.same) (grew_nodes parts nodes c.know.new.self.relatives (so.nodes_first lacks).kin (it.more, it.adds));
-    })
+    rw (q.1, q.2) (subst (λ (it : Parts). ReadsOn parts c.args.rest it (Err c.in_err-know.field-0.0)) (sym c.know.ensures.same)
+    (heads_stop parts c.args.header c.requires.header so nodes c.know.new.self.relatives lacks c.args.rest c.in_ok-rest.rest c.in_err-know.field-0.0 it c.in_ok-rest.ensures.1 c.in_err-know.ensures.knows))
 
-pub read_links-requires-2-clause-parts : goal.read_links-requires-2-clause-parts
-read_links-requires-2-clause-parts c =
+pub read_links-requires-2 : goal.read_links-requires-2
+read_links-requires-2 c =
     let parts = parts_of c.args.self.now in
-    let so = under parts c.args.header c.requires.header c.requires.parts in
-    subst AreParts (sym c.know.ensures.same) (nodes_done parts c.args.header c.requires.header so c.read_parts.new.parts.items c.know.new.self.relatives (omega (arith, c.if-len-header.false, so.nodes.few))
-    c.args.rest c.in_ok-rest.rest c.in_ok-rest.ensures.0 c.in_ok-rest.ensures.1 c.in_ok-know.ensures.knows).1
-
-pub read_links-requires-2-clause-place : goal.read_links-requires-2-clause-place
-read_links-requires-2-clause-place c =
-    let parts = parts_of c.args.self.now in
+    let same = c.know.ensures.same in
     let so = under parts c.args.header c.requires.header c.requires.parts in
     let done = nodes_done parts c.args.header c.requires.header so c.read_parts.new.parts.items c.know.new.self.relatives (omega (arith, c.if-len-header.false, so.nodes.few)) c.args.rest c.in_ok-rest.rest c.in_ok-rest.ensures.0 c.in_ok-rest.ensures.1 c.in_ok-know.ensures.knows in
-    place_then parts (parts_of c.know.new.self) c.args.rest c.in_ok-rest.rest (subst (λ (it : Parts). TookParts parts c.args.rest it c.in_ok-rest.rest) (sym c.know.ensures.same) done.0) c.requires.place
-
-pub read_links-requires-2-clause-header : goal.read_links-requires-2-clause-header
-read_links-requires-2-clause-header c = ap (λ (it : Parts). it.header) c.know.ensures.same ∙ c.requires.header
-
-pub read_links-requires-2-clause-nodes : goal.read_links-requires-2-clause-nodes
-read_links-requires-2-clause-nodes c = ap (λ (it : Parts). length it.nodes) c.know.ensures.same ∙ c.in_ok-rest.ensures.1
+    record {
+      parts = subst AreParts (sym same) done.1;
+      place = place_then parts (parts_of c.know.new.self) c.args.rest c.in_ok-rest.rest (subst (λ (it : Parts). TookParts parts c.args.rest it c.in_ok-rest.rest) (sym same) done.0) c.requires.place;
+      header = ap (λ (it : Parts). it.header) same ∙ c.requires.header;
+      nodes = ap (λ (it : Parts). length it.nodes) same ∙ c.in_ok-rest.ensures.1;
+    }
 
 pub returns : goal.returns
 returns c =
@@ -92,7 +71,4 @@ returns c =
     let so = under parts c.args.header c.requires.header c.requires.parts in
     let lacks : length parts.nodes < c.args.header.nodes = omega (arith, c.if-len-header.false, so.nodes.few) in
     let done = nodes_done parts c.args.header c.requires.header so nodes c.know.new.self.relatives lacks c.args.rest c.in_ok-rest.rest it c.in_ok-rest.ensures.1 c.in_ok-know.ensures.knows in
-    record {
-      reads = reads_then parts mid new c.args.rest c.in_ok-rest.rest c.read_links-2.result (subst (λ (it : Parts). TookParts parts c.args.rest it c.in_ok-rest.rest) same done.0) c.read_links-2.ensures.reads;
-      grew = grew_then parts mid new (subst (λ (it : Parts). Grew parts it) same (grew_nodes parts nodes c.know.new.self.relatives (so.nodes_first lacks).kin (it.more, it.adds))) c.read_links-2.ensures.grew;
-    }
+    reads_then parts mid new c.args.rest c.in_ok-rest.rest c.read_links-2.result (subst (λ (it : Parts). TookParts parts c.args.rest it c.in_ok-rest.rest) same done.0) c.read_links-2.ensures

@@ -1,22 +1,19 @@
+use Rattle.std.proofs.Common.{refl}
 use Rattle.std.proofs.lemmas.Result.{err_from_is_err_and}
 use Rattle.cert_format.specs.Steps.{parts_of}
-use Rattle.cert_format.proofs.Taking.{grew_header, grew_then, header_stops, header_took, place_then, reads_then, with_header}
+use Rattle.cert_format.proofs.Taking.{header_stops, header_took, place_then, reads_then, with_header}
 use Rattle.cert_format.proofs.kept.Kept.read_on.Goals as goal
 
-pub returns-in_err-header-clause-reads : goal.returns-in_err-header-clause-reads
-returns-in_err-header-clause-reads c =
+pub returns-in_err-header : goal.returns-in_err-header
+returns-in_err-header c =
     let q = err_from_is_err_and c.from_residual.result c.from_residual.ensures.1 in
     rw (q.1, q.2) (header_stops (parts_of c.args.self.now) c.args.rest c.in_err-header.field-0.0 c.in_default.is c.requires.parts c.requires.place c.in_err-header.ensures)
 
-pub read_nodes-requires-2-clause-parts : goal.read_nodes-requires-2-clause-parts
-read_nodes-requires-2-clause-parts c =
-    (header_took (parts_of c.args.self.now) c.in_ok-header.header c.args.rest c.in_ok-header.rest c.in_default.is c.requires.parts c.in_ok-header.ensures.took c.in_ok-header.ensures.within).1
-
-pub read_nodes-requires-2-clause-place : goal.read_nodes-requires-2-clause-place
-read_nodes-requires-2-clause-place c =
+pub read_nodes-requires-2 : goal.read_nodes-requires-2
+read_nodes-requires-2 c =
     let parts = parts_of c.args.self.now in
     let it = header_took parts c.in_ok-header.header c.args.rest c.in_ok-header.rest c.in_default.is c.requires.parts c.in_ok-header.ensures.took c.in_ok-header.ensures.within in
-    place_then parts (with_header parts c.in_ok-header.header) c.args.rest c.in_ok-header.rest it.0 c.requires.place
+    record { parts = it.1; place = place_then parts (with_header parts c.in_ok-header.header) c.args.rest c.in_ok-header.rest it.0 c.requires.place; header = refl }
 
 pub returns : goal.returns
 returns c =
@@ -24,7 +21,4 @@ returns c =
     let mid = with_header parts c.in_ok-header.header in
     let new = parts_of c.read_nodes-2.new.self in
     let it = header_took parts c.in_ok-header.header c.args.rest c.in_ok-header.rest c.in_default.is c.requires.parts c.in_ok-header.ensures.took c.in_ok-header.ensures.within in
-    record {
-      reads = reads_then parts mid new c.args.rest c.in_ok-header.rest c.read_nodes-2.result it.0 c.read_nodes-2.ensures.reads;
-      grew = grew_then parts mid new (grew_header parts c.in_ok-header.header) c.read_nodes-2.ensures.grew;
-    }
+    reads_then parts mid new c.args.rest c.in_ok-header.rest c.read_nodes-2.result it.0 c.read_nodes-2.ensures

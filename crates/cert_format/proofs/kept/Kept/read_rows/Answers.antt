@@ -7,7 +7,7 @@ use Rattle.cert_format.specs.Reading.{IsFileRow, ReadsList}
 use Rattle.cert_format.specs.Steps.{parts_of}
 use Rattle.cert_format.specs.Versions.{tag_count}
 use Rattle.cert_format.proofs.GoesOn.{few_bytes, few_in_file, under}
-use Rattle.cert_format.proofs.Taking.{begins_read, end_stops, grew_rows, place_then, reads_then, rows_done, rows_stop, whole_read, with_rows}
+use Rattle.cert_format.proofs.Taking.{end_stops, place_then, reads_then, rows_done, rows_stop, whole_read, with_rows}
 use Rattle.cert_format.proofs.kept.Kept.read_rows.Goals as goal
 
 pub read_parts-requires-clause-place : goal.read_parts-requires-clause-place
@@ -15,8 +15,8 @@ read_parts-requires-clause-place c =
     let parts = parts_of c.args.self.now in
     omega (arith, c.requires.place, few_bytes parts c.requires.parts, few_in_file c.args.header parts (under parts c.args.header c.requires.header c.requires.parts), c.row_count-count.ensures)
 
-pub returns-in_err-rest-clause-reads : goal.returns-in_err-rest-clause-reads
-returns-in_err-rest-clause-reads c =
+pub returns-in_err-rest : goal.returns-in_err-rest
+returns-in_err-rest c =
     let parts = parts_of c.args.self.now in
     let header = c.args.header in
     let rows = c.read_parts.new.parts.items in
@@ -25,13 +25,6 @@ returns-in_err-rest-clause-reads c =
     rw (q.1, q.2) (rows_stop parts header c.requires.header so c.requires.nodes c.requires.links rows c.args.rest c.in_err-rest.field-0.0 c.requires.place
     (subst (λ (count : ℕ). ReadsList (row_form (tag_count header.version) header.links) row_text (IsFileRow (tag_count header.version) header.links) count parts.rows rows c.args.rest (Err c.in_err-rest.field-0.0))
     c.row_count-count.ensures c.in_err-rest.ensures))
-
-pub returns-in_err-rest-clause-grew : goal.returns-in_err-rest-clause-grew
-returns-in_err-rest-clause-grew c =
-    let parts = parts_of c.args.self.now in
-    let header = c.args.header in
-    grew_rows parts c.read_parts.new.parts.items
-    (begins_read (row_form (tag_count header.version) header.links) row_text (IsFileRow (tag_count header.version) header.links) c.row_count-count.result parts.rows c.read_parts.new.parts.items c.args.rest c.read_parts.result c.read_parts.ensures)
 
 pub returns-in_err-end : goal.returns-in_err-end
 returns-in_err-end c =
@@ -43,11 +36,8 @@ returns-in_err-end c =
     let done = rows_done parts c.args.header c.requires.header so c.requires.nodes c.requires.links rows c.args.rest c.in_ok-rest.rest more.0 more.1 in
     let fault = c.in_err-end.field-0.0 in
     let q = err_from_is_err_and c.from_residual-in_err-end.result c.from_residual-in_err-end.ensures.1 in
-    rw (q.1, q.2) (record {
-      reads = reads_then parts new new c.args.rest c.in_ok-rest.rest (Err (errors.Fault fault.at fault.kind)) done.0
-          (end_stops c.args.header new done.1 c.in_ok-rest.rest fault (place_then parts new c.args.rest c.in_ok-rest.rest done.0 c.requires.place) c.in_err-end.ensures);
-      grew = grew_rows parts rows (more.0.more, more.0.adds);
-    })
+    rw (q.1, q.2) (reads_then parts new new c.args.rest c.in_ok-rest.rest (Err (errors.Fault fault.at fault.kind)) done.0
+    (end_stops c.args.header new done.1 c.in_ok-rest.rest fault (place_then parts new c.args.rest c.in_ok-rest.rest done.0 c.requires.place) c.in_err-end.ensures))
 
 pub returns : goal.returns
 returns c =
@@ -57,7 +47,4 @@ returns c =
     let so = under parts c.args.header c.requires.header c.requires.parts in
     let more = rw c.row_count-count.ensures at c.in_ok-rest.ensures in
     let done = rows_done parts c.args.header c.requires.header so c.requires.nodes c.requires.links rows c.args.rest c.in_ok-rest.rest more.0 more.1 in
-    record {
-      reads = reads_then parts new new c.args.rest c.in_ok-rest.rest (Ok tt) done.0 (whole_read c.args.header new done.1 c.in_ok-rest.rest c.in_ok-end.ensures);
-      grew = grew_rows parts rows (more.0.more, more.0.adds);
-    }
+    reads_then parts new new c.args.rest c.in_ok-rest.rest (Ok tt) done.0 (whole_read c.args.header new done.1 c.in_ok-rest.rest c.in_ok-end.ensures)

@@ -5,6 +5,5 @@ use Rattle.cert_format.proofs.state.State.read.Goals as goal
 
 pub returns-in-Ok-clause-ok : goal.returns-in-Ok-clause-ok
 returns-in-Ok-clause-ok c =
-    let reads = rw c.new.ensures at c.in-Ok.ensures.reads in
-    ap (λ (it : List ℕ). Ok (text_of (parts_of c.read_on.new.self) ++ it)) c.new-self.ensures
-    ∙ whole_seen reads.0.0 (parts_of c.args.self.now.kept) (parts_of c.read_on.new.self) c.args.bytes.now reads.0.1 reads.1
+    let reads = rw c.new.ensures at c.in-Ok.ensures in
+    ap (λ (it : List ℕ). Ok (text_of (parts_of c.read_on.new.self) ++ it)) c.new-self.ensures ∙ whole_seen (parts_of c.args.self.now.kept) (parts_of c.read_on.new.self) _ reads
