@@ -1,5 +1,5 @@
 -- The near rows of a certificate, written node after node.
-use Rattle.std.proofs.Common.{◌≡◌, ◌∙◌, ◌++◌, ◌*◌, ◌-◌, ◌+◌, ◌<◌, ◌^◌, ℕ, Bool, List, [], ◌∷◌, Option, Result, Ok, Err, ◌≤◌, drop, filter, length, take, inl, inr, refl, sym, ap, subst, arith, length-append}
+use Rattle.std.proofs.Common.{◌≡◌, ◌∙◌, ◌++◌, ◌*◌, ◌-◌, ◌+◌, ◌<◌, ◌^◌, ℕ, Bool, List, [], ◌∷◌, Option, Ok, Err, drop, filter, length, take, inl, inr, refl, sym, ap, subst, arith, length-append}
 use Rattle.std.proofs.Math.Seq.{take-add}
 use Rattle.std.proofs.lemmas.Bool.{cases_Bool}
 use Rattle.std.proofs.lemmas.Grind.{flat_map-append}
@@ -14,8 +14,6 @@ use Rattle.cert_format.specs.CertText.{row_text}
 use Rattle.cert_format.specs.Putting.{Puts, Writer}
 use Rattle.cert_format.specs.Versions.{rows_in}
 use Rattle.cert_format.proofs.Puttings.{puts_failed, puts_none, puts_then}
-use Rattle.std.specs.Prelude.{IfErr}
-use Rattle.mrt_io.specs.Counts.{Rose}
 use Rattle.mrt_io.specs.declared.device.PutError.{PutError}
 
 filter_twice : (p : Row → Bool) (rows : List Row) → filter p (filter p rows) ≡ filter p rows
@@ -117,8 +115,3 @@ rows_none told was healthy c writer =
     let none : 0 ≡ 0 * (length c.nodes - 1) = omega arith in
     subst (λ (k : ℕ). Puts told told was was healthy healthy (flat_map row_text (filter is_near (take k c.rows))) writer writer (Ok tt)) none
     (puts_none told was healthy writer)
-
--- a fault of the later step is one of both
-pub cause_after : (result : Result Unit PutError) (f0 f1 f2 : ℕ) → f0 ≤ f1 → IfErr result (λ _. Rose f1 f2) → IfErr result (λ _. Rose f0 f2)
-cause_after (Ok x) f0 f1 f2 count cause = tt
-cause_after (Err e) f0 f1 f2 count cause = omega (arith, count, cause)

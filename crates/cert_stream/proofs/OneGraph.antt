@@ -1,6 +1,6 @@
 -- Graphs with the same identifiers, links and interfaces.
-use Rattle.std.proofs.Common.{◌≡◌, ◌∙◌, ◌<◌, ◌≤◌, ◌+◌, ℕ, List, Some, length, get_or, slice_get, sym, ap, subst, arith}
-use borrow.Author.Count.{below_more, below_none}
+use Rattle.std.proofs.Common.{◌≡◌, ◌∙◌, ◌<◌, ◌≤◌, ◌+◌, ℕ, List, length, get_or, slice_get, sym, arith}
+use borrow.Author.Count.{below_more}
 use Rattle.std.proofs.lemmas.List.{same_lists}
 use Rattle.std.proofs.lemmas.Option.{same_Some, slice_get-get_or}
 use Rattle.mrt_graph.specs.Topology.{Topology}

@@ -8,7 +8,7 @@ ghost use Rattle.cert_format.specs.{CertText.cert_text, Limits.IsCertFile};
 ghost use Rattle.cert_stream.specs.Same.{HaveSameParts};
 
 use crate::numbers::numbers_fit;
-use crate::parts::put_file;
+use crate::parts::put_parts;
 use crate::same::{are_graphs_same, are_links_same, are_nodes_same, are_rows_same};
 use cert_format::{CertWriter, one_spelling};
 use mrt_graph::{CertLink, CertNode, Graph, NoMemory, NodeNo};
@@ -129,11 +129,12 @@ impl CertStream {
             nodes,
             links,
             mut rows,
-            writer,
+            mut writer,
         } = self;
         // what each graph keeps is told by reading it
         let _count = graph.node_count();
-        put_file(writer, sink, &graph, &nodes, &links, &mut rows)
+        put_parts(&mut writer, sink, &graph, &nodes, &links, &mut rows)?;
+        writer.finish(sink)
     }
 
     /// Whether two certificates are the same. Those of one graph from one root are, without a row found. Else the numbers

@@ -1,8 +1,7 @@
 //! The parts of a certificate file, of which the rows are found as they are written.
 
-ghost use Rattle.std.specs.Prelude.{◌≡◌, ◌<◌, ◌≤◌, ◌+◌, ◌-◌, ◌^◌, ◌++◌, ℕ, length, IsOk, IfErr, OnOk};
+ghost use Rattle.std.specs.Prelude.{◌≡◌, ◌<◌, ◌+◌, ◌^◌, ◌++◌, length};
 ghost use Rattle.mrt_graph.specs.declared.cert.CertFile.{CertFile};
-ghost use Rattle.mrt_io.specs.{Counts.Rose, Writing.Gained, Writing.GainedPart};
 ghost use Rattle.mrt_rows.specs.{CertOf.IsCertOf, Making.MakeRows};
 ghost use Rattle.cert_format.specs.Putting.{Puts, parts_text};
 
@@ -12,42 +11,8 @@ use mrt_graph::{CertLink, CertNode, Graph};
 use mrt_io::{PutError, Sink};
 use mrt_rows::SourceRows;
 
-/// Writes a whole file, of which the writer was given the header.
-pub fn put_file<K: Sink>(
-    writer: CertWriter,
-    sink: &mut K,
-    g: &Graph,
-    nodes: &[CertNode],
-    links: &[CertLink],
-    rows: &mut SourceRows,
-) -> Result<(), PutError>
-    requires made { MakeRows g.now rows.old }
-    requires version { writer.version ≡ 2 }
-    requires none { writer.gone ≡ 0 }
-    requires cert { (file : CertFile) × IsCertOf g.now rows.old.root file
-        × (length (writer.held ++ parts_text 2 nodes.now links.now file.cert.rows) < 2 ^ 64) }
-    ensures gained { (file : CertFile) → IsCertOf g.now rows.old.root file → OnOk result (Gained (K.written sink.old)
-        (writer.held ++ parts_text 2 nodes.now links.now file.cert.rows) (K.written sink.new)) }
-    ensures part { (file : CertFile) → IsCertOf g.now rows.old.root file → IfErr result (GainedPart (K.written sink.old)
-        (writer.held ++ parts_text 2 nodes.now links.now file.cert.rows) (K.written sink.new)) }
-    ensures cause { IfErr result (λ _. Rose (K.faults sink.old) (K.faults sink.new)) }
-    ensures count { K.faults sink.old ≤ K.faults sink.new }
-    ensures succeeds { (file : CertFile) → IsCertOf g.now rows.old.root file → (n : ℕ) → K.healthy_for sink.old n
-        → length (writer.held ++ parts_text 2 nodes.now links.now file.cert.rows) ≤ n → IsOk result }
-    ensures no_fault { (file : CertFile) → IsCertOf g.now rows.old.root file → (n : ℕ) → K.healthy_for sink.old n
-        → length (writer.held ++ parts_text 2 nodes.now links.now file.cert.rows) ≤ n
-        → K.faults sink.new ≡ K.faults sink.old }
-    ensures stays_healthy { (file : CertFile) → IsCertOf g.now rows.old.root file → (n : ℕ) → K.healthy_for sink.old n
-        → length (writer.held ++ parts_text 2 nodes.now links.now file.cert.rows) ≤ n
-        → K.healthy_for sink.new (n - length (writer.held ++ parts_text 2 nodes.now links.now file.cert.rows)) }
-{
-    let mut writer = writer;
-    put_parts(&mut writer, sink, g, nodes, links, rows)?;
-    writer.finish(sink)
-}
-
 /// Writes nodes, then links and the near rows.
-fn put_parts<K: Sink>(
+pub fn put_parts<K: Sink>(
     writer: &mut CertWriter,
     sink: &mut K,
     g: &Graph,
