@@ -1,5 +1,6 @@
 pub mod Among
 pub mod BlockRuleHolds
+pub mod ByStanding
 pub mod CommonBlocks
 pub mod Kept
 pub mod RelatedRows

@@ -1,9 +1,9 @@
 //! The fifth and the sixth rule: the links of blocks.
 
-ghost use Rattle.std.specs.Prelude.{◌≡◌, ◌==◌, ◌<◌, ◌&&◌, length, nat_le, not};
+ghost use Rattle.std.specs.Prelude.{◌≡◌, ◌==◌, ◌<◌, ◌&&◌, IsTrue, length, nat_le, not};
 ghost use Rattle.std.specs.List.{list_all};
-ghost use Rattle.cert_checker.specs.Found.{FoundFirst};
-ghost use Rattle.mrt_graph.specs.{CertWords.links_of, CertWords.members, Places.Each, Roles.is_closing, Roles.is_sole};
+ghost use Rattle.cert_checker.specs.{Found.FoundFirst, Standing.BlocksHold};
+ghost use Rattle.mrt_graph.specs.{CertWords.links_of, CertWords.members, Roles.is_closing, Roles.is_sole};
 ghost use Rattle.mrt_graph.specs.HeadsAndBlocks.{
   lone_block,
   lone_if_one_link,
@@ -14,13 +14,17 @@ ghost use Rattle.mrt_graph.specs.HeadsAndBlocks.{
   is_greatest_of,
 };
 
-use crate::heads::is_like_before;
 use mrt_graph::{Cert, CertLink, NodeNo, Role};
 
-/// The least node other than the root whose block has one link and breaks the fifth rule.
-pub(crate) fn first_lone_fault(c: &Cert, root: NodeNo) -> Option<u16>
+/// The least node other than the root whose block has one link and breaks the fifth rule; none where the rule is known to
+/// hold.
+pub(crate) fn first_lone_fault(c: &Cert, root: NodeNo, hold: bool) -> Option<u16>
+    requires { IsTrue hold → BlocksHold c.now root }
     ensures { FoundFirst (lone_block c.now root) (length c.now.nodes) result }
 {
+    if hold {
+        return None;
+    }
     for a in 0..c.node_count() {
         if !keeps_lone_block(c, root, NodeNo::new(a)) {
             return Some(a);
@@ -29,15 +33,10 @@ pub(crate) fn first_lone_fault(c: &Cert, root: NodeNo) -> Option<u16>
     None
 }
 
-/// A node like the one before it has that one's block, which was judged there.
 fn keeps_lone_block(c: &Cert, root: NodeNo, a: NodeNo) -> bool
-    requires within { a < length c.now.nodes }
-    requires before { Each (lone_block c.now root) a }
+    requires { a < length c.now.nodes }
     ensures { result ≡ lone_block c.now root a }
 {
-    if is_like_before(c, root, a) {
-        return true;
-    }
     a == root || is_lone_if_one_link(c, c.node(a).block)
 }
 
@@ -50,10 +49,15 @@ fn is_lone_if_one_link(c: &Cert, k: NodeNo) -> bool
     count_members(c, k) == 1 && all_sole(c, k)
 }
 
-/// The least node other than the root whose block has another number of links and breaks the sixth rule.
-pub(crate) fn first_closed_fault(c: &Cert, root: NodeNo) -> Option<u16>
+/// The least node other than the root whose block has another number of links and breaks the sixth rule; none where the
+/// rule is known to hold.
+pub(crate) fn first_closed_fault(c: &Cert, root: NodeNo, hold: bool) -> Option<u16>
+    requires { IsTrue hold → BlocksHold c.now root }
     ensures { FoundFirst (closed_block c.now root) (length c.now.nodes) result }
 {
+    if hold {
+        return None;
+    }
     for a in 0..c.node_count() {
         if !keeps_closed_block(c, root, NodeNo::new(a)) {
             return Some(a);
@@ -62,15 +66,10 @@ pub(crate) fn first_closed_fault(c: &Cert, root: NodeNo) -> Option<u16>
     None
 }
 
-/// A node like the one before it has that one's block, which was judged there.
 fn keeps_closed_block(c: &Cert, root: NodeNo, a: NodeNo) -> bool
-    requires within { a < length c.now.nodes }
-    requires before { Each (closed_block c.now root) a }
+    requires { a < length c.now.nodes }
     ensures { result ≡ closed_block c.now root a }
 {
-    if is_like_before(c, root, a) {
-        return true;
-    }
     let node = c.node(a);
     a == root || is_closed_unless_one_link(c, node.head, node.block)
 }

@@ -1,11 +1,12 @@
 //! The third and the fourth rule: heads, and the blocks of links.
 
-ghost use Rattle.std.specs.Prelude.{ℕ, IsTrue, ◌≡◌, ◌<◌, Some, MatchOption, length};
-ghost use Rattle.cert_checker.specs.{Found.FoundFirst, LikeBefore.IsLikeBefore};
+ghost use Rattle.std.specs.Prelude.{IsTrue, ◌≡◌, ◌<◌, Some, MatchOption, length};
+ghost use Rattle.cert_checker.specs.Found.{FoundFirst};
 ghost use Rattle.mrt_graph.specs.HeadsAndBlocks.{HeadFails, HeadFault, HeadHoldsAt, HeadsHold, link_placed, one_head, placed};
-ghost use Rattle.mrt_graph.specs.Related.{is_common_block};
+ghost use Rattle.mrt_graph.specs.{Places.EachPair, Related.is_common_block};
 
 use crate::fault_at::FaultAt;
+use crate::told::{KEYS, tell, tells};
 use mrt_graph::{Cert, LinkNo, NodeNo};
 
 /// The least node that is not placed, and 0; or the least in whose block there is a node of another head, and the least
@@ -14,24 +15,44 @@ pub(crate) fn head_fault(c: &Cert, root: NodeNo) -> Option<FaultAt>
     ensures { MatchOption result (HeadsHold c.now root)
         (λ place. HeadFault c.now root place.a place.b) }
 {
+    let agree = each_has_told_head(c);
     for a in 0..c.node_count() {
-        if let Some(b) = head_fault_at(c, root, NodeNo::new(a)) {
+        if let Some(b) = head_fault_at(c, root, NodeNo::new(a), agree) {
             return Some(FaultAt { a, b });
         }
     }
     None
 }
 
-/// Nodes stand beside others of their block for the most part, so a node like the one before it needs no search.
-fn head_fault_at(c: &Cert, root: NodeNo, a: NodeNo) -> Option<u16>
+/// Whether each node has the head that the last node of its block has, so that all nodes of a block have one. It is one
+/// pass.
+#[inline(never)]
+fn each_has_told_head(c: &Cert) -> bool
+    ensures { IsTrue result → EachPair (one_head c.now) (length c.now.nodes) }
+{
+    let mut heads = [0; KEYS];
+    for node in c.nodes() {
+        tell(&mut heads, node.block.get(), node.head.get());
+    }
+    for a in 0..c.node_count() {
+        let node = c.node(NodeNo::new(a));
+        if !tells(&heads, node.block.get(), node.head.get()) {
+            return false;
+        }
+    }
+    true
+}
+
+/// Where the nodes of all blocks agree on their heads, a node needs no search.
+fn head_fault_at(c: &Cert, root: NodeNo, a: NodeNo, agree: bool) -> Option<u16>
     requires within { a < length c.now.nodes }
-    requires before { (x : ℕ) → x < a → HeadHoldsAt c.now root x }
+    requires agree { IsTrue agree → EachPair (one_head c.now) (length c.now.nodes) }
     ensures { MatchOption result (HeadHoldsAt c.now root a) (HeadFails c.now root a) }
 {
     if !is_placed(c, root, a) {
         return Some(0);
     }
-    if is_like_before(c, root, a) {
+    if agree {
         return None;
     }
     first_other_head(c, a)
@@ -46,19 +67,6 @@ fn is_placed(c: &Cert, root: NodeNo, a: NodeNo) -> bool
         return node.head == root && node.block == root;
     }
     c.node(node.head).order < node.order && node.block != root
-}
-
-/// Whether the node before `a` is not the root, and has its block and its head.
-pub(crate) fn is_like_before(c: &Cert, root: NodeNo, a: NodeNo) -> bool
-    requires { a < length c.now.nodes }
-    ensures { IsTrue result → IsLikeBefore c.now root a }
-{
-    if a.get() == 0 || a.get() - 1 == root.get() {
-        return false;
-    }
-    let node = c.node(a);
-    let before = c.node(NodeNo::new(a.get() - 1));
-    node.block == before.block && node.head == before.head
 }
 
 fn first_other_head(c: &Cert, a: NodeNo) -> Option<u16>

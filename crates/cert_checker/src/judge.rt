@@ -9,6 +9,7 @@ use crate::heads::{first_misplaced_link, head_fault};
 use crate::orders::order_fault;
 use crate::rows::first_row_fault;
 use crate::same_graph::graph_fault;
+use crate::standing::blocks_hold;
 use crate::verdict::Verdict;
 use mrt_graph::{CertFile, Graph, NodeNo, accepted_implies_sound, accepted_or_one_first_fault};
 
@@ -19,8 +20,9 @@ use mrt_graph::{CertFile, Graph, NodeNo, accepted_implies_sound, accepted_or_one
 /// uses.
 ///
 /// Rules 1 to 6 are read one after another, rules 7 to 13 in one pass that keeps the least. Rule 14 follows from rules
-/// 1, 3, 4 and 7 to 13, and is not read. No memory is taken. Rules 1 to 6 take time in proportion to nodes times links
-/// at worst, the others one pass over the rows, or over those of related nodes where the certificate holds these alone.
+/// 1, 3, 4 and 7 to 13, and is not read. No memory is taken. Rules 1 to 6 take a few passes over nodes and links where they
+/// hold, and time in proportion to nodes times links at worst where one fails; the others one pass over the rows, or over
+/// those of related nodes where the certificate holds these alone.
 ///
 /// # Example
 ///
@@ -84,14 +86,15 @@ fn judge(g: &Graph, root: NodeNo, f: &CertFile) -> Verdict
             b: 0,
         };
     }
-    if let Some(node) = first_lone_fault(&f.cert, root) {
+    let hold = blocks_hold(g, &f.cert, root);
+    if let Some(node) = first_lone_fault(&f.cert, root, hold) {
         return Verdict::No {
             rule: 5,
             a: node,
             b: 0,
         };
     }
-    if let Some(node) = first_closed_fault(&f.cert, root) {
+    if let Some(node) = first_closed_fault(&f.cert, root, hold) {
         return Verdict::No {
             rule: 6,
             a: node,

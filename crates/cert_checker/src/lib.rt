@@ -16,6 +16,8 @@ mod row_rules;
 mod row_words;
 mod rows;
 mod same_graph;
+mod standing;
+mod told;
 mod verdict;
 
 pub use judge::check;

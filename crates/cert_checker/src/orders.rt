@@ -1,11 +1,13 @@
 //! The second rule: the root stands first, and the order numbers differ.
 
-ghost use Rattle.std.specs.Prelude.{◌≡◌, ◌<◌, length, MatchOption};
+ghost use Rattle.std.specs.Prelude.{◌≡◌, ◌<◌, IsTrue, length, MatchOption};
 ghost use Rattle.cert_checker.specs.Found.{FoundFirst, FoundPair};
+ghost use Rattle.mrt_graph.specs.Places.{EachPair};
 ghost use Rattle.mrt_graph.specs.RootAndOrders.{RootAndOrders, OrderFault, root_stands, orders_differ};
 ghost use Rattle.mrt_graph.specs.SameGraph.{SameCounts};
 
 use crate::fault_at::FaultAt;
+use crate::told::{KEYS, tell, tells};
 use mrt_graph::{Cert, CertFile, Graph, NodeNo};
 
 /// The root and the root; or the least node that has an equal above it, and the least of those.
@@ -33,12 +35,32 @@ fn is_root_first(g: &Graph, root: NodeNo, f: &CertFile) -> bool
 fn first_equal_orders(c: &Cert) -> Option<FaultAt>
     ensures { FoundPair (orders_differ c.now) (length c.now.nodes) result }
 {
+    if each_is_last(c) {
+        return None;
+    }
     for a in 0..c.node_count() {
         if let Some(b) = first_equal_above(c, NodeNo::new(a)) {
             return Some(FaultAt { a, b });
         }
     }
     None
+}
+
+/// Whether each node is the last one of its order, so that no two have one. It is one pass.
+#[inline(never)]
+fn each_is_last(c: &Cert) -> bool
+    ensures { IsTrue result → EachPair (orders_differ c.now) (length c.now.nodes) }
+{
+    let mut last = [0; KEYS];
+    for v in 0..c.node_count() {
+        tell(&mut last, c.node(NodeNo::new(v)).order, v);
+    }
+    for a in 0..c.node_count() {
+        if !tells(&last, c.node(NodeNo::new(a)).order, a) {
+            return false;
+        }
+    }
+    true
 }
 
 fn first_equal_above(c: &Cert, a: NodeNo) -> Option<u16>

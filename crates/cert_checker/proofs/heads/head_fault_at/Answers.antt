@@ -17,3 +17,9 @@ returns-then-not-is_placed c = Alone (sym c.is_placed.ensures ∙ c.if-not-is_pl
 
 pub returns : goal.returns
 returns c = found_beside _ _ _ (sym c.is_placed.ensures ∙ c.if-not-is_placed.false) _ c.first_other_head.ensures
+
+pub returns-then-agree : goal.returns-then-agree
+returns-then-agree c = record {
+  alone = sym c.is_placed.ensures ∙ c.if-not-is_placed.false;
+  beside = λ b within. c.requires.agree c.if-agree.true c.args.a b c.requires.within within;
+}
