@@ -1,5 +1,5 @@
 -- Where each link and each node fits a table of a link for each block, the fifth and the sixth rule hold.
-use Rattle.std.proofs.Common.{◌≡◌, ◌≢◌, ◌⊎◌, ◌∙◌, ◌==◌, ◌&&◌, ◌||◌, ◌<◌, ℕ, zero, suc, Bool, true, false, not, List, [], ◌∷◌, Option, Some, None, filter, length, nat_le, slice_get, inl, inr, refl, sym, ap, subst, arith}
+use Rattle.std.proofs.Common.{◌≡◌, ◌≢◌, ◌⊎◌, ◌∙◌, ◌==◌, ◌&&◌, ◌<◌, ℕ, zero, suc, Bool, true, not, List, [], ◌∷◌, Option, Some, None, filter, length, nat_le, slice_get, inl, inr, refl, sym, ap, subst, arith}
 use Rattle.std.specs.List.{list_all}
 use Rattle.std.specs.Option.{option_and_then}
 use Rattle.std.proofs.lemmas.Bool.{and_from, and_parts, cases_Bool, cases_eq, eq-eqb, eqb-false, eqb-true, false≢true, le-leb, ne_eqb, not-true, or_cases, or_left, or_right}
@@ -9,10 +9,9 @@ use Rattle.mrt_graph.specs.declared.cert.CertLink.{CertLink}
 use Rattle.mrt_graph.specs.declared.cert.CertNode.{CertNode}
 use Rattle.mrt_graph.specs.declared.cert.Role.{Role}
 use Rattle.mrt_graph.specs.declared.cert.Role.TheVariants.{Plain, Sole, Closing}
-use Rattle.mrt_graph.specs.BothThere.{are_different}
 use Rattle.mrt_graph.specs.Certificate.{Certificate}
-use Rattle.mrt_graph.specs.CertWords.{block_of, links_of, members}
-use Rattle.mrt_graph.specs.HeadsAndBlocks.{HeadsHold, closed_block, closed_unless_one_link, closings, is_greatest_of, joins_greatest, lone_block, lone_if_one_link}
+use Rattle.mrt_graph.specs.CertWords.{links_of, members}
+use Rattle.mrt_graph.specs.HeadsAndBlocks.{HeadsHold, closed_unless_one_link, closings, is_greatest_of, joins_greatest, lone_if_one_link}
 use Rattle.mrt_graph.specs.Roles.{is_closing, is_plain, is_sole}
 use Rattle.mrt_graph.proofs.ListTests.{one_passes}
 use Rattle.mrt_graph.proofs.TestFacts.{unless}

@@ -1,4 +1,3 @@
-pub mod Among
 pub mod BlockRuleHolds
 pub mod ByStanding
 pub mod CommonBlocks

@@ -1,9 +1,10 @@
 -- The rows of a source that are not among those of its relatives keep the rules on rows.
-use Rattle.std.proofs.Common.{◌≡◌, ◌⊎◌, ◌∙◌, ◌<◌, ◌==◌, ◌||◌, ◌++◌, ℕ, Bool, true, false, not, List, Option, Some, None, get_or, length, inl, inr, refl, sym, ap, subst, arith}
+use Rattle.std.proofs.Common.{◌≡◌, ◌⊎◌, ◌∙◌, ◌<◌, ◌+◌, ◌||◌, ◌++◌, ℕ, Bool, true, false, not, List, Option, Some, None, get_or, length, inl, inr, refl, sym, ap, arith}
 use Rattle.std.specs.Prelude.{Contains, ◌∷◌, []}
 use Rattle.std.specs.Option.{option_map_or, option_to_list}
 use Rattle.std.proofs.lemmas.Bool.{cases_Bool, cases_eq, eq-eqb, eqb-true, false≢true}
-use Rattle.cert_checker.specs.RowFaults.{row_test}
+use Rattle.cert_checker.specs.declared.fault.Fault.{Fault}
+use Rattle.cert_checker.specs.RowFaults.{AndSome, Before, IsAfter, Kept, row_test}
 use Rattle.mrt_graph.specs.Certificate.{Certificate, row_of}
 use Rattle.mrt_graph.specs.CertWords.{head_of}
 use Rattle.mrt_graph.specs.Foldable.{IsFoldable}
@@ -16,7 +17,55 @@ use Rattle.mrt_graph.specs.Tags.{same_tag}
 use Rattle.mrt_graph.specs.Topology.{Topology}
 use Rattle.mrt_graph.proofs.FarRows.{far_rows}
 use Rattle.mrt_graph.proofs.KinOf.{heads_count, listed}
-use Rattle.cert_checker.proofs.Among.{in_left, in_right}
+use Rattle.mrt_graph.proofs.ListPlaces.{at_left, contains_at, place_of, pushed_at}
+use Rattle.mrt_graph.proofs.Pairs.{at_right}
+use Rattle.cert_checker.proofs.Kept.{judged_more, widened}
+
+-- ---- in lists put together
+
+in_left : (xs ys : List ℕ) (y : ℕ) → Contains xs y → Contains (xs ++ ys) y
+in_left xs ys y has = let at = place_of xs y has in contains_at (xs ++ ys) at.0 y (at_left xs ys at.0 y at.1)
+
+in_right : (xs ys : List ℕ) (y : ℕ) → Contains ys y → Contains (xs ++ ys) y
+in_right xs ys y has = let at = place_of ys y has in contains_at (xs ++ ys) (length xs + at.0) y (at_right xs ys at.0 ∙ at.1)
+
+in_more : (listed : List ℕ) (t y : ℕ) → Contains (listed ++ t ∷ []) y → Contains listed y ⊎ (y ≡ t)
+in_more listed t y has =
+    let at = place_of (listed ++ t ∷ []) y has in
+    elim (pushed_at listed t y at.0 at.1) [ inl before ↦ inl (contains_at listed at.0 y before) | inr last ↦ inr (sym last.1) ]
+
+pub none_listed : (y : ℕ) → Contains [] y → ⊥
+none_listed y has = omega (arith, has.1)
+
+-- ---- the rows of one source
+
+module _ (test : Rule → ℕ → ℕ → Bool) (c : Certificate) (s : ℕ) (s_in : s < length c.nodes) where
+  abbrev Known : (ℕ → Type 0) → Option Fault → Type 0
+  Known some kept = Kept test (length c.nodes) (AndSome c s some) kept
+
+  -- before the first
+  pub starts : (some : ℕ → Type 0) → ((y : ℕ) → some y → ⊥) → (kept : Option Fault) → Kept test (length c.nodes) (Before c s) kept → Known some kept
+  starts some never = widened test (length c.nodes) (Before c s) (AndSome c s some) (λ x y has. elim has [ inl old ↦ inl old | inr own ↦ absurd (never y own.1) ])
+
+  -- with one more
+  pub goes_on : (some more : ℕ → Type 0) (t : ℕ) → t < length c.nodes → ((y : ℕ) → more y → some y ⊎ (y ≡ t)) → (before after : Option Fault) → Known some before
+      → IsAfter test s t before after → Known more after
+  goes_on some more t t_in from = judged_more test (length c.nodes) (AndSome c s some) (AndSome c s more) s t s_in t_in (λ x y has. elim has [
+    | inl old ↦ inl (inl old)
+    | inr own ↦ elim (from y own.1) [ inl old ↦ inl (inr (own.0, old)) | inr last ↦ inr (own.0, last) ]
+  ])
+
+  pub listed_more : (listed : List ℕ) (t : ℕ) → t < length c.nodes → (before after : Option Fault) → Known (Contains listed) before → IsAfter test s t before after
+      → Known (Contains (listed ++ t ∷ [])) after
+  listed_more listed t t_in = goes_on (Contains listed) (Contains (listed ++ t ∷ [])) t t_in (in_more listed t)
+
+  -- after the last, where what is left keeps each rule
+  pub ends : (some : ℕ → Type 0) → ((y : ℕ) → y < length c.nodes → some y ⊎ ((rule : Rule) → test rule s y ≡ true)) → (kept : Option Fault) → Known some kept
+      → Kept test (length c.nodes) (Before c (s + 1)) kept
+  ends some rest = widened test (length c.nodes) (AndSome c s some) (Before c (s + 1)) (λ x y has. elim (cases_eq x s) [
+    | inl same ↦ elim (rest y has.1) [ inl own ↦ inl (inr (same, own)) | inr each ↦ inr (rw same each) ]
+    | inr other ↦ inl (inl (omega (arith, has.0, other), has.1))
+  ])
 
 module _ (g : Topology) (root : ℕ) (c : Certificate) (folds : IsFoldable c) (root_within : root < length c.nodes) (own : head_of c root ≡ Some root)
     (kin : Kin) (same : kin_of c.nodes ≡ kin) (s : ℕ) (s_within : s < length c.nodes) where

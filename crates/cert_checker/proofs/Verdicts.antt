@@ -1,12 +1,12 @@
 -- From what each search found to the verdict.
-use Rattle.std.proofs.Common.{◌≡◌, ◌<◌, ◌≤◌, ◌↔◌, ℕ, length, refl, subst, arith}
+use Rattle.std.proofs.Common.{◌≡◌, ◌<◌, ◌≤◌, ◌↔◌, ℕ, true, length, inl, inr, refl, subst, arith}
 use Rattle.std.proofs.lemmas.Bool.{true≢false}
 use Rattle.cert_checker.proofs.BlockRuleHolds.{block_rule_holds}
 use Rattle.cert_checker.specs.declared.fault.Fault.{Fault}
 use Rattle.cert_checker.specs.declared.verdict.Verdict.{Verdict}
 use Rattle.cert_checker.specs.declared.verdict.Verdict.TheVariants.{Yes, No}
 use Rattle.cert_checker.specs.Judged.{Judged}
-use Rattle.cert_checker.specs.RowFaults.{FirstBefore, HeldBefore, row_test}
+use Rattle.cert_checker.specs.RowFaults.{Before, FirstRead, row_test}
 use Rattle.mrt_graph.specs.declared.cert.CertFile.{CertFile}
 use Rattle.mrt_graph.specs.declared.cert.Tag.{Tag}
 use Rattle.mrt_graph.specs.declared.cert.Tag.TheVariants.{Sole, Head, Top, Below, Above, Unordered, Carried}
@@ -30,15 +30,14 @@ few_tags Carried = omega arith
 module _ (g : Topology) (root : ℕ) (file : CertFile) where
   -- all six rules hold, and all on rows
   pub all_hold : HoldBefore g root file 7
-      → ((rule : Rule)
-      → HeldBefore (row_test g root file.cert rule) (length file.cert.nodes) (length file.cert.nodes) 0)
+      → ((rule : Rule) (a b : ℕ) → Before file.cert (length file.cert.nodes) a b → row_test g root file.cert rule a b ≡ true)
       → Accepted g root file
-  all_hold before held (TagRule T) = λ a b first second. (held (TagRule T)).sources a b first second
+  all_hold before held (TagRule T) = λ a b first second. held (TagRule T) a b (first, second)
   all_hold before held BlockRule = block_rule_holds g root file.cert (record {
     same_graph = before GraphRule (omega arith);
     heads = before HeadRule (omega arith);
     links = before LinkRule (omega arith);
-    rows = λ tag a b first second. (held (TagRule tag)).sources a b first second;
+    rows = λ tag a b first second. held (TagRule tag) a b (first, second);
   })
   all_hold before held GraphRule = before GraphRule (omega arith)
   all_hold before held OrderRule = before OrderRule (omega arith)
@@ -49,15 +48,24 @@ module _ (g : Topology) (root : ℕ) (file : CertFile) where
 
   -- all six rules hold, and one on rows fails
   pub row_fails : HoldBefore g root file 7 → (fault : Fault)
-      → FirstBefore (row_test g root file.cert) (length file.cert.nodes) (length file.cert.nodes) 0 fault
+      → FirstRead (row_test g root file.cert) (length file.cert.nodes) (Before file.cert (length file.cert.nodes)) fault
       → FirstFault g root file fault.rule fault.a fault.b
   row_fails before fault known = record {
     rule = known.rule;
     numbered = known.numbered;
-    fails = fails known.rule known.here;
+    fails = fails known.rule here;
     earlier = earlier;
   }
     where
+      here : IsFirstPair (row_test g root file.cert known.rule) (length file.cert.nodes) fault.a fault.b
+      here = record {
+        first_within = known.source;
+        second_within = known.target;
+        fails = known.fails;
+        before_first = λ x y below within. known.before x y (omega (arith, below, known.source), within) (inl below);
+        before_second = λ y below. known.before fault.a y (known.source, omega (arith, below, known.target)) (inr (refl, below));
+      }
+
       fails : (rule : Rule) → IsFirstPair (row_test g root file.cert rule) (length file.cert.nodes) fault.a fault.b
           → (told g root file rule).FailsAt fault.a fault.b
       fails (TagRule T) here = here
@@ -70,8 +78,8 @@ module _ (g : Topology) (root : ℕ) (file : CertFile) where
       of_tag _ here = absurd (true≢false here.fails)
 
       earlier : (other : Rule) → rule_number other < fault.rule → (told g root file other).Holds
-      earlier (TagRule T) less = λ a b first second. (known.earlier (TagRule T) less).sources a b first second
-      earlier BlockRule less = absurd (omega (arith, less, known.numbered, of_tag known.rule known.here))
+      earlier (TagRule T) less = λ a b first second. known.earlier (TagRule T) less a b (first, second)
+      earlier BlockRule less = absurd (omega (arith, less, known.numbered, of_tag known.rule here))
       earlier GraphRule less = before GraphRule (omega arith)
       earlier OrderRule less = before OrderRule (omega arith)
       earlier HeadRule less = before HeadRule (omega arith)

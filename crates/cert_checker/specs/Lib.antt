@@ -1,7 +1,6 @@
 pub mod Found
 pub mod Judged
 pub mod KnownNode
-pub mod ListedFaults
 pub mod RowAt
 pub mod RowFaults
 pub mod Standing

@@ -1,9 +1,8 @@
 -- What is known of the rules on rows after some of the rows.
-use Rattle.std.specs.Prelude.{◌≡◌, ◌<◌, ℕ, Bool, true, false, Option, Some, None, nat_le, if◌then◌else◌}
+use Rattle.std.specs.Prelude.{◌≡◌, ◌⊎◌, ◌<◌, ◌==◌, ◌&&◌, ◌||◌, ℕ, Bool, true, false, Option, Some, None, length, nat_lt, if◌then◌else◌}
 use Rattle.std.specs.Option.{MatchOption}
 use Rattle.cert_checker.specs.declared.fault.Fault.{Fault}
 use Rattle.mrt_graph.specs.Certificate.{Certificate}
-use Rattle.mrt_graph.specs.Places.{Each, IsFirstPair}
 use Rattle.mrt_graph.specs.RowRules.{rows_tagged}
 use Rattle.mrt_graph.specs.Rules.{Rule, TagRule, rule_number}
 use Rattle.mrt_graph.specs.Topology.{Topology}
@@ -25,28 +24,50 @@ pub record FailsFirst (test : Rule → Bool) (number : ℕ) : Type 0 where
 abbrev pub JudgedRow : (Rule → Bool) → Option ℕ → Type 0
 JudgedRow test judged = MatchOption judged ((rule : Rule) → test rule ≡ true) (FailsFirst test)
 
--- the test holds at each pair before s and t
-pub record HeldBefore (test : ℕ → ℕ → Bool) (n s t : ℕ) : Type 0 where
-  pub sources : (x y : ℕ) → x < s → y < n → test x y ≡ true
-  pub targets : Each (test s) t
+-- a and b come before x and y
+abbrev pub Precedes : ℕ → ℕ → ℕ → ℕ → Type 0
+Precedes a b x y = (a < x) ⊎ ((a ≡ x) × (b < y))
 
--- the first fault among the pairs before s and t
-pub record FirstBefore (test : Rule → ℕ → ℕ → Bool) (n s t : ℕ) (fault : Fault) : Type 0 where
+-- the first fault among the pairs that are read
+pub record FirstRead (test : Rule → ℕ → ℕ → Bool) (n : ℕ) (read : ℕ → ℕ → Type 0) (fault : Fault) : Type 0 where
   pub rule : Rule
   pub numbered : rule_number rule ≡ fault.rule
-  pub here : IsFirstPair (test rule) n fault.a fault.b
-  pub earlier : (other : Rule) → rule_number other < fault.rule → HeldBefore (test other) n s t
+  pub source : fault.a < n
+  pub target : fault.b < n
+  pub fails : test rule fault.a fault.b ≡ false
+  pub before : (x y : ℕ) → read x y → Precedes x y fault.a fault.b → test rule x y ≡ true
+  pub earlier : (other : Rule) → rule_number other < fault.rule → (x y : ℕ) → read x y → test other x y ≡ true
 
--- what is kept of the pairs before s and t: their first fault; none where each rule holds
-abbrev pub KeptBefore : (Rule → ℕ → ℕ → Bool) → ℕ → ℕ → ℕ → Option Fault → Type 0
-KeptBefore test n s t kept = MatchOption kept ((rule : Rule) → HeldBefore (test rule) n s t) (FirstBefore test n s t)
+-- what is kept of the pairs that are read: their first fault; none where each rule holds
+abbrev pub Kept : (Rule → ℕ → ℕ → Bool) → ℕ → (ℕ → ℕ → Type 0) → Option Fault → Type 0
+Kept test n read kept = MatchOption kept ((rule : Rule) (x y : ℕ) → read x y → test rule x y ≡ true) (FirstRead test n read)
 
--- the fault of the lesser rule, and of two with one rule the one that is kept
-abbrev pub lesser_fault : Option Fault → Fault → Fault
-lesser_fault None fault = fault
-lesser_fault (Some kept) fault = if nat_le kept.rule fault.rule then kept else fault
+-- the same of a certificate's rows
+abbrev pub KeptRows : Topology → ℕ → Certificate → (ℕ → ℕ → Type 0) → Option Fault → Type 0
+KeptRows g root c read kept = Kept (row_test g root c) (length c.nodes) read kept
 
--- what is kept after a row
-abbrev pub better : Option Fault → Option ℕ → ℕ → ℕ → Option Fault
-better kept None s t = kept
-better kept (Some rule) s t = Some (lesser_fault kept (record { rule = rule; a = s; b = t }))
+-- the rows of the sources below s
+abbrev pub Before : Certificate → ℕ → ℕ → ℕ → Type 0
+Before c s x y = (x < s) × (y < length c.nodes)
+
+-- these, and the rows of s for some nodes
+abbrev pub AndSome : Certificate → ℕ → (ℕ → Type 0) → ℕ → ℕ → Type 0
+AndSome c s some x y = Before c s x y ⊎ ((x ≡ s) × some y)
+
+-- a fault comes before another one: its rule is lesser, or it is that of the other and its place comes before
+abbrev pub is_before : Fault → Fault → Bool
+is_before fault other =
+    nat_lt fault.rule other.rule
+    || ((fault.rule == other.rule)
+    && (nat_lt fault.a other.a || ((fault.a == other.a) && nat_lt fault.b other.b)))
+
+-- the first of a fault and of what is kept
+abbrev pub first_of : Option Fault → Fault → Fault
+first_of None fault = fault
+first_of (Some kept) fault = if is_before fault kept then fault else kept
+
+-- what is kept after the row of s for t, of what was kept before
+abbrev pub IsAfter : (Rule → ℕ → ℕ → Bool) → ℕ → ℕ → Option Fault → Option Fault → Type 0
+IsAfter test s t before after =
+    (((rule : Rule) → test rule s t ≡ true) × (after ≡ before))
+    ⊎ ((number : ℕ) × FailsFirst (λ rule. test rule s t) number × (after ≡ Some (first_of before (record { rule = number; a = s; b = t }))))

@@ -11,7 +11,6 @@ mod judge;
 mod known_node;
 mod near_rows;
 mod orders;
-mod related_rows;
 mod row_rules;
 mod row_words;
 mod rows;

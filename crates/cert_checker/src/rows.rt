@@ -1,23 +1,23 @@
-//! Rules seven to thirteen, in one pass over the rows in their order.
+//! Rules seven to thirteen, in one pass over the rows.
 
-ghost use Rattle.std.specs.Prelude.{◌≡◌, ◌<◌, ◌+◌, length};
+ghost use Rattle.std.specs.Prelude.{◌≡◌, ◌<◌, ◌+◌, ◌++◌, Contains, ℕ, List, IfSome, Some, length};
+ghost use Rattle.std.specs.{List.All, Option.option_to_list};
 ghost use Rattle.cert_checker.specs.KnownNode.{AreHops, IsKnown};
-ghost use Rattle.cert_checker.specs.RowFaults.{JudgedRow, KeptBefore, better, lesser_fault, row_test};
-ghost use Rattle.mrt_graph.specs.{HeadsAndBlocks.HeadsHold, SameGraph.SameCounts};
+ghost use Rattle.cert_checker.specs.RowFaults.{AndSome, Before, IsAfter, KeptRows, first_of, is_before, row_test};
+ghost use Rattle.mrt_graph.specs.{CertWords.head_of, Foldable.IsFoldable, HeadsAndBlocks.HeadsHold, Kin.kin_of, SameGraph.SameCounts};
 
 use crate::fault::Fault;
 use crate::hops::Hops;
 use crate::known_node::{KnownNode, known_node};
-use crate::related_rows::first_related_fault;
 use crate::row_rules::judge_rule;
 use crate::row_words::number_of;
-use mrt_graph::{Cert, Graph, NodeNo};
+use mrt_graph::{Cert, Graph, NodeNo, Relatives};
 
-/// The rule that a row breaks, if it breaks one, and the hops that serve the next row.
+/// What is kept of the rows that were read: their first fault, if there is one, and the hops that serve the next row.
 #[derive(Drop)]
-pub(crate) struct RowJudged {
-    pub fault: Option<u8>,
-    pub hops: Hops,
+struct Reading {
+    kept: Option<Fault>,
+    hops: Hops,
 }
 
 /// The first rule on rows that fails, and its first place.
@@ -30,24 +30,11 @@ pub(crate) fn first_row_fault(g: &Graph, c: &Cert, root: NodeNo) -> Option<Fault
     requires counts { SameCounts g.now c.now }
     requires heads { HeadsHold c.now root }
     requires root { root < length c.now.nodes }
-    ensures { KeptBefore (row_test g.now root c.now) (length c.now.nodes)
-        (length c.now.nodes) 0 result }
-{
-    match c.relatives() {
-        None => first_held_fault(g, c, root),
-        Some(relatives) => first_related_fault(g, c, root, relatives),
-    }
-}
-
-/// The same, where all rows are held.
-fn first_held_fault(g: &Graph, c: &Cert, root: NodeNo) -> Option<Fault>
-    requires { SameCounts g.now c.now }
-    ensures { KeptBefore (row_test g.now root c.now) (length c.now.nodes)
-        (length c.now.nodes) 0 result }
+    ensures { KeptRows g.now root c.now (Before c.now (length c.now.nodes)) result }
 {
     let mut kept = None;
     for s in 0..c.node_count() {
-        kept = judge_rows_of(g, c, root, NodeNo::new(s), kept);
+        kept = judge_rows_of(g, c, root, &known_node(c, NodeNo::new(s)), kept);
     }
     kept
 }
@@ -56,91 +43,171 @@ fn judge_rows_of(
     g: &Graph,
     c: &Cert,
     root: NodeNo,
-    s: NodeNo,
+    s: &KnownNode,
     before: Option<Fault>,
 ) -> Option<Fault>
     requires counts { SameCounts g.now c.now }
-    requires source { s < length c.now.nodes }
-    requires before { KeptBefore (row_test g.now root c.now) (length c.now.nodes) s 0 before }
-    ensures { KeptBefore (row_test g.now root c.now) (length c.now.nodes) (s + 1) 0 result }
+    requires root { root < length c.now.nodes }
+    requires top { head_of c.now root ≡ Some root }
+    requires source { IsKnown c.now s.now }
+    requires before { KeptRows g.now root c.now (Before c.now s.now.number) before }
+    ensures { KeptRows g.now root c.now (Before c.now (s.now.number + 1)) result }
 {
-    let source = known_node(c, s);
-    let mut hops = Hops {
-        blue: None,
-        red: None,
-    };
-    let mut kept = before;
-    for t in 0..c.node_count() {
-        let judged = judge_row(g, c, root, &source, NodeNo::new(t), hops);
-        kept = keep(kept, judged.fault, s, NodeNo::new(t));
-        hops = judged.hops;
-    }
-    kept
-}
-
-/// The fault of the lesser rule, and of two with one rule the earlier.
-fn keep(kept: Option<Fault>, judged: Option<u8>, s: NodeNo, t: NodeNo) -> Option<Fault>
-    ensures { result ≡ better kept judged s t }
-{
-    match judged {
-        None => kept,
-        Some(rule) => Some(lesser(
-            kept,
-            Fault {
-                rule,
-                a: s.get(),
-                b: t.get(),
-            },
-        )),
+    match c.relatives() {
+        None => judge_all_of(g, c, root, s, before),
+        Some(relatives) => judge_related_of(g, c, root, relatives, s, before),
     }
 }
 
-fn lesser(kept: Option<Fault>, fault: Fault) -> Fault
-    ensures { result ≡ lesser_fault kept fault }
-{
-    match kept {
-        None => fault,
-        Some(earlier) => if earlier.rule <= fault.rule {
-            earlier
-        } else {
-            fault
-        }
-    }
-}
-
-/// The rule of its tag, where the row of `s` for `t` breaks it.
-#[inline(always)]
-pub(crate) fn judge_row(
+/// Goes on with all rows of `s`.
+fn judge_all_of(
     g: &Graph,
     c: &Cert,
     root: NodeNo,
     s: &KnownNode,
-    t: NodeNo,
-    last: Hops,
-) -> RowJudged
+    before: Option<Fault>,
+) -> Option<Fault>
+    requires counts { SameCounts g.now c.now }
+    requires source { IsKnown c.now s.now }
+    requires before { KeptRows g.now root c.now (Before c.now s.now.number) before }
+    ensures { KeptRows g.now root c.now (Before c.now (s.now.number + 1)) result }
+{
+    let mut last = Reading {
+        kept: before,
+        hops: Hops {
+            blue: None,
+            red: None,
+        },
+    };
+    for t in 0..c.node_count() {
+        last = judge_row(g, c, root, s, NodeNo::new(t), last);
+    }
+    last.kept
+}
+
+/// Goes on with the rows of `s` for the nodes that are related to it.
+fn judge_related_of(
+    g: &Graph,
+    c: &Cert,
+    root: NodeNo,
+    relatives: &Relatives,
+    s: &KnownNode,
+    before: Option<Fault>,
+) -> Option<Fault>
+    requires counts { SameCounts g.now c.now }
+    requires foldable { IsFoldable c.now }
+    requires root { root < length c.now.nodes }
+    requires top { head_of c.now root ≡ Some root }
+    requires index { relatives.now ≡ kin_of c.now.nodes }
+    requires source { IsKnown c.now s.now }
+    requires before { KeptRows g.now root c.now (Before c.now s.now.number) before }
+    ensures { KeptRows g.now root c.now (Before c.now (s.now.number + 1)) result }
+{
+    let kept = judge_listed(g, c, root, s, relatives.members(s.number), before);
+    let kept = judge_upper(g, c, root, s, relatives.upper(s.number), kept);
+    judge_listed(g, c, root, s, relatives.children(s.number), kept)
+}
+
+/// Goes on with the row of `s` for a head in another block, where there is one.
+fn judge_upper(
+    g: &Graph,
+    c: &Cert,
+    root: NodeNo,
+    s: &KnownNode,
+    upper: Option<NodeNo>,
+    before: Option<Fault>,
+) -> Option<Fault>
+    requires counts { SameCounts g.now c.now }
+    requires source { IsKnown c.now s.now }
+    requires target { IfSome upper (λ head. head < length c.now.nodes) }
+    ensures { (listed : List ℕ) → KeptRows g.now root c.now (AndSome c.now s.now.number (Contains listed)) before
+        → KeptRows g.now root c.now (AndSome c.now s.now.number (Contains (listed ++ option_to_list upper))) result }
+{
+    match upper {
+        None => before,
+        Some(head) => judge_listed(g, c, root, s, &[head], before),
+    }
+}
+
+/// Goes on with the rows of `s` for these nodes.
+fn judge_listed(
+    g: &Graph,
+    c: &Cert,
+    root: NodeNo,
+    s: &KnownNode,
+    targets: &[NodeNo],
+    before: Option<Fault>,
+) -> Option<Fault>
+    requires counts { SameCounts g.now c.now }
+    requires source { IsKnown c.now s.now }
+    requires targets { All (λ t. t < length c.now.nodes) targets.now }
+    ensures { (listed : List ℕ) → KeptRows g.now root c.now (AndSome c.now s.now.number (Contains listed)) before
+        → KeptRows g.now root c.now (AndSome c.now s.now.number (Contains (listed ++ targets.now))) result }
+{
+    let mut last = Reading {
+        kept: before,
+        hops: Hops {
+            blue: None,
+            red: None,
+        },
+    };
+    for t in targets {
+        last = judge_row(g, c, root, s, *t, last);
+    }
+    last.kept
+}
+
+/// Goes on with the row of `s` for `t`.
+#[inline(always)]
+fn judge_row(g: &Graph, c: &Cert, root: NodeNo, s: &KnownNode, t: NodeNo, last: Reading) -> Reading
     requires counts { SameCounts g.now c.now }
     requires source { IsKnown c.now s.now }
     requires target { t < length c.now.nodes }
-    requires last { AreHops g.now c.now s.now.number last }
-    ensures judged { JudgedRow (λ rule. row_test g.now root c.now rule s.now.number t) result.fault }
+    requires last { AreHops g.now c.now s.now.number last.hops }
+    ensures kept { IsAfter (row_test g.now root c.now) s.now.number t last.kept result.kept }
     ensures hops { AreHops g.now c.now s.now.number result.hops }
 {
     if s.number == t {
-        return RowJudged {
-            fault: None,
-            hops: last,
-        };
+        return last;
     }
     let row = c.row(s.number, t);
-    let judged = judge_rule(g, c, root, s, t, &row, last);
+    let judged = judge_rule(g, c, root, s, t, &row, last.hops);
     if judged.keeps {
-        return RowJudged {
-            fault: None,
+        return Reading {
+            kept: last.kept,
             hops: judged.hops,
         };
     }
-    RowJudged {
-        fault: Some(7 + number_of(row.tag)),
+    let fault = Fault {
+        rule: 7 + number_of(row.tag),
+        a: s.number.get(),
+        b: t.get(),
+    };
+    Reading {
+        kept: Some(first_of(last.kept, fault)),
         hops: judged.hops,
     }
+}
+
+/// The first of a fault and of what is kept.
+fn first_of(kept: Option<Fault>, fault: Fault) -> Fault
+    ensures { result ≡ first_of kept fault }
+{
+    match kept {
+        None => fault,
+        Some(earlier) => if is_before(&fault, &earlier) {
+            fault
+        } else {
+            earlier
+        }
+    }
+}
+
+fn is_before(fault: &Fault, other: &Fault) -> bool
+    ensures { result ≡ is_before fault.now other.now }
+{
+    if fault.rule < other.rule {
+        return true;
+    }
+    fault.rule == other.rule && (fault.a < other.a || fault.a == other.a && fault.b < other.b)
 }

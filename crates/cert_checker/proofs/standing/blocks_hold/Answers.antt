@@ -1,6 +1,5 @@
-use Rattle.std.proofs.Common.{◌≡◌, ◌≢◌, ◌<◌, ◌∙◌, ℕ, subst, sym, length, below_more, arith}
-use Rattle.cert_checker.specs.Standing.{NodeFits, link_fits}
-use Rattle.mrt_graph.specs.Places.{Each}
+use Rattle.std.proofs.Common.{◌≡◌, ◌≢◌, ℕ, length, below_more, arith}
+use Rattle.cert_checker.specs.Standing.{NodeFits}
 use Rattle.cert_checker.proofs.ByStanding.{blocks}
 use Rattle.cert_checker.proofs.standing.blocks_hold.Goals as goal
 
