@@ -23,6 +23,7 @@ use crate::row_words::{is_closing_link, is_plain_link, is_sole_link};
 use mrt_graph::{Cert, LinkNo, NodeNo, Row, Tag};
 
 /// Whether the links of a row of `s` for `t` lead where its tag asks, to `blue` and `red`.
+#[inline(always)]
 pub(crate) fn keeps_near_rule(
     c: &Cert,
     s: &KnownNode,

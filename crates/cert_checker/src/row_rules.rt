@@ -51,6 +51,7 @@ pub(crate) fn judge_rule(
 }
 
 /// Whether a row that is not carried, with these hops, keeps what its tag asks.
+#[inline(always)]
 fn keeps_hop_rule(
     c: &Cert,
     s: &KnownNode,
