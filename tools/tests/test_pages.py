@@ -13,9 +13,9 @@ from tests.making import MRT, TOOLS
 
 ROOT = os.path.dirname(TOOLS)
 DATA = os.path.join("crates", "mrt", "data")
-WORDS = {"README.md": 2500, "docs/AUDIT.md": 2200}
+WORDS = {"README.md": 2500, "docs/AUDIT.md": 1800, "docs/OPERATORS.md": 4500}
 NARROW = ["README.md", "docs/COMMANDS.md", "docs/AUDIT.md", "docs/DECISIONS.md"]
-ALL_WORDS = 34500
+ALL_WORDS = 31100
 MADE = {"docs/CLAUSES.md", "docs/DEFINITIONS.md"}
 
 
@@ -27,6 +27,12 @@ def read(name: str) -> str:
 def pages() -> list[str]:
     names = os.listdir(ROOT) + [os.path.join("docs", name) for name in os.listdir(os.path.join(ROOT, "docs"))]
     return sorted(name for name in names if name.endswith(".md"))
+
+
+def anchors(page: str) -> list[str]:
+    """What the headings of a page are named by in links."""
+    headings = re.findall(r"^#+ (.*)$", page, re.MULTILINE)
+    return [re.sub(r"[^\w -]", "", heading).lower().replace(" ", "-") for heading in headings]
 
 
 def done(*words: str, folder: str = ROOT) -> subprocess.CompletedProcess[str]:
@@ -79,9 +85,11 @@ class Lengths(unittest.TestCase):
 
     def test_links_lead_somewhere(self) -> None:
         for name in pages():
-            for target in re.findall(r"\]\(([^)#:]+)\)", read(name)):
-                place = os.path.join(ROOT, os.path.dirname(name), target)
-                self.assertTrue(os.path.exists(place), f"{name}: {target}")
+            for target, heading in re.findall(r"\]\(([^)#:]*)(#[^)]*)?\)", read(name)):
+                place = os.path.join(os.path.dirname(name), target) if target else name
+                self.assertTrue(os.path.exists(os.path.join(ROOT, place)), f"{name}: {target}")
+                if heading:
+                    self.assertIn(heading[1:], anchors(read(place)), name)
 
 
 class Commands(unittest.TestCase):
