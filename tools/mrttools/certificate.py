@@ -6,7 +6,7 @@ from itertools import accumulate
 from typing import NamedTuple
 
 from .area import Node
-from .ending import REFUSED, ToolFault
+from .exits import REFUSED, ToolFault
 
 MAGIC = b"MRTC"
 HEADER, NODE, LINK, ROW = 14, 11, 7, 5

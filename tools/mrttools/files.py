@@ -6,7 +6,7 @@ import stat
 import sys
 import tempfile
 
-from .ending import REFUSED, WRITE_FAULT, ToolFault, system_line
+from .exits import REFUSED, WRITE_FAULT, ToolFault, system_line
 
 STANDARD = "-"
 # How the name of a file ends that is not whole yet.

@@ -3,7 +3,7 @@ from __future__ import annotations
 
 from . import area
 from .area import Node
-from .ending import ToolFault
+from .exits import ToolFault
 
 BAD_NAMES = 15
 

@@ -15,8 +15,8 @@ from concurrent import futures
 from typing import IO, Iterator, Sequence
 
 from . import library
-from .ending import READ_FAULT, REFUSED, ToolFault
-from .waiting import alive
+from .exits import READ_FAULT, REFUSED, ToolFault
+from .signals import alive
 
 ROOT = os.path.dirname(os.path.dirname(os.path.dirname(os.path.realpath(__file__))))
 MRT = os.path.join(ROOT, "mrt")

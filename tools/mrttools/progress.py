@@ -5,7 +5,7 @@ import sys
 import time
 from typing import Callable, TextIO
 
-from .ending import ToolFault
+from .exits import ToolFault
 
 WIDE = 30
 INTERRUPTED = 130

@@ -3,10 +3,11 @@ from __future__ import annotations
 
 from typing import Any
 
-from mrttools import batch, kernel
-from mrttools.batch import Refusal, State
-from mrttools.netlink import News
-from mrttools.network import Plan, link, router_id
+from mrttools.agent import batch
+from mrttools.router import kernel
+from mrttools.agent.batch import Refusal, State
+from mrttools.agent.netlink import News
+from mrttools.lab.network import Plan, link, router_id
 
 # A square with both diagonals.
 SQUARE = [

@@ -10,15 +10,17 @@ import unittest
 from typing import Callable, Iterable
 from unittest import mock
 
-from mrttools import batch, generations, kernel, lsas
-from mrttools.around import Around
-from mrttools.batch import NOTHING, State
-from mrttools.kernel import Interfaces
-from mrttools.keeping import Agent
+from mrttools import lsas
+from mrttools.agent import batch, generations
+from mrttools.router import kernel
+from mrttools.agent.surroundings import Around
+from mrttools.agent.batch import NOTHING, State
+from mrttools.router.kernel import Interfaces
+from mrttools.agent.loop import Agent
 from mrttools.lsas import Lsa, address, split
-from mrttools.network import router_id
-from mrttools.settings import Settings
-from mrttools.sources import Told
+from mrttools.lab.network import router_id
+from mrttools.agent.settings import Settings
+from mrttools.agent.sources import Told
 from tests.kernels import PLAN, ModelKernel
 from tests.making import MRT, TOOLS, router_lsa
 from tests.test_fib import lsas_of

@@ -6,9 +6,10 @@ import tempfile
 import unittest
 from random import Random
 
-from mrttools import advising, area, joining, sites
+from mrttools import area
+from mrttools.page import advice, new_links, sites
 from mrttools.area import Area, Bond, Node
-from mrttools.joining import NEAR, Joining, Link
+from mrttools.page.new_links import NEAR, Joining, Link
 from mrttools.lsas import ROUTER
 from tests.making import MRT, TOOLS
 from tests.test_cuts import area_of, connected, name, node, random_area, records_of
@@ -86,8 +87,8 @@ class NewLinks(unittest.TestCase):
 class Metrics(unittest.TestCase):
     def test_the_usual_one(self) -> None:
         bonds = area_of([(1, 2), (1, 3), (1, 4)], [], [10, 20, 65535]).bonds
-        self.assertEqual(advising.usual_metric(bonds), 20)
-        self.assertEqual(advising.usual_metric([]), 10)
+        self.assertEqual(advice.usual_metric(bonds), 20)
+        self.assertEqual(advice.usual_metric([]), 10)
 
 
 @unittest.skipUnless(os.access(MRT, os.X_OK), "the program is not built")
@@ -177,6 +178,6 @@ class Commands(unittest.TestCase):
 
 class Names(unittest.TestCase):
     def test_how_tools_are_called(self) -> None:
-        self.assertEqual(advising.tool("change"), "tools/change")
+        self.assertEqual(advice.tool("change"), "tools/change")
         self.assertEqual(area.node_of(name(1)), node(1))
-        self.assertEqual(joining.is_of_use(Link(node(1), node(2), 1, 0)), False)
+        self.assertEqual(new_links.is_of_use(Link(node(1), node(2), 1, 0)), False)

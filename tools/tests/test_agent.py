@@ -6,10 +6,12 @@ import subprocess
 import tempfile
 import unittest
 
-from mrttools import batch, kernel, program
-from mrttools.batch import NOTHING, Refusal, State
-from mrttools.ending import READ_FAULT, ToolFault
-from mrttools.kernel import TABLES
+from mrttools import program
+from mrttools.agent import batch
+from mrttools.router import kernel
+from mrttools.agent.batch import NOTHING, Refusal, State
+from mrttools.exits import READ_FAULT, ToolFault
+from mrttools.router.kernel import TABLES
 from tests.kernels import ModelKernel
 from tests.making import TOOLS
 

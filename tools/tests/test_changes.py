@@ -5,10 +5,11 @@ import tempfile
 import unittest
 from random import Random
 
-from mrttools import area, asking, changes, editing, lsas
+from mrttools import area, lsas
+from mrttools.page import changes, client, drafts
 from mrttools.area import Area
-from mrttools.editing import Draft
-from mrttools.ending import ToolFault
+from mrttools.page.drafts import Draft
+from mrttools.exits import ToolFault
 from mrttools.program import Program
 from tests.making import DATA, MRT, TOOLS
 from tests.test_cuts import name, node, records_of
@@ -93,8 +94,8 @@ class Edits(unittest.TestCase):
         zero = records_of([(1, 2)], [], [0])[0]
         for wrong in (data[:-1], data + b"x", data[:30] + b"x" + data[31:], zero):
             with self.assertRaises(ToolFault):
-                editing.whole_database(wrong)
-        self.assertEqual(len(editing.whole_database(data)), 4)
+                drafts.whole_database(wrong)
+        self.assertEqual(len(drafts.whole_database(data)), 4)
 
     def test_the_tool(self) -> None:
         for words, status in (
@@ -165,7 +166,7 @@ class Differences(unittest.TestCase):
         for _ in range(4):
             with tempfile.TemporaryDirectory() as folder:
                 one = Written(random, folder)
-                edited = Draft(asking.database(one.database))
+                edited = Draft(client.database(one.database))
                 edited.remove_link(random.choice([bond for bond in edited.whole.bonds if bond.two_way]))
                 other = os.path.join(folder, "other.lsas")
                 with open(other, "wb") as file:

@@ -6,9 +6,9 @@ import tempfile
 import unittest
 from typing import ClassVar
 
-from mrttools import reference
-from mrttools.contracts import Crate
-from mrttools.definitions import Library, Missing, Name
+from mrttools.repository import reference
+from mrttools.repository.contracts import Crate
+from mrttools.repository.definitions import Library, Missing, Name
 from tests.making import TOOLS
 
 ROOT = os.path.dirname(TOOLS)

@@ -2,9 +2,10 @@
 import unittest
 from random import Random
 
-from mrttools import area, cuts, lsas
+from mrttools import area, lsas
+from mrttools.page import cuts
 from mrttools.area import Area, Bond, Node
-from mrttools.cuts import Cut
+from mrttools.page.cuts import Cut
 from tests.making import network_lsa, router_lsa
 
 

@@ -5,7 +5,7 @@ import subprocess
 import tempfile
 import unittest
 
-from mrttools.definitions import Library, Missing, Name, uses
+from mrttools.repository.definitions import Library, Missing, Name, uses
 from tests.making import TOOLS
 
 GROUND = """-- What is below.

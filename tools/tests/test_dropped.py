@@ -5,12 +5,12 @@ import unittest
 from datetime import datetime
 from unittest import mock
 
-from mrttools import dropped
-from mrttools.dropped import AGENTS, DAEMONS, FAILURE, OTHER, SECOND, Down, Judge, Kernel, Lost
-from mrttools.kernel import POOL, TABLES
-from mrttools.network import PLAN
-from mrttools.pinging import Counted
-from mrttools.running import LabFault
+from mrttools.lab import dropped
+from mrttools.lab.dropped import AGENTS, DAEMONS, FAILURE, OTHER, SECOND, Down, Judge, Kernel, Lost
+from mrttools.router.kernel import POOL, TABLES
+from mrttools.lab.network import PLAN
+from mrttools.lab.pings import Counted
+from mrttools.lab.running_network import LabFault
 
 START = 1_800_000_000.0
 # The lab's wires by their routers.

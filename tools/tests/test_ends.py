@@ -14,9 +14,11 @@ import time
 import unittest
 from unittest import mock
 
-from mrttools import agent_work, batch, exposure, files, keeping, locking, status, table, waiting, watching
-from mrttools.ending import ToolFault
-from mrttools.settings import Settings
+from mrttools import files, signals
+from mrttools.agent import batch, commands, exposure, file_watch, lock, loop, status
+from mrttools.router import table
+from mrttools.exits import ToolFault
+from mrttools.agent.settings import Settings
 from tests.making import MRT, TOOLS
 from tests.spaces import lacks
 from tests.standing import Place, WithAgent
@@ -90,7 +92,7 @@ class KernelSettings(unittest.TestCase):
         settings = Settings(self.place.kept, self.place.root)
         settings.apply(["to-r2"])
         self.assertEqual(Settings(self.place.kept, self.place.root).before, settings.before)
-        with mock.patch("mrttools.settings.boot", return_value="another"):
+        with mock.patch("mrttools.agent.settings.boot", return_value="another"):
             self.assertEqual(Settings(self.place.kept, self.place.root).before, {})
 
     def test_no_interface_is_without_its_filter(self) -> None:
@@ -120,8 +122,8 @@ class Signals(unittest.TestCase):
 
     PROGRAM = """
 import os, signal, sys, time
-from mrttools.batch import Linux
-from mrttools.waiting import Waiting
+from mrttools.agent.batch import Linux
+from mrttools.signals import Waiting
 waiting = Waiting()
 print("begun", flush=True)
 time.sleep(0.5)
@@ -146,7 +148,7 @@ print("not here", flush=True)
         words = [
             sys.executable,
             "-c",
-            "from mrttools.waiting import Waiting; w = Waiting(); print(flush=True); w.wait([], 60)",
+            "from mrttools.signals import Waiting; w = Waiting(); print(flush=True); w.wait([], 60)",
         ]
         with subprocess.Popen(words, stdout=subprocess.PIPE, cwd=TOOLS, text=True) as process:
             assert process.stdout
@@ -160,8 +162,8 @@ class TheProfile(unittest.TestCase):
 
     PROGRAM = """
 import os, sys, time
-from mrttools.waiting import Waiting
-from mrttools.watching import Watched
+from mrttools.signals import Waiting
+from mrttools.agent.file_watch import Watched
 waiting, watched = Waiting(), Watched(sys.argv[1])
 for _ in range(3):
     print("waits", flush=True)
@@ -194,8 +196,8 @@ for _ in range(3):
                     self.assertEqual(process.stdout.readline(), "True False True\n")
 
     def test_no_word_of_it(self) -> None:
-        self.assertIsNone(watching.watched("-"))
-        self.assertIsNone(watching.watched("/nonexistent/profile"))
+        self.assertIsNone(file_watch.watched("-"))
+        self.assertIsNone(file_watch.watched("/nonexistent/profile"))
 
 
 class Limits(unittest.TestCase):
@@ -212,10 +214,10 @@ class Limits(unittest.TestCase):
             told.bind(os.path.join(folder, "notify"))
             told.settimeout(9)
             with mock.patch.dict(os.environ, NOTIFY_SOCKET=os.path.join(folder, "notify")):
-                waiting.notify("READY=1")
-                waiting.alive()
+                signals.notify("READY=1")
+                signals.alive()
             self.assertEqual([told.recv(99), told.recv(99)], [b"READY=1", b"WATCHDOG=1"])
-        waiting.notify("READY=1")
+        signals.notify("READY=1")
 
     @unittest.skipIf(lacks("nft"), f"an agent in a namespace is not tried: {lacks('nft')}")
     @unittest.skipUnless(os.path.exists(MRT), "the program is not built")
@@ -245,27 +247,27 @@ class Limits(unittest.TestCase):
         with open(os.path.join(TOOLS, "mrt-agent@.service"), encoding="ascii") as file:
             lines = dict(line.strip().split("=", 1) for line in file if "=" in line and not line.startswith("#"))
         self.assertEqual((lines["Type"], lines["MemoryMax"]), ("notify", "1G"))
-        self.assertGreater(int(lines["WatchdogSec"]), 5 * keeping.LIMIT + 3 * batch.LIMIT)
+        self.assertGreater(int(lines["WatchdogSec"]), 5 * loop.LIMIT + 3 * batch.LIMIT)
 
 
 class Locks(unittest.TestCase):
     def test_one_agent_for_a_folder(self) -> None:
         with tempfile.TemporaryDirectory() as folder:
-            with locking.lock_folder(folder):
-                self.assertTrue(locking.is_locked(folder))
+            with lock.lock_folder(folder):
+                self.assertTrue(lock.is_locked(folder))
                 with self.assertRaises(ToolFault):
-                    locking.lock_folder(folder)
-            self.assertFalse(locking.is_locked(folder))
-            locking.lock_folder(folder).close()
+                    lock.lock_folder(folder)
+            self.assertFalse(lock.is_locked(folder))
+            lock.lock_folder(folder).close()
 
     def test_who_asks_keeps_no_agent_away(self) -> None:
         with tempfile.TemporaryDirectory() as folder:
-            locking.lock_folder(folder).close()
+            lock.lock_folder(folder).close()
             asked = open(os.path.join(folder, "lock"), "rb")
             fcntl.flock(asked, fcntl.LOCK_SH)
             later = threading.Timer(0.15, asked.close)
             later.start()
-            locking.lock_folder(folder).close()
+            lock.lock_folder(folder).close()
             later.join()
 
     def test_one_agent_for_a_namespace(self) -> None:
@@ -273,25 +275,25 @@ class Locks(unittest.TestCase):
         with tempfile.TemporaryDirectory() as folder, socket.socket(socket.AF_UNIX) as stranger:
             stranger.bind("\0semborui/agent")
             place = os.path.join(folder, "semborui")
-            with mock.patch.object(locking, "RUN", place):
-                with locking.lock_namespace():
+            with mock.patch.object(lock, "RUN", place):
+                with lock.lock_namespace():
                     self.assertEqual(stat.S_IMODE(os.stat(place).st_mode), 0o700)
                     self.assertEqual(os.listdir(place), [f"{os.stat('/proc/self/ns/net').st_ino}.lock"])
                     with self.assertRaises(ToolFault):
-                        locking.lock_namespace()
+                        lock.lock_namespace()
                     # (another namespace has another one)
-                    with mock.patch.object(locking, "NAMESPACE", "/proc/self/ns/mnt"):
-                        locking.lock_namespace().close()
-                locking.lock_namespace().close()
+                    with mock.patch.object(lock, "NAMESPACE", "/proc/self/ns/mnt"):
+                        lock.lock_namespace().close()
+                lock.lock_namespace().close()
                 os.chmod(place, 0o755)
                 with self.assertRaisesRegex(ToolFault, "others can get in"):
-                    locking.lock_namespace()
+                    lock.lock_namespace()
 
     def test_the_folder_of_the_unit(self) -> None:
         """It is the daemon's user's, and stays where another agent of the machine ends."""
         with open(os.path.join(TOOLS, "mrt-agent@.service"), encoding="ascii") as file:
             lines = dict(line.strip().split("=", 1) for line in file if "=" in line and not line.startswith("#"))
-        self.assertEqual(os.path.join("/run", lines["RuntimeDirectory"]), locking.RUN)
+        self.assertEqual(os.path.join("/run", lines["RuntimeDirectory"]), lock.RUN)
         self.assertEqual((lines["RuntimeDirectoryMode"], lines["RuntimeDirectoryPreserve"]), ("0700", "yes"))
 
 
@@ -300,9 +302,9 @@ class Exposed(unittest.TestCase):
         """The agent does not start beside it, unless told."""
         with mock.patch.object(exposure, "open_to_others", side_effect=lambda port: f"port {port} is open"):
             for daemon, told in (("frr", True), ("bird", False)):
-                agent_work.refuse_exposed(argparse.Namespace(daemon=daemon, open_api=told))
+                commands.refuse_exposed(argparse.Namespace(daemon=daemon, open_api=told))
             with self.assertRaisesRegex(ToolFault, "port 2607 is open"):
-                agent_work.refuse_exposed(argparse.Namespace(daemon="frr", open_api=False))
+                commands.refuse_exposed(argparse.Namespace(daemon="frr", open_api=False))
 
 
 @unittest.skipUnless(os.path.exists(MRT), "the program is not built")
@@ -314,7 +316,7 @@ class OfItself(WithAgent):
             digest = table.digest_of(file.read())
         self.assertEqual((facts["certificate"], facts["repairs"], facts["state"]), (digest, 3, "stopped"))
         self.assertEqual(facts["generation"], int(digest, 16) % 8)
-        with locking.lock_folder(self.folder):
+        with lock.lock_folder(self.folder):
             self.assertEqual(status.read(self.folder)["state"], "installed")
             for words, first in (
                 (["--status"], "router 10.255.0.1 beside frr: installed"),
@@ -334,8 +336,8 @@ class OfItself(WithAgent):
                 self.quietly(agent.take_away)
             else:
                 settings = agent.around.settings
-                with mock.patch.multiple(agent_work, Linux=lambda: self.router, Settings=lambda name: settings):
-                    agent_work.remove(self.folder)
+                with mock.patch.multiple(commands, Linux=lambda: self.router, Settings=lambda name: settings):
+                    commands.remove(self.folder)
             self.assertEqual(self.repairs(), {})
             facts = status.read(self.folder)
             self.assertEqual((facts["certificate"], facts["repairs"], facts["state"]), (None, 0, "stopped"))

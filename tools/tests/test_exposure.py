@@ -5,8 +5,8 @@ import unittest
 from typing import Any
 from unittest import mock
 
-from mrttools import exposure, sockets
-from mrttools.exposure import are_dropped, open_to_others
+from mrttools.agent import exposure, sockets
+from mrttools.agent.exposure import are_dropped, open_to_others
 from tests.spaces import inside, lacks, made
 
 PORT = 2607

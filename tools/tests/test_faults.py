@@ -4,14 +4,16 @@ import os
 import unittest
 from unittest import mock
 
-from mrttools import agent_work, batch, files, kernel, keeping, lsas, sight, table
-from mrttools.batch import NOTHING
-from mrttools.generations import PAUSE
-from mrttools.keeping import KERNEL_EVERY, LACKING, RETRY
+from mrttools import files, lsas
+from mrttools.agent import batch, commands, inputs, loop
+from mrttools.router import kernel, table
+from mrttools.agent.batch import NOTHING
+from mrttools.agent.generations import PAUSE
+from mrttools.agent.loop import KERNEL_EVERY, LACKING, RETRY
 from mrttools.lsas import address, lsa_of, split
-from mrttools.netlink import News
-from mrttools.sight import ROUTE_KEPT
-from mrttools.sources import SILENT, Told
+from mrttools.agent.netlink import News
+from mrttools.agent.inputs import ROUTE_KEPT
+from mrttools.agent.sources import SILENT, Told
 from tests.kernels import PLAN
 from tests.making import MRT, router_lsa
 from tests.standing import LINGER, WithAgent, told_links
@@ -39,10 +41,10 @@ class Faults(WithAgent):
     def test_a_record_that_mrt_alone_refuses(self) -> None:
         """Which one it is, mrt says."""
         agent = self.agent()
-        with mock.patch.object(sight, "usable", lambda found: (found, [])):
+        with mock.patch.object(inputs, "usable", lambda found: (found, [])):
             self.test_a_link_with_metric_0()
-        self.assertIsNone(keeping.record_at([], "mrt: bad database: length at 7"))
-        self.assertIsNone(keeping.record_at(agent.sight.found, "mrt: too large: area-nodes 5000"))
+        self.assertIsNone(loop.record_at([], "mrt: bad database: length at 7"))
+        self.assertIsNone(loop.record_at(agent.sight.found, "mrt: too large: area-nodes 5000"))
 
     def test_mrt_refuses(self) -> None:
         for strict in (False, True):
@@ -250,7 +252,7 @@ class Faults(WithAgent):
             self.assertNotEqual(self.place.read(), before)
             agent.around = agent.around._replace(wait=mock.Mock(side_effect=SystemExit(143)))
             with self.assertRaises(SystemExit):
-                self.quietly(lambda: agent_work.keep_until_end(agent, agent.said))
+                self.quietly(lambda: commands.keep_until_end(agent, agent.said))
             self.assertEqual(self.router.state(), NOTHING if strict else state)
             self.assertEqual(self.place.read() == before, strict)
             if not strict:

@@ -11,16 +11,18 @@ from ipaddress import IPv4Network
 from random import Random
 from typing import Iterator, NamedTuple
 
-from mrttools import area, failing, frr, kernel, lsas, nexthops
+from mrttools import area, lsas
+from mrttools.lab import failures
+from mrttools.router import frr, kernel, nexthops
 from mrttools.area import Bond, Node
-from mrttools.failing import Failure
-from mrttools.kernel import TABLES, Entry, Interfaces
-from mrttools.network import Plan, Wire, link, owner, router_id
-from mrttools.nexthops import Unfit, Ways
-from mrttools.owners import Daemon, is_prefix
+from mrttools.lab.failures import Failure
+from mrttools.router.kernel import TABLES, Entry, Interfaces
+from mrttools.lab.network import Plan, Wire, link, owner, router_id
+from mrttools.router.nexthops import Unfit, Ways
+from mrttools.router.owners import Daemon, is_prefix
 from mrttools.paths import Graph
-from mrttools.plans import PLANS
-from mrttools.prefixes import Prefixes
+from mrttools.lab.plans import PLANS
+from mrttools.router.prefixes import Prefixes
 from mrttools.program import Program
 from tests.making import DATA, MRT, TOOLS, network_lsa, router_lsa
 
@@ -133,7 +135,7 @@ class Kernels:
                 return False
             color, gateway = step
             at = owner(gateway)
-            if at == failure.router or failing.port(self.wire_to(at, gateway), at) in failure.ports:
+            if at == failure.router or failures.port(self.wire_to(at, gateway), at) in failure.ports:
                 return False
         return False
 
@@ -141,7 +143,7 @@ class Kernels:
         """The color after a router and the next hop, if there is one."""
 
         def up(gateway: str) -> bool:
-            return failing.port(self.wire_to(at, gateway), at) not in failure.ports
+            return failures.port(self.wire_to(at, gateway), at) not in failure.ports
 
         if color is not None:
             gateway = self.colored[at, color, to]
@@ -164,9 +166,9 @@ class Arrival(unittest.TestCase):
             file.flush()
             mrt = Program(MRT, file.name, "-")
             kernels = Kernels(plan, mrt, list(lsas.split(lsas_of(plan))), daemon)
-            for failure in failing.failures(plan):
-                lost = failing.lost_by_mrt(mrt, plan, failure)
-                for source, target in failing.pairs(plan):
+            for failure in failures.failures(plan):
+                lost = failures.lost_by_mrt(mrt, plan, failure)
+                for source, target in failures.pairs(plan):
                     if failure.router not in (source, target):
                         arrived = kernels.arrives(source, target, failure)
                         fits = arrived == ((source, target) not in lost) or (daemon and arrived)
@@ -272,7 +274,7 @@ class Customers(unittest.TestCase):
     def check(self, plan: Plan, customer: Customer) -> None:
         none = Failure("none", "", [], 0, [])
         cuts = [(none, one) for one in customer.owners]
-        for failure, cut in [(each, 0) for each in failing.failures(plan)] + cuts:
+        for failure, cut in [(each, 0) for each in failures.failures(plan)] + cuts:
             for source in set(plan.routers) - {failure.router}:
                 wanted = customer.reaches(source, failure, cut)
                 self.assertEqual(

@@ -151,7 +151,8 @@ class Links(unittest.TestCase):
     def test_the_program_is_beside_the_tool(self) -> None:
         with tempfile.TemporaryDirectory() as folder:
             there = os.path.join(folder, "there")
-            shutil.copytree(TOOLS, os.path.join(there, "tools"))
+            for part in ("tools", os.path.join("examples", "python")):
+                shutil.copytree(os.path.join(os.path.dirname(TOOLS), part), os.path.join(there, part))
             with open(os.path.join(there, "mrt"), "w", encoding="ascii") as file:
                 file.write("#!/bin/sh\necho this one >&2; exit 5\n")
             os.chmod(file.name, 0o755)

@@ -6,7 +6,8 @@ import unittest
 from random import Random
 from typing import NamedTuple
 
-from mrttools import flooding, lsas
+from mrttools import lsas
+from mrttools.lab import flood_script
 from mrttools.lsas import ROUTER, Key, address
 from tests import making
 from tests.making import (
@@ -206,10 +207,10 @@ class Scripts(unittest.TestCase):
         self.one, self.other = address("1.1.1.1"), address("2.2.2.2")
 
     def test_what_is_held_back(self) -> None:
-        packets = flooding.packets_in(b"".join(self.updates))
+        packets = flood_script.packets_in(b"".join(self.updates))
         self.assertEqual([packet.data for packet in packets], self.updates)
-        self.assertEqual(flooding.telling(packets, self.one, self.other), [1, 3])
-        lines = flooding.script(packets, self.one, self.other, self.one)
+        self.assertEqual(flood_script.telling(packets, self.one, self.other), [1, 3])
+        lines = flood_script.script(packets, self.one, self.other, self.one)
         self.assertEqual(
             lines[6:], ["deliver 2 1", "deliver 0 1", "same 0 1 1.1.1.1", "deliver 3 1", "same 0 1 1.1.1.1"]
         )
@@ -217,5 +218,5 @@ class Scripts(unittest.TestCase):
     @unittest.skipUnless(os.path.exists(MRT), "the program is not built")
     def test_the_program_says_different_and_then_same(self) -> None:
         data = b"".join(self.updates)
-        result = flooded(data, flooding.script(flooding.packets_in(data), self.one, self.other, self.one))
+        result = flooded(data, flood_script.script(flood_script.packets_in(data), self.one, self.other, self.one))
         self.assertEqual((result.status, result.answers[-3], result.answers[-1]), (0, "different", "same"))

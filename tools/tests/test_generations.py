@@ -9,15 +9,18 @@ from random import Random
 from typing import NamedTuple
 from unittest import mock
 
-from mrttools import batch, failing, generations, kernel, lsas, table
-from mrttools.batch import NOTHING, State
-from mrttools.generations import KEPT, PAUSE, TURN, Generations, Made
-from mrttools.kernel import Interfaces
-from mrttools.network import Plan, owner, router_id
-from mrttools.nexthops import Ways
-from mrttools.owners import Daemon
+from mrttools import lsas
+from mrttools.agent import batch, generations
+from mrttools.lab import failures
+from mrttools.router import kernel, table
+from mrttools.agent.batch import NOTHING, State
+from mrttools.agent.generations import KEPT, PAUSE, TURN, Generations, Made
+from mrttools.router.kernel import Interfaces
+from mrttools.lab.network import Plan, owner, router_id
+from mrttools.router.nexthops import Ways
+from mrttools.router.owners import Daemon
 from mrttools.program import Program
-from mrttools.table import Wanted
+from mrttools.router.table import Wanted
 from tests.kernels import ModelKernel
 from tests.making import MRT
 from tests.test_fib import CUSTOMER, lsas_of, random_plan
@@ -123,7 +126,7 @@ class World:
     def is_up(self, at: int, gateway: str) -> bool:
         net = gateway.rsplit(".", 1)[0]
         wires = [number for number, wire in enumerate(self.plan.wires) if wire.net == net and at in wire.metrics]
-        return any(not {failing.port(wire, at), failing.port(wire, owner(gateway))} & self.down for wire in wires)
+        return any(not {failures.port(wire, at), failures.port(wire, owner(gateway))} & self.down for wire in wires)
 
     def circles(self, marked: Marked) -> list[tuple[int, str, list[int]]]:
         """The packets on a color that meet a router twice, of all that any repair puts on one."""
@@ -162,7 +165,7 @@ class WhileRoutersDiffer(unittest.TestCase):
         """How many packets on colors met a router twice, and how many worlds had repairs of two certificates."""
         marked, circles, mixed = Marked.of(kernel.marking(kernel.POOL, set())), 0, 0
         ways = {router: course(old[router], new[router], random.random() < 0.3) for router in old}
-        ports = [failing.port(number, router) for number, wire in enumerate(plan.wires) for router in wire.metrics]
+        ports = [failures.port(number, router) for number, wire in enumerate(plan.wires) for router in wire.metrics]
         for _ in range(30):
             part = random.randrange(2)
             states = {router: random.choice(way[min(part, len(way) - 1)]) for router, way in ways.items()}
@@ -226,7 +229,7 @@ class WhileRoutersDiffer(unittest.TestCase):
         for router in plan.routers:
             passes = [place for place in range(1, count - 1) if random.random() < 0.5]
             ways[router] = course_over([each[router] for each in tables], passes, tells)
-        ports = [failing.port(number, router) for number, wire in enumerate(plan.wires) for router in wire.metrics]
+        ports = [failures.port(number, router) for number, wire in enumerate(plan.wires) for router in wire.metrics]
         for _ in range(30):
             states = {}
             for router, (early, late) in ways.items():

@@ -4,12 +4,14 @@ from functools import partial
 from unittest import mock
 from xml.etree import ElementTree
 
-from mrttools import agents, bars, comparing, dropped, failing, forwarding, hostile, lsas, network, outcomes, pinging
-from mrttools import statics, updates
-from mrttools.daemons import Bird, Frr, Running
-from mrttools.pinging import Counted
+from mrttools import lsas
+from mrttools.lab import agents, bars, dropped, failures, forwarding, hostile, network, outcomes, pings, primaries
+from mrttools import updates
+from mrttools.lab import static_routes
+from mrttools.lab.daemons import Bird, Frr, Running
+from mrttools.lab.pings import Counted
 from mrttools.lsas import lsa_of
-from mrttools.plans import PLANS, SHARED_BY
+from mrttools.lab.plans import PLANS, SHARED_BY
 from tests.making import router_lsa
 
 NOTHING = Running([], "")
@@ -57,32 +59,32 @@ class Daemons(unittest.TestCase):
 
 
 class Comparing(unittest.TestCase):
-    def results(self, routes: comparing.Routes) -> list[comparing.Result]:
+    def results(self, routes: primaries.Routes) -> list[primaries.Result]:
         table = "\n".join(TABLE.splitlines()[:2])
-        return list(comparing.compare(1, table, partial(trace, "delivered 10.255.0.2"), routes))
+        return list(primaries.compare(1, table, partial(trace, "delivered 10.255.0.2"), routes))
 
     def test_the_same(self) -> None:
         results = self.results({"10.255.0.2/32": {("to-r2", "10.0.12.2")}})
         self.assertTrue(results[0].same)
-        self.assertEqual(comparing.report(results, "D"), ["primaries: 1 of 1 are the one next hop of D"])
+        self.assertEqual(primaries.report(results, "D"), ["primaries: 1 of 1 are the one next hop of D"])
 
     def test_one_of_several(self) -> None:
         results = self.results(ROUTES)
         self.assertTrue(results[0].one_of_several and not results[0].same)
-        self.assertEqual(len(comparing.report(results, "D")), 2)
+        self.assertEqual(len(primaries.report(results, "D")), 2)
 
     def test_different(self) -> None:
         results = self.results({"10.255.0.2/32": {("to-r6", "10.0.16.6")}})
         self.assertFalse(results[0].same or results[0].one_of_several)
         line = "different: from 10.255.0.1 to 10.255.0.2: mrt to-r2/10.255.0.2, D to-r6/10.255.0.6"
-        self.assertIn(line, comparing.report(results, "D"))
+        self.assertIn(line, primaries.report(results, "D"))
 
     def test_no_route(self) -> None:
-        self.assertTrue(comparing.report(self.results({}), "D")[-1].endswith("D no route"))
+        self.assertTrue(primaries.report(self.results({}), "D")[-1].endswith("D no route"))
 
     def test_a_network_that_is_attached(self) -> None:
         line = "net:198.51.100.7 head blue a/0.0.0.1 red b/0.0.0.2 primary net:198.51.100.7/198.51.100.3 repair b-"
-        (result,) = comparing.compare(3, f"head\n{line}", partial(trace, "delivered net:198.51.100.7"), ROUTES)
+        (result,) = primaries.compare(3, f"head\n{line}", partial(trace, "delivered net:198.51.100.7"), ROUTES)
         self.assertEqual((result.primary, result.same), (("to-lan", None), True))
 
 
@@ -102,13 +104,13 @@ class Failures(unittest.TestCase):
     """What fails in the lab, and the picture of it."""
 
     def test_each_link_router_and_port(self) -> None:
-        found = list(failing.failures(network.PLAN))
+        found = list(failures.failures(network.PLAN))
         self.assertEqual(len({failure.name for failure in found}), len(found))
         self.assertEqual(sum(bool(failure.router) for failure in found), 9)
         ports = next(failure.ports for failure in found if failure.element == "10.255.0.7")
         self.assertEqual(len(ports), 3)
         for plan in PLANS.values():
-            for failure in failing.failures(plan):
+            for failure in failures.failures(plan):
                 self.assertTrue(failure.ports and failure.router not in plan.maintenance)
 
     def test_networks_hang_together_without_the_router_that_joins(self) -> None:
@@ -133,7 +135,7 @@ class Failures(unittest.TestCase):
 
     def test_a_network_in_a_line(self) -> None:
         """It has the failures that part no pair."""
-        one, other = list(failing.failures(network.PLAN))[:2]
+        one, other = list(failures.failures(network.PLAN))[:2]
         rows = [
             forwarding.Row(one, 1000, 2, 90, set(), set(), 7, (0, 0, 0), 1),
             forwarding.Row(other, 1000, 500, 500, {(1, 8)}, set(), 7, (0, 0, 0), 1),
@@ -145,9 +147,9 @@ class Failures(unittest.TestCase):
     def test_pings_to_an_address_that_two_routers_have(self) -> None:
         """It is lost where both are parted."""
         plan = network.PLAN._replace(shared=(3, 8))
-        failure = next(failure for failure in failing.failures(plan) if failure.element == "10.255.0.5")
-        self.assertEqual(len(failing.pinged(plan, 5)), 56 + 6)
-        self.assertEqual(len(failing.pinged(plan, 3)), 56 + 7)
+        failure = next(failure for failure in failures.failures(plan) if failure.element == "10.255.0.5")
+        self.assertEqual(len(failures.pinged(plan, 5)), 56 + 6)
+        self.assertEqual(len(failures.pinged(plan, 3)), 56 + 7)
         with mock.patch.object(forwarding, "lost_by_mrt", lambda *_: {(1, 8), (2, 8), (2, 3)}):
             parted = forwarding.parted_pairs(mock.Mock(), plan, failure)
             self.assertEqual(parted, {(1, 8), (8, 1), (2, 8), (8, 2), (2, 3), (3, 2), (2, network.SHARED)})
@@ -155,7 +157,7 @@ class Failures(unittest.TestCase):
     def test_static_routes_of_frr_that_word_takes_away(self) -> None:
         """Those whose next hop is gone, of the primaries alone, in the words of FRR."""
         lab = mock.Mock(running={3: Running([], "/r3"), 4: Running([], "/r4")})
-        installed = statics.Static(mock.Mock(plan=network.PLAN), mock.Mock(), "", [], lab)
+        installed = static_routes.Static(mock.Mock(plan=network.PLAN), mock.Mock(), "", [], lab)
         primary, row = (
             "ip route 10.255.0.7/32 198.51.100.7 to-lan",
             "ip route 10.255.0.7/32 198.51.100.7 to-lan table 7811",
@@ -170,9 +172,9 @@ class Failures(unittest.TestCase):
             self.assertEqual(begun.call_args.args[0], ["vtysh", "--vty_socket", "/r3", "-d", "staticd"])
             self.assertEqual(installed.ready("replace", gone)[0].text, f"configure terminal\n{primary}\n")
         # Word takes a while, and on a link of two routers there is none.
-        port = next(failure for failure in failing.failures(network.PLAN) if failure.gone)
+        port = next(failure for failure in failures.failures(network.PLAN) if failure.gone)
         self.assertEqual(
-            [installed.in_flight(each) for each in (port, port._replace(gone=[]))], [statics.UNTIL_WORD, 1]
+            [installed.in_flight(each) for each in (port, port._replace(gone=[]))], [static_routes.UNTIL_WORD, 1]
         )
 
     def test_the_picture(self) -> None:
@@ -224,7 +226,7 @@ class Changes(unittest.TestCase):
         self.assertEqual((len(chosen), {6, 9} & {one for pair in chosen for one in pair}), (42, set()))
 
     def test_a_large_network_is_pinged_less_often(self) -> None:
-        self.assertEqual([pinging.gap_of(pairs) for pairs in (2, 72, 90, 240)], [10, 10, 10, 27])
+        self.assertEqual([pings.gap_of(pairs) for pairs in (2, 72, 90, 240)], [10, 10, 10, 27])
 
     def test_what_a_change_cost(self) -> None:
         lost = [
@@ -252,8 +254,8 @@ class Changes(unittest.TestCase):
 
     def test_an_answer_that_comes_late_is_no_loss(self) -> None:
         spaces = mock.Mock(plan=network.PLAN)
-        with mock.patch.object(pinging.subprocess, "Popen") as begun, mock.patch.object(pinging.Pinging, "counters"):
-            pinging.Pinging(spaces, [(1, 2), (1, 3)], 5)
+        with mock.patch.object(pings.subprocess, "Popen") as begun, mock.patch.object(pings.Pinging, "counters"):
+            pings.Pinging(spaces, [(1, 2), (1, 3)], 5)
         words = begun.call_args.args[0]
         self.assertGreater(int(words[words.index("-t") + 1]), int(words[words.index("-p") + 1]))
 

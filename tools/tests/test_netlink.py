@@ -7,17 +7,18 @@ import sys
 import unittest
 from unittest import mock
 
-from mrttools import netlink
-from mrttools.netlink import News
+from mrttools.agent import netlink
+from mrttools.agent.netlink import News
 from tests.making import TOOLS
 
 # Run in a namespace of its own: what both readers have of it, and the news of a change.
 PROGRAM = """
 import tempfile
 import tracemalloc
-from mrttools import batch, kernel, netlink
-from mrttools.batch import Linux
-from mrttools.here import Here
+from mrttools.agent import batch, netlink
+from mrttools.router import kernel
+from mrttools.agent.batch import Linux
+from mrttools.agent.own_kernel import Here
 
 def run(text):
     Linux().run("ip", "-batch", "-", text=text)
@@ -67,12 +68,12 @@ ip.run("nft", "add", "table", "ip", "other")
 assert here.news().marks and not here.news().marks
 
 # What an agent has left goes, with its settings.
-from mrttools import agent_work
-from mrttools.settings import ROOT, Settings
+from mrttools.agent import commands
+from mrttools.agent.settings import ROOT, Settings
 folder, name = tempfile.mkdtemp(), f"{ROOT}/conf/a/accept_local"
 here.mark(kernel.marking(kernel.POOL, {"a"}))
 assert Settings(f"{folder}/settings.json").apply(["a"]) and open(name).read() == "1\\n"
-assert agent_work.remove(folder) == 0
+assert commands.remove(folder) == 0
 assert (here.state(), here.marks(), open(name).read()) == (batch.NOTHING, "", "0\\n")
 assert here.daemon_routes(frozenset({"10.1.0.0/16"})) == {"10.1.0.0/16"}
 

@@ -13,13 +13,14 @@ import unittest
 from typing import Callable, ClassVar, Iterator
 from unittest import mock
 
-from mrttools import exposure, listing, lsas, ospfapi, sockets
-from mrttools.daemons import Frr
-from mrttools.hearing import instance_of
+from mrttools import lsas
+from mrttools.agent import daemon_list, exposure, ospfapi, sockets
+from mrttools.lab.daemons import Frr
+from mrttools.agent.sniffer import instance_of
 from mrttools.lsas import Key, address, lsa_of
-from mrttools.network import Network, Plan, Wire, link
-from mrttools.ospfapi import Api, ApiFault, Limits, Server, message
-from mrttools.running import Lab
+from mrttools.lab.network import Network, Plan, Wire, link
+from mrttools.agent.ospfapi import Api, ApiFault, Limits, Server, message
+from mrttools.lab.running_network import Lab
 from tests.making import DATA, MRT, lsa, network_lsa, pair, router_lsa
 from tests.spaces import inside, lacks
 
@@ -705,8 +706,8 @@ class Routers(unittest.TestCase):
         cls.configure(router, "router ospf", "timers throttle lsa all 0", "timers lsa min-arrival 0")
 
     @classmethod
-    def lists_of(cls, router: int) -> listing.Client:
-        return listing.Client("frr", cls.lab.running[router].folder, 0)
+    def lists_of(cls, router: int) -> daemon_list.Client:
+        return daemon_list.Client("frr", cls.lab.running[router].folder, 0)
 
     @classmethod
     def settle(cls) -> None:

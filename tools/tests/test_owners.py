@@ -6,15 +6,16 @@ import tempfile
 import unittest
 from ipaddress import IPv4Network
 
-from mrttools import lsas, owners
+from mrttools import lsas
+from mrttools.router import owners
 from mrttools.area import node_of
-from mrttools.ending import ToolFault
-from mrttools.kernel import Interfaces
+from mrttools.exits import ToolFault
+from mrttools.router.kernel import Interfaces
 from mrttools.lsas import address, lsa_of
-from mrttools.network import PLAN, router_id
-from mrttools.nexthops import Ways
-from mrttools.owners import Daemon, Prefix
-from mrttools.prefixes import Prefixes
+from mrttools.lab.network import PLAN, router_id
+from mrttools.router.nexthops import Ways
+from mrttools.router.owners import Daemon, Prefix
+from mrttools.router.prefixes import Prefixes
 from mrttools.program import Program
 from tests.making import MRT, TOOLS, lsa, router_lsa
 from tests.test_fib import lsas_of

@@ -15,7 +15,7 @@ from html.parser import HTMLParser
 from typing import Any
 from unittest import mock
 
-from mrttools import installed, page, verdict
+from mrttools.page import html, installed, verdict
 from mrttools.progress import Progress
 from tests.making import DATA, MRT, TOOLS, router_lsa
 from tests.test_cuts import name, records_of
@@ -121,7 +121,7 @@ class FirstLine(Case):
         tool = types.ModuleType("report")
         loader.exec_module(tool)
         words = ["report", "--mrt", MRT, f"{DATA}/lan.lsas", f"{DATA}/lan.profile"]
-        with mock.patch("sys.argv", words), mock.patch("mrttools.causes.WhyNot.of", lambda *_: ()):
+        with mock.patch("sys.argv", words), mock.patch("mrttools.page.causes.WhyNot.of", lambda *_: ()):
             found = Page(tool.report(tool.words(), Progress("report", io.StringIO())))
         self.assertTrue(found.of("verdict").startswith("\u2716 A fault of ours."), found.of("verdict"))
         self.assertIn("nothing explains it: a fault of ours", found.of("gaps"))
@@ -170,7 +170,7 @@ class Pages(Case):
         self.assertEqual(len(sections), 9 + 7)
         self.assertIn(
             "10.255.1.6 has 5 destinations over it: 5 have no way left.",
-            found.of(page.anchor("link:10.255.1.3/192.0.2.17")),
+            found.of(html.anchor("link:10.255.1.3/192.0.2.17")),
         )
 
     def test_what_is_not_repaired_though_there_is_a_way(self) -> None:
@@ -185,13 +185,13 @@ class Pages(Case):
             ("link:10.255.1.4/198.51.100.4", "12 pairs could be repaired and are not, by choice; 4 of 16 pairs repaired"),
             ("net:198.51.100.4", "6 pairs could be repaired and are not, by choice; 16 pairs parted; 4 of 26 pairs repaired"),
         ):
-            place = page.anchor(element)
+            place = html.anchor(element)
             summary = self.source.split(f'id="{place}"')[0]
             self.assertIn(told, " ".join(re.sub("<[^>]*>", " ", summary[summary.rindex("<summary>") :]).split()))
             self.assertIn("Not repaired, though there is a way: 10.255.1.4 to 10.255.1.1, ", found.of(place))
 
     def test_the_style_has_what_it_should(self) -> None:
-        style = page.file_text("report.css")
+        style = html.file_text("report.css")
         for words in ("prefers-color-scheme: dark", "max-width: 600px", "@media print", ":focus-visible"):
             self.assertIn(words, style)
 
@@ -224,7 +224,7 @@ class InABrowser(Case):
         return Page(done.stdout)
 
     def test_a_failure_opens_by_its_link(self) -> None:
-        place = page.anchor("link:10.255.1.3/192.0.2.17")
+        place = html.anchor("link:10.255.1.3/192.0.2.17")
         closed = sum("open" in each for each in self.dom().all("details"))
         self.assertGreaterEqual(sum("open" in each for each in self.dom(f"#{place}").all("details")), closed + 1)
 
@@ -292,7 +292,7 @@ class Lacking(unittest.TestCase):
     @unittest.skipUnless(os.access(MRT, os.X_OK), "the program is not built")
     def test_jinja(self) -> None:
         done = self.run_without()
-        self.assertEqual((done.returncode, done.stdout, done.stderr), (8, "", f"report: {page.LACKS}\n"))
+        self.assertEqual((done.returncode, done.stdout, done.stderr), (8, "", f"report: {html.LACKS}\n"))
         done = self.run_without("--json")
         self.assertEqual((done.returncode, done.stderr), (0, ""))
         self.assertEqual(json.loads(done.stdout)["format"], "semborui-report")
@@ -302,7 +302,7 @@ class Lacking(unittest.TestCase):
         wanted = "a picture needs Debian's graphviz"
         done = self.run_without(path="/nonexistent")
         self.assertEqual((done.returncode, done.stdout), (8, ""))
-        lacks = f"{wanted}; --json writes the facts without it" if HAS_JINJA else page.LACKS
+        lacks = f"{wanted}; --json writes the facts without it" if HAS_JINJA else html.LACKS
         self.assertEqual(done.stderr, f"report: {lacks}\n")
         self.assertEqual(self.run_without("--json", path="/nonexistent").returncode, 0)
         done = self.run_without("10.255.1.1", tool="draw", path="/nonexistent")
@@ -334,7 +334,7 @@ class Runs(unittest.TestCase):
 class Parts(unittest.TestCase):
     def test_a_share_that_is_not_all_is_not_told_as_all(self) -> None:
         self.assertEqual(
-            [page.percent(*each) for each in ((9999, 10000), (1, 10000), (3, 3), (0, 3), (0, 0))],
+            [html.percent(*each) for each in ((9999, 10000), (1, 10000), (3, 3), (0, 3), (0, 0))],
             ["99.9 %", "0.1 %", "100 %", "0 %", "\u2013"],
         )
 
@@ -357,9 +357,9 @@ class Parts(unittest.TestCase):
         self.assertEqual(verdict.verdict({"pairs": {"all": 2, "repaired": 0}, "gaps": [], "installed": None}), "not")
 
     def test_signs_can_be_told_without_color(self) -> None:
-        self.assertEqual(len({page.SIGNS[state] for state in ("protected", "in-part", "not")}), 3)
-        self.assertEqual(len(set(page.CELLS.values())), len(page.CELLS))
+        self.assertEqual(len({html.SIGNS[state] for state in ("protected", "in-part", "not")}), 3)
+        self.assertEqual(len(set(html.CELLS.values())), len(html.CELLS))
 
     def test_anchors(self) -> None:
-        self.assertEqual(page.anchor("link:10.0.0.1/0.0.0.3"), "f-link-10.0.0.1-0.0.0.3")
-        self.assertTrue(re.fullmatch(r"[\w.-]+", page.anchor("net:1.2.3.4")))
+        self.assertEqual(html.anchor("link:10.0.0.1/0.0.0.3"), "f-link-10.0.0.1-0.0.0.3")
+        self.assertTrue(re.fullmatch(r"[\w.-]+", html.anchor("net:1.2.3.4")))

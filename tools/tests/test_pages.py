@@ -8,7 +8,7 @@ import tempfile
 import unittest
 from typing import ClassVar
 
-from mrttools import transcripts
+from mrttools.repository import transcripts
 from tests.making import MRT, TOOLS
 
 ROOT = os.path.dirname(TOOLS)

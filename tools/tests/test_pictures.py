@@ -10,11 +10,12 @@ from itertools import permutations
 from random import Random
 from xml.etree import ElementTree
 
-from mrttools import area, asking, certificate, layout, lsas, names, picture, svg
+from mrttools import area, certificate, lsas, names
+from mrttools.page import client, layout, picture, svg
 from mrttools.area import Node
-from mrttools.ending import ToolFault
-from mrttools.layout import Size
-from mrttools.picture import Arrow, Course, Failure, Island, Style
+from mrttools.exits import ToolFault
+from mrttools.page.layout import Size
+from mrttools.page.picture import Arrow, Course, Failure, Island, Style
 from tests import making
 from tests.making import DATA, TOOLS, found
 
@@ -236,11 +237,11 @@ class Hops(unittest.TestCase):
     def test_of_parallel_links_the_cheaper_and_then_the_lesser_data(self) -> None:
         links = area.links_at(sample().area)
         for tail, far in ((2, 5), (5, 2)):
-            (_, bond), *more = asking.hop(links, router(tail), router(far))
+            (_, bond), *more = client.hop(links, router(tail), router(far))
             self.assertEqual((lsas.spelled(bond.data_a), more), ("192.0.2.5", []))
 
     def test_over_a_network(self) -> None:
-        way = asking.hop(area.links_at(sample().area), router(4), router(3))
+        way = client.hop(area.links_at(sample().area), router(4), router(3))
         self.assertEqual([tail for tail, _ in way], [router(4), LAN])
 
 

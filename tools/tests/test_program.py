@@ -8,10 +8,11 @@ import unittest
 from typing import Mapping, Sequence
 from unittest import mock
 
-from mrttools import batch, library, program
+from mrttools import library, program
+from mrttools.agent import batch
 from mrttools.library import libmrt
-from mrttools.batch import Linux, Refusal
-from mrttools.ending import ToolFault
+from mrttools.agent.batch import Linux, Refusal
+from mrttools.exits import ToolFault
 from mrttools.program import Program
 
 STAND_IN = """#!/bin/sh

@@ -10,12 +10,13 @@ from io import StringIO
 from random import Random
 from typing import Any, ClassVar
 
-from mrttools import agreeing, area, facts, islands, lsas, reporting
+from mrttools import area, lsas
+from mrttools.page import cross_check, facts, islands, plain_values
 from mrttools.area import Bond, Node
 from mrttools.paths import FAR, METRIC, Graph
 from mrttools.progress import Progress
 from mrttools.program import Program
-from mrttools.stretches import Spread
+from mrttools.page.stretches import Spread
 from tests.making import DATA, MRT, TOOLS, router_lsa
 from tests.test_cuts import connected, name, records_of
 
@@ -145,7 +146,7 @@ class Written:
         with open(profile, "w", encoding="ascii") as file:
             file.write(random.choice(["", "", f"no-mrt {name(count)}\n", f"ineligible {name(2)} 10.0.0.2\n"]))
         self.mrt = Program(MRT, self.database, profile)
-        self.found = reporting.find(self.mrt, lambda *_: None)
+        self.found = plain_values.find(self.mrt, lambda *_: None)
         self.facts, self.graph = self.found.facts, self.found.facts.graph
 
     def lines(self, *words: str) -> list[list[str]]:
@@ -199,7 +200,7 @@ class BesideTheProgram(unittest.TestCase):
                 texts = [one.graph.nodes[each].text for each in (router, target)]
                 words = [*texts, "repair", facts.name_of(one.graph, failed)]
                 told = one.lines("trace", one.database, one.mrt.profile, *words)[1:]
-                own = agreeing.trace(one.facts, router, target, failed)
+                own = cross_check.trace(one.facts, router, target, failed)
                 self.assertEqual([" ".join(line) for line in told], own)
 
         written(3, check, 6)
@@ -216,7 +217,7 @@ class BesideAPlainSearch(unittest.TestCase):
         elements = range(len(one.graph.bonds) + len(one.graph.nodes))
         before, _ = self.loads_after(one, None)
         after = {failed: self.loads_after(one, failed) for failed in elements}
-        for place, own in enumerate(reporting.load_values(one.facts)):
+        for place, own in enumerate(plain_values.load_values(one.facts)):
             self.assertEqual(own["primaries"], before[place])
             self.assertEqual(
                 own["most"], max(loads[place] for failed, (loads, _) in after.items() if failed != place)
@@ -292,7 +293,7 @@ class BesideAPlainSearch(unittest.TestCase):
                     counts[way] += 1
                     classes[pair] = "gaps" if way or classes[pair] == "gaps" else "parted"
             self.assertEqual((toll.parted, toll.gaps), tuple(counts))
-        told = reporting.pair_values(one.facts)
+        told = plain_values.pair_values(one.facts)
         for word in ("repaired", "parted", "gaps"):
             self.assertEqual(told[word], list(classes.values()).count(word))
         self.assertEqual(sum(tally.pairs for tally in one.found.tallies.values()), told["gaps"])
@@ -310,8 +311,8 @@ class BesideAPlainSearch(unittest.TestCase):
             lines = file.read()
         for causes, tally in one.found.tallies.items():
             if lines and all(cause.by_choice for cause in causes):
-                found = reporting.find(Program(MRT, one.database, "-"), lambda *_: None)
-                more = reporting.pair_values(found.facts)["repaired"] - reporting.pair_values(one.facts)["repaired"]
+                found = plain_values.find(Program(MRT, one.database, "-"), lambda *_: None)
+                more = plain_values.pair_values(found.facts)["repaired"] - plain_values.pair_values(one.facts)["repaired"]
                 self.assertGreaterEqual(more, tally.alone)
                 if all(bond.transit for bond in one.graph.bonds):
                     # Nothing else could be the cause.

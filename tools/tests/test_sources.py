@@ -5,12 +5,24 @@ import unittest
 from typing import Iterator
 from unittest import mock
 
-from mrttools import exposure, hearing, sources
-from mrttools.hearing import Caught, Database, Heard, Look, Neighbor, instance_of
-from mrttools.kernel import Interfaces
+from mrttools.agent import exposure, sniffer, sources
+from mrttools.agent.sniffer import Caught, Database, Heard, Look, Neighbor, instance_of
+from mrttools.router.kernel import Interfaces
 from mrttools.lsas import Lsa, address, lsa_of
-from mrttools.ospfapi import ApiFault
-from mrttools.sources import AGAIN, COMPARED, DISTRUSTED, LATER, ON_ITS_WAY, SILENT, SOON, Ears, Told, Word, usable
+from mrttools.agent.ospfapi import ApiFault
+from mrttools.agent.sources import (
+    AGAIN,
+    COMPARED,
+    DISTRUSTED,
+    LATER,
+    ON_ITS_WAY,
+    SILENT,
+    SOON,
+    Ears,
+    Told,
+    Word,
+    usable,
+)
 from tests.making import datagram, pair, router_lsa, update
 
 NAMES = Interfaces({})
@@ -179,7 +191,7 @@ class TheEars(unittest.TestCase):
             self.asked += 1
             return self.daemon
 
-        patch = mock.patch.object(hearing, "packets", packets)
+        patch = mock.patch.object(sniffer, "packets", packets)
         patch.start()
         self.addCleanup(patch.stop)
         known = map(lsa_of, pair()[:1])

@@ -1,0 +1,94 @@
+"""What tools/agent does by its words: it keeps tables until a signal comes, says how one does, or takes away what one has
+left."""
+from __future__ import annotations
+
+import argparse
+import json
+import os
+
+from mrttools import files, lsas
+from . import batch, daemon_list, exposure, lock, ospfapi, sniffer, status
+from mrttools.router import kernel
+from .surroundings import Around, Source
+from .batch import NOTHING, Linux
+from mrttools.exits import REFUSED, ToolFault
+from .own_kernel import Here
+from .sniffer import Heard
+from .loop import Agent, tell
+from mrttools.lsas import Lsa
+from .settings import Settings
+from .sources import Ears, Word
+from mrttools.signals import Waiting, notify
+from .file_watch import watched
+
+SETTINGS = "settings.json"
+
+
+def kept(folder: str) -> list[Lsa]:
+    """The LSAs of the table before, if there was one."""
+    try:
+        with open(os.path.join(folder, "area.lsas"), "rb") as file:
+            return list(lsas.split(file.read()))
+    except OSError:
+        return []
+
+
+def source_of(said: argparse.Namespace) -> Source:
+    """Where LSAs come from."""
+    client, source = daemon_list.Client(said.daemon, said.socket, said.area), sniffer.ears()
+
+    def ears(known: list[Lsa]) -> Ears:
+        return Ears(client, source, Heard(said.area, said.router, known or kept(said.folder)))
+
+    if said.daemon == "frr":
+        return Word(said.area, ears, said.open_api, tell)
+    return ears([])
+
+
+def refuse_exposed(said: argparse.Namespace) -> None:
+    """Does not start beside an OSPF API that others can reach: who speaks to it can put LSAs into the area."""
+    exposed = exposure.open_to_others(ospfapi.PORT) if said.daemon == "frr" and not said.open_api else None
+    if exposed:
+        raise ToolFault(f"{exposed}: close it, or say --open-api", REFUSED)
+
+
+def keep(said: argparse.Namespace) -> int:
+    """Keeps the router's tables."""
+    waiting = Waiting()
+    refuse_exposed(said)
+    with lock.lock_folder(said.folder), lock.lock_namespace():
+        files.clear_parts(said.folder)
+        tell(f"the program is {said.mrt}")
+        settings = Settings(os.path.join(said.folder, SETTINGS))
+        watch = watched(said.profile)
+        agent = Agent(said, Around(Here(said.daemon), source_of(said), settings, waiting.wait, profile=watch))
+        notify("READY=1")
+        keep_until_end(agent, said)
+    return 0
+
+
+def keep_until_end(agent: Agent, said: argparse.Namespace) -> None:
+    """Works until a signal comes; with --strict no table is left then."""
+    try:
+        agent.work()
+    finally:
+        notify("STOPPING=1")
+        if said.strict and not said.dry_run:
+            agent.take_away()
+
+
+def print_status(folder: str, as_json: bool) -> int:
+    facts = status.read(folder)
+    print(json.dumps(facts, indent=1) if as_json else "\n".join(status.lines_of(facts)))
+    return 0
+
+
+def remove(folder: str) -> int:
+    """Takes away the routes, rules and marks, and puts the settings back."""
+    with lock.lock_folder(folder), lock.lock_namespace():
+        here = Linux()
+        batch.put(here, NOTHING)
+        here.mark(kernel.NO_MARKING)
+        Settings(os.path.join(folder, SETTINGS)).put_back()
+        status.taken_away(folder)
+    return 0

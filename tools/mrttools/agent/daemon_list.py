@@ -1,0 +1,178 @@
+"""What FRR and BIRD say of an area: which LSAs are in its database, which instance of each, and who the neighbors
+are."""
+from __future__ import annotations
+
+import json
+import re
+import subprocess
+from typing import Any, Iterator
+
+from mrttools import lsas
+from .sniffer import Database, Look, Neighbor
+from mrttools.lsas import MAX_AGE, NETWORK, ROUTER, Key
+
+# Seconds in which a daemon answers.
+PATIENCE = 10
+# The states in which a neighbor sends LSAs.
+EXCHANGES = {"Exchange", "Loading", "Full"}
+# What is wrong with an answer that is none.
+NO_ANSWER = ValueError, KeyError, TypeError, AttributeError
+
+
+# FRR
+
+
+def frr(text: str, area: int) -> Database | None:
+    """The area's live LSAs in the answer of FRR; none where that has no such area."""
+    try:
+        return {key: instance for key, instance, _ in frr_lsas(json.loads(text), area)}
+    except NO_ANSWER:
+        return None
+
+
+def frr_lsas(said: Any, area: int) -> Iterator[tuple[Key, tuple[int, int], int | None]]:
+    """Each live LSA: its key, its instance, and of a router-LSA how many links it has."""
+    listed = said["areas"][lsas.spelled(area)]
+    for kind, name in ((ROUTER, "routerLinkStates"), (NETWORK, "networkLinkStates")):
+        for each in listed.get(name, []):
+            if each["lsaAge"] < MAX_AGE:
+                key = Key(kind, lsas.address(each["lsId"]), lsas.address(each["advertisedRouter"]))
+                yield key, (int(each["sequenceNumber"], 16), int(each["checksum"], 16)), each.get("numOfRouterLinks")
+
+
+def frr_look(answers: list[str], area: int) -> Look | None:
+    """All that FRR says of an area, in one answer."""
+    try:
+        database, networks, interfaces, neighbors = values_in("".join(answers))
+        found = list(frr_lsas(database, area))
+        # (a network-LSA that came between the two questions has no size that any has)
+        sizes = {key: -1 if size is None else size for key, _, size in found}
+        for each in networks["networkLinkStates"]["areas"].get(lsas.spelled(area), []):
+            key = Key(NETWORK, lsas.address(each["linkStateId"]), lsas.address(each["advertisingRouter"]))
+            sizes[key] = each["length"]
+        inside = {name for name, each in interfaces["interfaces"].items() if each.get("area") == lsas.spelled(area)}
+        return Look({key: instance for key, instance, _ in found}, sizes, frr_neighbors(neighbors, inside))
+    except NO_ANSWER:
+        return None
+
+
+def values_in(text: str) -> list[Any]:
+    """The values of JSON that stand one after another."""
+    found, decoder, at = [], json.JSONDecoder(), 0
+    while text[at:].strip():
+        at += len(text[at:]) - len(text[at:].lstrip())
+        value, at = decoder.raw_decode(text, at)
+        found.append(value)
+    return found
+
+
+def frr_neighbors(said: Any, inside: set[str]) -> frozenset[Neighbor]:
+    """The neighbors on some interfaces."""
+    found = set()
+    for router, group in said["neighbors"].items():
+        for each in group:
+            device = each["ifaceName"].rsplit(":", 1)[0]
+            if device in inside and each["state"].split("/")[0] in EXCHANGES:
+                found.add(Neighbor(device, lsas.address(each["address"]), lsas.address(router)))
+    return frozenset(found)
+
+
+# BIRD
+
+
+def bird(text: str, area: int) -> Database | None:
+    """The area's live LSAs in the answer of BIRD; none where that has no such area."""
+    found: Database = {}
+    here = there = False
+    for line in text.splitlines():
+        heading = re.fullmatch(r"(?:Area (\S+)|Global|Link .*)", line.strip())
+        if heading:
+            here = heading[1] == lsas.spelled(area)
+            there |= here
+        fields = re.match(r"\s*000([12])\s+(\S+)\s+(\S+)\s+([0-9a-f]{8})\s+(\d+)\s+([0-9a-f]{4})", line)
+        if here and fields and int(fields[5]) < MAX_AGE:
+            key = Key(int(fields[1]), lsas.address(fields[2]), lsas.address(fields[3]))
+            found[key] = int(fields[4], 16), int(fields[6], 16)
+    return found if there else None
+
+
+def bird_look(answers: list[str], area: int) -> Look | None:
+    """All that BIRD says of an area. Of the size of an LSA it says nothing."""
+    database, interfaces, neighbors = answers
+    listed = bird(database, area)
+    inside, device = set(), ""
+    for line in interfaces.splitlines():
+        heading, said = re.match(r"Interface (\S+) ", line), re.match(r"\s+Area: (\S+)", line)
+        if heading:
+            device = heading[1]
+        elif said and said[1] == lsas.spelled(area):
+            inside.add(device)
+    found = set()
+    for line in neighbors.splitlines():
+        fields = re.match(r"([\d.]+)\s+\d+\s+([^/\s]+)\S*\s+\S+\s+(\S+)\s+([\d.]+)\s*$", line)
+        if fields and fields[3] in inside and fields[2] in EXCHANGES:
+            found.add(Neighbor(fields[3], lsas.address(fields[4]), lsas.address(fields[1])))
+    return None if listed is None else Look(listed, {}, frozenset(found))
+
+
+# asking
+
+
+class Client:
+    """A daemon that is asked."""
+
+    def __init__(self, daemon: str, socket: str | None, area: int) -> None:
+        self.area = area
+        self.words, option, self.list, self.all, self.read, self.read_all = LISTS[daemon]
+        self.words = [self.words[0], *([option, socket] if socket else []), *self.words[1:]]
+
+    def answer(self, question: list[str]) -> str | None:
+        """What it says; none where it does not answer."""
+        words = [*self.words, *question]
+        try:
+            done = subprocess.run(words, stdin=subprocess.DEVNULL, capture_output=True, timeout=PATIENCE, check=False)
+        except subprocess.TimeoutExpired:
+            return None
+        return done.stdout.decode("utf-8", "replace") if done.returncode == 0 else None
+
+    def database(self) -> Database | None:
+        """What it lists; none where it does not answer."""
+        said = self.answer(self.list)
+        return None if said is None else self.read(said, self.area)
+
+    def look(self) -> Look | None:
+        """All that it says of the area; none where it does not answer."""
+        answers = []
+        for question in self.all:
+            said = self.answer(question)
+            if said is None:
+                return None
+            answers.append(said)
+        return self.read_all(answers, self.area)
+
+
+def of_frr(*questions: str) -> list[str]:
+    """Words by which vtysh asks several things at once."""
+    return [word for question in questions for word in ("-c", f"show ip ospf {question} json")]
+
+
+# How each is asked: the program, the option for its socket, the question for its list, those for all that it says, and
+# who reads the answers.
+LISTS = {
+    "frr": (
+        ["vtysh", "-d", "ospfd"],
+        "--vty_socket",
+        of_frr("database"),
+        [of_frr("database", "database network", "interface", "neighbor")],
+        frr,
+        frr_look,
+    ),
+    "bird": (
+        ["birdc", "-r"],
+        "-s",
+        ["show ospf lsadb"],
+        [["show ospf lsadb"], ["show ospf interface"], ["show ospf neighbors"]],
+        bird,
+        bird_look,
+    ),
+}
