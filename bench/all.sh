@@ -40,4 +40,4 @@ echo "peak, their multiple of that file, and how many times longer twice the nod
 echo
 # (no survey is of these networks)
 forms=certify,check,upgrade,table,trace,fabric-ten,proxy,lfa,order,flood
-exec "$here/measure/shapes.py" --program "$program" --shapes ring,mesh,chain-of-rings,spur --forms $forms --markdown --check "$@"
+PYTHONPATH=$(dirname "$here") exec python3 -m bench.measure.shapes --program "$program" --shapes ring,mesh,chain-of-rings,spur --forms $forms --markdown --check "$@"

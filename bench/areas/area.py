@@ -1,7 +1,6 @@
-#!/usr/bin/env python3
 """Writes a large area whose island is one router: its database, its profile and the certificate.
 
-usage: area.py circle|bundles|star N DATABASE PROFILE CERTIFICATE
+usage: python3 -m bench.areas.area circle|bundles|star N DATABASE PROFILE CERTIFICATE
 
 circle: N routers, each linked to the four next ones; 4,096 make the largest area, with 32,768 arcs.
 bundles: eight routers in pairs, each pair with N parallel links.
@@ -11,13 +10,10 @@ The profile takes the neighbours of router 1 out of the island, so that the cert
 import sys
 from random import Random
 
-import folders
+from bench.areas import areas
+from bench.reference import certificate, certify, lowpoint
+from bench.reference.lsas import spelled
 
-import areas
-import certificate
-import certify
-import lowpoint
-from lsas import spelled
 
 SHAPES = {"circle": areas.circle, "bundles": areas.bundles, "star": areas.star}
 

@@ -1,5 +1,5 @@
 """Areas as databases for the other scripts: worked shapes, random areas, and the largest ones."""
-from lsas import MAX_LINK_METRIC, POINT_TO_POINT, TRANSIT, address, network_lsa, router_lsa
+from bench.reference.lsas import MAX_LINK_METRIC, POINT_TO_POINT, TRANSIT, address, network_lsa, router_lsa
 
 
 def write(path, data):

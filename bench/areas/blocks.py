@@ -1,9 +1,8 @@
 """Random areas of many blocks: rings, cliques, bundles of links, LANs, trees and meshes that hang at one another, in a chain, in a tree or at one
 router. Router IDs are those of the worked shapes, 1.1.1.1 and so on, in any order; a LAN may be where blocks meet."""
 
-import areas
-import graphs
-from lsas import MAX_LINK_METRIC
+from bench.areas import areas, graphs
+from bench.reference.lsas import MAX_LINK_METRIC
 
 MOST = 250
 

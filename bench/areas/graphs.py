@@ -7,8 +7,8 @@ from collections import namedtuple
 from itertools import combinations
 from random import Random
 
-import areas
-from lsas import TRANSIT, address, network_lsa
+from bench.areas import areas
+from bench.reference.lsas import TRANSIT, address, network_lsa
 
 # The bytes of a database; two routers of one block, none where no two routers have one; the words of a survey of the same network, if there is one.
 Made = namedtuple("Made", "data ends survey", defaults=[None])

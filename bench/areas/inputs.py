@@ -4,11 +4,10 @@ links and the node farthest from it, the first link of the primary for it, which
 import os
 from collections import Counter
 
-import areas
-import certify
-import table
-from database import ROUTER, text_of
-from lsas import records_of, spelled, updates
+from bench.areas import areas
+from bench.reference import certify, table
+from bench.reference.database import ROUTER, text_of
+from bench.reference.lsas import records_of, spelled, updates
 
 # A router with no more links than this has no form of its own for the router with most links.
 FEW = 8

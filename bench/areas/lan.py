@@ -1,7 +1,6 @@
-#!/usr/bin/env python3
 """Writes a sample with a LAN: an area's database, a profile, and the certificate of the island under that profile.
 
-usage: lan.py sample CERTIFICATE DATABASE PROFILE
+usage: python3 -m bench.areas.lan sample CERTIFICATE DATABASE PROFILE
 
 Routers 10.255.1.1 to 10.255.1.4 are on the LAN 198.51.100.0/29, with 10.255.1.4 as its designated router. The others:
 
@@ -13,11 +12,10 @@ Routers 10.255.1.1 to 10.255.1.4 are on the LAN 198.51.100.0/29, with 10.255.1.4
 """
 import sys
 
-import folders
+from bench.areas import areas
+from bench.reference import certify
+from bench.reference.lsas import POINT_TO_POINT, STUB, TRANSIT, address, lsa, network_lsa, router_lsa
 
-import areas
-import certify
-from lsas import POINT_TO_POINT, STUB, TRANSIT, address, lsa, network_lsa, router_lsa
 
 LAN, LAN_MASK = address("198.51.100.0"), 0xFFFFFFF8
 DESIGNATED = 4

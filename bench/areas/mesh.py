@@ -1,7 +1,6 @@
-#!/usr/bin/env python3
 """Writes the database of a grid of routers, 32 in a row, and the certificate of its island.
 
-usage: mesh.py ROUTERS CERTIFICATE DATABASE [SEED]
+usage: python3 -m bench.areas.mesh ROUTERS CERTIFICATE DATABASE [SEED]
 
 ROUTERS is a multiple of 32. Router 1 is the first of the first row, and the last router is the root. Each router is linked to the next one
 in its row and to the one below it. The metric of each link is 1; with a seed the metrics are random, from 1 to 64 and each way its own.
@@ -9,12 +8,9 @@ in its row and to the one below it. The metric of each link is 1; with a seed th
 import sys
 from random import Random
 
-import folders
+from bench.areas import areas
+from bench.reference import certificate, certify, lowpoint
 
-import areas
-import certificate
-import certify
-import lowpoint
 
 WIDE = 32
 

@@ -1,7 +1,6 @@
-#!/usr/bin/env python3
 """Writes an area like a provider's, with the names and the sites of its routers, to try the report on.
 
-usage: provider.py ROUTERS FOLDER [SEED]
+usage: python3 -m bench.areas.provider ROUTERS FOLDER [SEED]
 
 FOLDER gets area.lsas, area.profile, area.names, area.sites and area.weights. Each site has two routers of the core and two that
 aggregate; access routers hang on these in rings of up to five, some by one link, and at every third site three of them are on a LAN.
@@ -12,10 +11,9 @@ import os
 import sys
 from random import Random
 
-import folders
+from bench.areas import areas
+from bench.reference.lsas import MAX_LINK_METRIC, POINT_TO_POINT, TRANSIT, address, network_lsa, router_lsa, spelled
 
-import areas
-from lsas import MAX_LINK_METRIC, POINT_TO_POINT, TRANSIT, address, network_lsa, router_lsa, spelled
 
 CITIES = "ams ber cph dus ein fra gva ham inn jen kln lej muc nue osl prg qro rom szg trn ulm vie waw xan yps zrh".split()
 A_SITE, RING = 36, 5

@@ -1,7 +1,6 @@
-#!/usr/bin/env python3
 """Writes the certificate of a ring of routers, by its closed form, and the ring's database.
 
-usage: ring.py ROUTERS CERTIFICATE DATABASE
+usage: python3 -m bench.areas.ring ROUTERS CERTIFICATE DATABASE
 
 Routers 1 to n are joined in a ring by links of metric 1; router n is the root. The ear goes from the root to router 1 and around the
 ring, so that router i has order i + 1, and the link of routers n - 1 and n closes the one block.
@@ -9,10 +8,9 @@ ring, so that router i has order i + 1, and the link of routers n - 1 and n clos
 import struct
 import sys
 
-import folders
+from bench.areas import areas
+from bench.reference.lsas import POINT_TO_POINT, router_lsa
 
-import areas
-from lsas import POINT_TO_POINT, router_lsa
 
 PLAIN, CLOSING = 0, 2
 HEAD, TOP, BELOW, ABOVE = 1, 2, 3, 4

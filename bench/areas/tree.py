@@ -1,8 +1,7 @@
-#!/usr/bin/env python3
 """Writes the certificate of an area that is a tree of routers, by its closed form, and the area's database.
 
-usage: tree.py star|line ROUTERS CERTIFICATE DATABASE
-       tree.py sample CERTIFICATE DATABASE
+usage: python3 -m bench.areas.tree star|line ROUTERS CERTIFICATE DATABASE
+       python3 -m bench.areas.tree sample CERTIFICATE DATABASE
 
 The root is the router of the highest ID. In a tree each link is a block of its own: a node's head is the node before it on the way from
 the root, and its block is named by itself. The rows for a neighbour are the link to it; every other row is carried, and left out in version 2.
@@ -10,10 +9,9 @@ the root, and its block is named by itself. The rows for a neighbour are the lin
 import struct
 import sys
 
-import folders
+from bench.areas import areas
+from bench.reference.lsas import POINT_TO_POINT, STUB, address, router_lsa
 
-import areas
-from lsas import POINT_TO_POINT, STUB, address, router_lsa
 
 SOLE_ROLE, SOLE, CARRIED = 1, 0, 6
 

@@ -4,7 +4,7 @@ import shutil
 import subprocess
 import sys
 
-from timing import ROOT
+from bench.measure.timing import ROOT
 
 
 def lines_of_crates():

@@ -1,21 +1,15 @@
-#!/usr/bin/env python3
 """Compares the reference program with worked examples, and with what a certificate promises, on many small random areas.
 
-usage: certify_test.py [AREAS]
+usage: python3 -m bench.measure.certify_test [AREAS]
 """
 import sys
 from random import Random
 
-import folders
+from bench.areas.areas import bundles, numbered, random_area, router, survey_area, worked
+from bench.reference import certificate, certify, flooding, island as islands, lowpoint
+from bench.reference.database import Refused
+from bench.reference.lsas import MAX_LINK_METRIC, POINT_TO_POINT, STUB, address, lsa, records_of, router_lsa, update
 
-import certificate
-import certify
-import flooding
-import island as islands
-import lowpoint
-from areas import bundles, numbered, random_area, router, survey_area, worked
-from database import Refused
-from lsas import MAX_LINK_METRIC, POINT_TO_POINT, STUB, address, lsa, records_of, router_lsa, update
 
 ALONE = router_lsa(router(1), [])
 WITH_STUB = router_lsa(router(1), [(router(1), 0xFFFFFFFF, STUB, 0)])

@@ -1,8 +1,7 @@
-#!/usr/bin/env python3
 """Compares `mrt check`, `certify`, `table`, `trace`, `fabric`, `upgrade`, `lfa`, `order`, `proxy` and `flood` with the reference program on random
 areas, profiles, certificates of both versions, traces, update packets and scripts, whole and damaged.
 
-usage: compare.py [--library FILE] PROGRAM [CASES [SEED]]
+usage: python3 -m bench.measure.compare [--library FILE] PROGRAM [CASES [SEED]]
 
 PROGRAM is the built program. With FILE, a libmrt.so.1, the library is compared too: its top call on all, and its other calls on what they give. Areas have few routers, or many blocks, and one in twenty-five has more than 64 routers or more than 128. Each certificate that
 PROGRAM writes is given to its `check` too. Each case on which the two differ is printed, and its files are left in a folder that is named. A thousand
@@ -16,19 +15,12 @@ import tempfile
 from collections import namedtuple
 from random import Random
 
-import folders
-
-import certificate
-import certify
-import database
-import lowpoint
-from areas import random_area, random_ring, router, write
-from blocks import MOST, random_blocks
-from database import ROUTER, Refused, text_of
-from lsas import address, lsa, records_of, spelled, update
-
-sys.path.insert(0, os.path.join(os.path.dirname(os.path.realpath(__file__)), "..", "..", "examples", "python"))
-import mrt
+from bench.areas.areas import random_area, random_ring, router, write
+from bench.areas.blocks import MOST, random_blocks
+from bench.reference import certificate, certify, database, lowpoint
+from bench.reference.database import ROUTER, Refused, text_of
+from bench.reference.lsas import address, lsa, records_of, spelled, update
+from tools.mrttools.library import libmrt as mrt
 
 COMMANDS = ("check", "certify", "table", "trace", "fabric", "upgrade", "lfa", "order", "proxy", "flood", "check of what was written",
             "upgrade of what was written")

@@ -1,8 +1,7 @@
-#!/usr/bin/env python3
 """Gives the program damaged files, refuses it memory, and has its output fail; prints what was tried and what came of it.
 
-usage: damage.py [RANDOM [SEED]]
-       damage.py --memory    the last two parts alone, of the program that is there; the gate runs them
+usage: python3 -m bench.measure.damage [RANDOM [SEED]]
+       python3 -m bench.measure.damage --memory    the last two parts alone, of the program that is there; the gate runs them
 
 Each byte of two samples is set to 0, to 255 and off by one, each file is cut at each length, and each two of its records are exchanged. RANDOM
 files of each kind follow (100,000). Then each allocation of four commands is refused in turn, and the output is closed, full, or a pipe that
@@ -20,10 +19,9 @@ from itertools import combinations
 from multiprocessing import Pool
 from random import Random
 
-import folders
+from bench.measure import timing
+from bench.reference.lsas import lsa, records_of, update
 
-import timing
-from lsas import lsa, records_of, update
 
 KINDS = "database", "profile", "certificate", "script", "updates", "deliveries"
 LINES = {

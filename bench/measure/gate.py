@@ -1,8 +1,7 @@
-#!/usr/bin/env python3
 """Runs rt ci and prints, after what rt ci prints, the processor minutes of each crate: its proof, its tests, the program that is built of it, the
 ground of its must-fail edits, and these; then the machine.
 
-    bench/measure/gate.py [--to FILE] [--anew] [NAME..]     at the top of the repository; the words after FILE are those of rt ci
+    python3 -m bench.measure.gate [--to FILE] [--anew] [NAME..]     at the top of the repository; the words after FILE are those of rt ci
 
 The status is that of rt ci. Processor time is user and system time of each process that rt starts, as the kernel gives it when the process ends.
 FILE gets a line for each of them, with tabs between: crate, what was done, seconds of the processor, seconds on the clock, MB at most, and when it began.

@@ -1,7 +1,6 @@
-#!/usr/bin/env python3
 """Times `mrt` on files that were made to be slow or large and in processes that are short of room, beside sha256sum of what it reads.
 
-usage: hostile.py [--keys N] [--limit MB] [--patience S] [--program FILE] [--check] [ROW..]
+usage: python3 -m bench.measure.hostile [--keys N] [--limit MB] [--patience S] [--program FILE] [--check] [ROW..]
 
 Without a ROW all run. `keys`: N keys (349,525: a database of 8 MiB) are picked so that a table with the hasher of the kit's maps, which has a fixed
 seed, puts them all into one run of places; a database, a profile and packets have them, and beside each stands the same with as many keys in a row.
@@ -24,12 +23,10 @@ import tempfile
 from collections import namedtuple
 from itertools import count, islice
 
-import folders
+from bench.areas import areas, ring
+from bench.measure import timing
+from bench.reference.lsas import POINT_TO_POINT, TRANSIT, address, lsa, network_lsa, router_lsa, spelled, update, updates
 
-import areas
-import ring
-import timing
-from lsas import POINT_TO_POINT, TRANSIT, address, lsa, network_lsa, router_lsa, spelled, update, updates
 
 KEYS = 349525
 ROUNDS = 3

@@ -1,4 +1,3 @@
-#!/usr/bin/env python3
 """Times every form of `mrt` on areas of many shapes, of half and of whole size, beside sha256sum, and prints one table.
 
 Each row is a form on the larger area of a shape: the least time of some runs, which go side by side with those of sha256sum of the largest
@@ -20,11 +19,10 @@ import sys
 import tempfile
 from collections import namedtuple
 
-import folders
+from bench.areas import graphs
+from bench.areas.inputs import Inputs
+from bench.measure import timing
 
-import graphs
-import timing
-from inputs import Inputs
 
 SIZE, ROUNDS, BUDGET, PATIENCE = 4096, 7, 12, 120
 TABLE_SECONDS, TABLE_RATIO, LFA_RATIO, GROWTH, GROWTH_FROM = 0.1, 1.5, 1.5, 4.4, 0.02

@@ -1,7 +1,6 @@
-#!/usr/bin/env python3
 """Checks a crate from nothing at one job and prints which functions take longest.
 
-    bench/measure/slow.py CRATE [NUMBER]      in any folder; the first NUMBER functions, 20 if left out
+    python3 -m bench.measure.slow CRATE [NUMBER]      at the top of the repository; the first NUMBER functions, 20 if left out
 
 Seconds are those between the times at which the prover wrote what it had checked, so run nothing beside it. `proof` is where goals that have no
 answer are searched: if it is large, mostly one goal of the function is found at length, and an answer for it takes a tenth of a second. `code` is
@@ -14,7 +13,7 @@ import shutil
 import subprocess
 import sys
 
-import timing
+from bench.measure import timing
 
 KINDS = {
     "Proof": "proof",

@@ -1,4 +1,3 @@
-#!/usr/bin/env python3
 """Times `mrt check` over the largest area (4,096 routers and 32,768 arcs), over others as large in one way or another, and over areas of half
 their size, beside sha256sum of the database.
 
@@ -8,10 +7,9 @@ time of a start taken off: below 2.4 means that the time grows as the area does.
 import os
 import tempfile
 
-import folders
+from bench.areas import area
+from bench.measure import timing
 
-import area
-import timing
 
 SIZES = 2048, 4096
 ROUNDS = 25

@@ -1,4 +1,3 @@
-#!/usr/bin/env python3
 """Times reading and writing certificates: those of a ring of 2,048 routers in both versions (20,998,158 bytes), of a ring of 4,096 routers (83,939,342
 bytes) and of a star and a line of 2,048 routers, of which version 2 leaves nearly all rows out; whole and in pieces of 64 KB, beside sha256sum of the
 same file. It prints the ratios and the peak memory. It builds a small program beside cert_format in a folder of its own; it fetches nothing."""
@@ -6,12 +5,9 @@ import os
 import subprocess
 import tempfile
 
-import folders
+from bench.areas import ring, tree
+from bench.measure import beside, timing
 
-import beside
-import ring
-import timing
-import tree
 
 PROGRAM = """\
 #![tactic(auto)]

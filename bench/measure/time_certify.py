@@ -1,4 +1,3 @@
-#!/usr/bin/env python3
 """Times `mrt certify` of a ring, a mesh, a line and a star of 1,024 and 2,048 routers, and sha256sum of the file that it wrote.
 
 It prints the ratio of both, wanted at most 0.8 for a ring and a mesh; the peak memory, at most 8 MB, since rows are found as they are written; and how the
@@ -11,12 +10,9 @@ import sys
 import tempfile
 from math import inf
 
-import folders
+from bench.areas import areas, mesh, ring
+from bench.measure import timing
 
-import areas
-import mesh
-import ring
-import timing
 
 DENSE = "ring", "mesh"
 SIZES = 1024, 2048

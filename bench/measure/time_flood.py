@@ -1,4 +1,3 @@
-#!/usr/bin/env python3
 """Times `mrt flood` beside sha256sum of the packets that it reads, and its comparisons beside `mrt certify`.
 
 Files of half and nearly the whole limit are read, with a script of no delivery; one of them is delivered to one
@@ -11,13 +10,11 @@ import os
 import sys
 import tempfile
 
-import folders
+from bench.areas import areas, ring
+from bench.measure import timing
+from bench.measure.time_certify import SHAPES, SIZES
+from bench.reference.lsas import records_of, router_lsa, update, updates
 
-import areas
-import ring
-import timing
-from lsas import records_of, router_lsa, update, updates
-from time_certify import SHAPES, SIZES
 
 LIMIT = 33554432
 LSAS = 30

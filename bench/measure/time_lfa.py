@@ -1,4 +1,3 @@
-#!/usr/bin/env python3
 """Times `mrt lfa` on a mesh and a ring of 1,024 and 2,048 routers, and of the hub of a star of as many.
 
 It prints the time of `sha256sum` of the database, of `mrt table` of the same router and of `mrt lfa`; its peak memory; and how the time grows for
@@ -12,13 +11,12 @@ program where need be; it fetches nothing.
 import os
 import tempfile
 
-import folders
+from bench.areas import areas
+from bench.areas.mesh import WIDE
+from bench.measure import timing
+from bench.measure.time_certify import SHAPES, SIZES, told
+from bench.reference.lsas import spelled
 
-import areas
-import timing
-from lsas import spelled
-from mesh import WIDE
-from time_certify import SHAPES, SIZES, told
 
 ROUNDS = 15
 MORE = 128

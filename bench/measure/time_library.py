@@ -1,8 +1,7 @@
-#!/usr/bin/env python3
 """Times the calls of the library beside the program as a process, on a sample of 7 nodes and on a ring and a mesh of 4,096, and tells what memory a call
 takes beside its caller's.
 
-usage: time_library.py FILE [--check]
+usage: python3 -m bench.measure.time_library FILE [--check]
 
 FILE is a libmrt.so.1. With --check it ends with 1 where a call takes more than it may: mrt_check 1.2 times the certificate, mrt_certify 8 MB.
 """
@@ -12,15 +11,10 @@ import sys
 import tempfile
 import time
 
-import folders
-
-import mesh
-import ring
-import timing
-from areas import read, write
-
-sys.path.insert(0, os.path.join(timing.ROOT, "examples", "python"))
-import mrt
+from bench.areas import mesh, ring
+from bench.areas.areas import read, write
+from bench.measure import timing
+from tools.mrttools.library import libmrt as mrt
 
 ROUNDS = 7
 NODES = 4096

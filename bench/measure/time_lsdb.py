@@ -1,4 +1,3 @@
-#!/usr/bin/env python3
 """Times 1,000, 10,000 and 100,000 installs into a database, of as many keys and of ten, and prints the time of one install and how it grows.
 
 What grows with the keys is the cost of fresh memory and of the processor's caches, so the program runs once more over memory that it keeps.
@@ -9,7 +8,7 @@ import subprocess
 import sys
 import tempfile
 
-import beside
+from bench.measure import beside
 
 PROGRAM = """\
 #![tactic(auto)]

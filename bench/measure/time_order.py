@@ -1,4 +1,3 @@
-#!/usr/bin/env python3
 """Times `mrt order` of a router in the middle of a ring and of a mesh of 1,024 and 2,048 routers, which are one block.
 
 Its text has a letter for each destination and each node and link of the block. The script prints the time, the nanoseconds for each byte of the text,
@@ -7,12 +6,11 @@ and how both grow for twice the routers: the time at most a fifth more than the 
 import os
 import tempfile
 
-import folders
+from bench.areas import areas
+from bench.measure import timing
+from bench.measure.time_certify import DENSE, SHAPES, SIZES, told
+from bench.reference.lsas import spelled
 
-import areas
-import timing
-from lsas import spelled
-from time_certify import DENSE, SHAPES, SIZES, told
 
 ROUNDS = 15
 MOST = 1.2

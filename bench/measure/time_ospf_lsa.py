@@ -1,15 +1,12 @@
-#!/usr/bin/env python3
 """Times reading two databases of nearly 8 MiB, one of router-LSAs and one of LSAs of 65,535 bytes, beside sha256sum of the same files, and prints
 the ratios. It builds a small program beside ospf_lsa in a folder of its own; it fetches nothing."""
 import os
 import subprocess
 import tempfile
 
-import folders
+from bench.measure import beside, timing
+from bench.reference import lsas
 
-import beside
-import lsas
-import timing
 
 LIMIT = 8 * 1024 * 1024
 

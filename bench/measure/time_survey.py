@@ -1,4 +1,3 @@
-#!/usr/bin/env python3
 """Times `mrt survey 7 N` beside `mrt certify` of a mesh of N routers, for 1,024 and 2,048, both in one run.
 
 It prints the ratio of both, wanted at most 1.5; the peak memory of both; and how the time grows for twice the routers, of whose certificate four
@@ -10,12 +9,10 @@ import subprocess
 import sys
 import tempfile
 
-import folders
+from bench.areas import areas, mesh
+from bench.measure import timing
+from bench.measure.time_certify import SIZES, told
 
-import areas
-import mesh
-import timing
-from time_certify import SIZES, told
 
 ROUNDS = 15
 NUMBER = "7"

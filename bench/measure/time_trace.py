@@ -1,4 +1,3 @@
-#!/usr/bin/env python3
 """Times `mrt trace` and `mrt fabric` beside `mrt certify` on a ring and a mesh of 2,048 routers, all in one run.
 
 A packet enters at the first router for the farthest one, without a failure, and where the first link of its primary has failed. The script
@@ -8,15 +7,13 @@ program where need be; it fetches nothing.
 """
 import tempfile
 
-import folders
+from bench.areas import areas
+from bench.measure import timing
+from bench.measure.time_certify import SHAPES
+from bench.reference import certify, table
+from bench.reference.database import text_of
+from bench.reference.lsas import spelled
 
-import areas
-import certify
-import table
-import timing
-from database import text_of
-from lsas import spelled
-from time_certify import SHAPES
 
 SIZE, PACKETS, ROUNDS = 2048, 1000, 15
 

@@ -1,9 +1,9 @@
 """A router's loop-free alternates (RFC 5286): for each node with a primary the neighbour that takes a packet there without the router."""
 from collections import namedtuple
 
-from database import ROUTER, Id, Refused, text_of
-from lsas import spelled
-from table import distances_to, primary
+from bench.reference.database import ROUTER, Id, Refused, text_of
+from bench.reference.lsas import spelled
+from bench.reference.table import distances_to, primary
 
 # The first arc of a candidate, the second one where the first leads to a network, and the router or destination that they lead to.
 Candidate = namedtuple("Candidate", "first second next")

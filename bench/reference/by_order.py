@@ -1,9 +1,9 @@
 """A router's repairs by order: which color goes round a failure in a block, by order numbers and the router's own paths alone."""
 from collections import namedtuple
 
-from database import ROUTER, Id, Refused, text_of
-from lowpoint import (ABOVE, BELOW, CLOSING, HEAD, TOP, blocks_of, common_block, direct, ears, leaving, lowpoints, rows_of)
-from lsas import spelled
+from bench.reference.database import ROUTER, Id, Refused, text_of
+from bench.reference.lowpoint import ABOVE, BELOW, CLOSING, HEAD, TOP, blocks_of, common_block, direct, ears, leaving, lowpoints, rows_of
+from bench.reference.lsas import spelled
 
 # A block with more than one link, seen from one of its nodes: its head, its members, and the nodes that the paths up and down reach.
 View = namedtuple("View", "head nodes links up down")

@@ -2,8 +2,8 @@
 import struct
 from collections import namedtuple
 
-from database import Id, Refused
-from lowpoint import ABOVE, BELOW, CARRIED, CLOSING, HEAD, PLAIN, SOLE, SOLE_LINK, TOP, UNORDERED, Cert, Row, common_block
+from bench.reference.database import Id, Refused
+from bench.reference.lowpoint import ABOVE, BELOW, CARRIED, CLOSING, HEAD, PLAIN, SOLE, SOLE_LINK, TOP, UNORDERED, Cert, Row, common_block
 
 # What the bytes say: their version, the root's router ID, identifiers, the two nodes of each link, and the certificate.
 File = namedtuple("File", "version root ids pairs cert")

@@ -1,19 +1,18 @@
-#!/usr/bin/env python3
 """A plain reference program: writes the certificate of a router's island, prints a router's table, steps packets through a failure, and says
 what `mrt check` is to say of a certificate. `upgrade` writes an accepted certificate in version 2, `lfa` prints a router's loop-free alternates, `order`
 its repairs by order, `proxy` the rows for a prefix of two routers, and `flood` what comes of Link State Updates that are delivered to routers.
 
-usage: certify.py certify DATABASE PROFILE ROUTER CERTIFICATE
-       certify.py check DATABASE PROFILE CERTIFICATE
-       certify.py table DATABASE PROFILE ROUTER
-       certify.py trace DATABASE PROFILE FROM TO ENTRY [FAILED]
-       certify.py fabric DATABASE PROFILE SCRIPT
-       certify.py rows DATABASE PROFILE ROUTER
-       certify.py upgrade DATABASE PROFILE CERTIFICATE WRITTEN
-       certify.py lfa DATABASE ROUTER
-       certify.py order DATABASE PROFILE ROUTER
-       certify.py proxy DATABASE PROFILE ROUTER A B
-       certify.py flood UPDATES PROFILE SCRIPT
+usage: python3 -m bench.reference.certify certify DATABASE PROFILE ROUTER CERTIFICATE
+       python3 -m bench.reference.certify check DATABASE PROFILE CERTIFICATE
+       python3 -m bench.reference.certify table DATABASE PROFILE ROUTER
+       python3 -m bench.reference.certify trace DATABASE PROFILE FROM TO ENTRY [FAILED]
+       python3 -m bench.reference.certify fabric DATABASE PROFILE SCRIPT
+       python3 -m bench.reference.certify rows DATABASE PROFILE ROUTER
+       python3 -m bench.reference.certify upgrade DATABASE PROFILE CERTIFICATE WRITTEN
+       python3 -m bench.reference.certify lfa DATABASE ROUTER
+       python3 -m bench.reference.certify order DATABASE PROFILE ROUTER
+       python3 -m bench.reference.certify proxy DATABASE PROFILE ROUTER A B
+       python3 -m bench.reference.certify flood UPDATES PROFILE SCRIPT
 
 PROFILE is the name of a file, or - for the empty profile. `rows` prints the rows of a router and the order of the GADAG. A refusal is
 printed as `mrt` prints it, and its status is the same. It is slow: an island of 2,048 nodes takes a minute or two.
@@ -21,18 +20,9 @@ printed as `mrt` prints it, and its status is the same. It is slow: an island of
 import os
 import sys
 
-import alternates
-import by_order
-import certificate
-import database
-import fabric as fabrics
-import flooding
-import island as islands
-import lowpoint
-import proxied
-import table as tables
-from database import Id, Refused, text_of
-from lsas import address, spelled
+from bench.reference import alternates, by_order, certificate, database, fabric as fabrics, flooding, island as islands, lowpoint, proxied, table as tables
+from bench.reference.database import Id, Refused, text_of
+from bench.reference.lsas import address, spelled
 
 LIMITS = {"database-file": 8388608, "profile-file": 33554432, "certificate-file": 134217728, "script-file": 33554432, "updates-file": 33554432}
 

@@ -3,7 +3,7 @@ import struct
 from collections import namedtuple
 from itertools import groupby
 
-from lsas import POINT_TO_POINT, TRANSIT, spelled, sums
+from bench.reference.lsas import POINT_TO_POINT, TRANSIT, spelled, sums
 
 MAX_AGE = 3600
 ROUTER, NETWORK = 1, 2

@@ -4,9 +4,9 @@ Nodes, bonds and links are numbers; a failure is ("node", number) or ("bond", nu
 """
 from collections import namedtuple
 
-import table as tables
-from database import NETWORK, ROUTER, Id, Refused, text_of
-from island import address_of, lines_of, number_of, said_lines
+from bench.reference import table as tables
+from bench.reference.database import NETWORK, ROUTER, Id, Refused, text_of
+from bench.reference.island import address_of, lines_of, number_of, said_lines
 
 # A color is 0 or 1, and stands where the packet entered on it or was switched to it.
 Packet = namedtuple("Packet", "place to mode color state")

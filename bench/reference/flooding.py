@@ -4,13 +4,10 @@ A packet is its LSAs. What a router has is the list of all LSAs of types 1 and 2
 """
 import struct
 
-import certificate
-import database
-import island as islands
-import lowpoint
-from database import NETWORK, ROUTER, Refused, key_of, rank
-from fabric import number_within, read_lines
-from island import address_of
+from bench.reference import certificate, database, island as islands, lowpoint
+from bench.reference.database import NETWORK, ROUTER, Refused, key_of, rank
+from bench.reference.fabric import number_within, read_lines
+from bench.reference.island import address_of
 
 VERSION, UPDATE = 2, 4
 HEADER = 28

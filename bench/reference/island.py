@@ -1,8 +1,8 @@
 """The profile file and the MRT Island of a router (RFC 7811, section 5; RFC 7812; RFC 6987)."""
 from collections import namedtuple
 
-from database import NETWORK, ROUTER, Id, Refused
-from lsas import MAX_LINK_METRIC, spelled
+from bench.reference.database import NETWORK, ROUTER, Id, Refused
+from bench.reference.lsas import MAX_LINK_METRIC, spelled
 
 
 Profile = namedtuple("Profile", "priorities unsupported ineligible")

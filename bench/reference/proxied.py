@@ -1,8 +1,8 @@
 """The rows for a prefix that is attached to two routers, as if it were one more node."""
-from database import ROUTER, Id, Refused, text_of
-from lowpoint import CLOSING, PLAIN, common_block
-from lsas import spelled
-from table import hop_over_link
+from bench.reference.database import ROUTER, Id, Refused, text_of
+from bench.reference.lowpoint import CLOSING, PLAIN, common_block
+from bench.reference.lsas import spelled
+from bench.reference.table import hop_over_link
 
 
 class Block:

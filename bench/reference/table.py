@@ -2,8 +2,8 @@
 import heapq
 from collections import namedtuple
 
-from database import NETWORK, ROUTER, Id, text_of
-from lsas import spelled
+from bench.reference.database import NETWORK, ROUTER, Id, text_of
+from bench.reference.lsas import spelled
 
 TAGS = ["sole", "head", "top", "below", "above", "unordered", "carried"]
 BLUE, RED = 0, 1

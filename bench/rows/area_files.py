@@ -1,6 +1,5 @@
-#!/usr/bin/env python3
 """The files of area_tests: those below, and those on primaries and repairs in repair_files.py; several stand on networks.py."""
-from networks import (
+from bench.rows.networks import (
     AT_1,
     AT_3,
     BELOW,
@@ -17,8 +16,8 @@ from networks import (
     TRIANGLE_PACKETS,
     of_triangle,
 )
-from repair_files import FILES as OF_REPAIRS
-from told import POINT_TO_POINT, STUB, TRANSIT, address, joined, main, network, other, packet, renewed, router, spoilt
+from bench.rows.repair_files import FILES as OF_REPAIRS
+from bench.rows.told import POINT_TO_POINT, STUB, TRANSIT, address, joined, main, network, other, packet, renewed, router, spoilt
 
 MAX_AGE = 3600
 DO_NOT_AGE = 0x8000

@@ -1,24 +1,19 @@
-#!/usr/bin/env python3
 """Compares rows of crates/area_tests with the reference program: areas and what is found in them, islands, profiles, faults of LSAs, primaries and
 loop-free alternates, texts on alternates, on repairs by order and on floods, lines of tables.
 
-usage: area_rows.py --check
+usage: python3 -m bench.rows.area_rows --check
 
 What nothing here computes is counted. The status is 1 where something differs.
 """
 import re
 import sys
 
-sys.dont_write_bytecode = True
-import area_files  # noqa: E402  (it puts bench/reference on the path)
-import alternates  # noqa: E402
-import certify  # noqa: E402
-import lowpoint  # noqa: E402
-import table  # noqa: E402
-from database import NETWORK, ROUTER, Id, Refused, area_of, newest, read_lsas, text_of  # noqa: E402
-from island import address_of, island_of, read_profile, supports  # noqa: E402
-from lsas import spelled  # noqa: E402
-from rows import Unknown, compare, laid_out  # noqa: E402
+from bench.reference import alternates, certify, lowpoint, table
+from bench.reference.database import NETWORK, ROUTER, Id, Refused, area_of, newest, read_lsas, text_of
+from bench.reference.island import address_of, island_of, read_profile, supports
+from bench.reference.lsas import spelled
+from bench.rows import area_files
+from bench.rows.rows import Unknown, compare, laid_out
 
 FILES = area_files.files()
 LSA_FAULTS = {"id-mismatch": "IdMismatch", "reserved-sequence": "ReservedSequence", "zero-metric": "ZeroMetric"}

@@ -1,5 +1,4 @@
-#!/usr/bin/env python3
-"""Tells the files of the rows in crates/cmd_tests, and writes them: cmd_files.py makes crates/cmd_tests/data anew, and with --check compares.
+"""Tells the files of the rows in crates/cmd_tests, and writes them: python3 -m bench.rows.cmd_files makes crates/cmd_tests/data anew, and with --check compares.
 
 Routers 1, 2 and 3 are 1.1.1.1, 2.2.2.2 and 3.3.3.3. A link of a router is told as `mrt` spells it, with its metric: `NEIGHBOUR/LINK-DATA METRIC`,
 after `net:` where it leads to a network and after `stub:` where to a stub network; then entries `TYPE:METRIC` for other types of service. A node of
@@ -10,10 +9,9 @@ import os
 import struct
 import sys
 
-HERE = os.path.dirname(os.path.abspath(__file__))
-sys.path.insert(0, os.path.join(HERE, "..", "reference"))
-from lsas import FIRST_SEQUENCE, address, lsa, update
+from bench.reference.lsas import FIRST_SEQUENCE, address, lsa, update
 
+HERE = os.path.dirname(os.path.abspath(__file__))
 DATA = os.path.join(HERE, "..", "..", "crates", "cmd_tests", "data")
 TYPES = {"": 1, "net:": 2, "stub:": 3}
 ROLES = ("plain", "sole", "closing")

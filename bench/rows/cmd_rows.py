@@ -1,7 +1,6 @@
-#!/usr/bin/env python3
 """Compares the rows of crates/cmd_tests, and their files, with the reference program.
 
-usage: cmd_rows.py --check [--all]
+usage: python3 -m bench.rows.cmd_rows --check [--all]
 
 The files in crates/cmd_tests/data are made anew and compared. Each row is answered by bench/reference, and by a plain model of the shelf and of the
 output that stands here, and compared with what `stdout` has under its name. What nothing here computes is counted: the texts of surveys, and,
@@ -10,17 +9,13 @@ but for --all, the rows over rings of 2,048 routers and more that are computed, 
 import os
 import sys
 
-sys.dont_write_bytecode = True
-HERE = os.path.dirname(os.path.abspath(__file__))
-sys.path.insert(0, os.path.join(HERE, "..", "reference"))
-import certify
-import fabric
-import lsas
-import cmd_files
-from database import Refused
-from island import address_of, number_of
-from rows import Unknown, compare
+from bench.reference import certify, fabric, lsas
+from bench.reference.database import Refused
+from bench.reference.island import address_of, number_of
+from bench.rows import cmd_files
+from bench.rows.rows import Unknown, compare
 
+HERE = os.path.dirname(os.path.abspath(__file__))
 NEVER = 2**32 - 1
 CALM = {"read": NEVER, "room": 100000, "step": NEVER, "write": NEVER, "error": NEVER}
 # The files that a form names, as their limits are called, and the words after them.

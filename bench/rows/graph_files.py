@@ -1,14 +1,12 @@
-#!/usr/bin/env python3
 """The files of crates/graph_tests/data: certificates, and two short files that shelves read. It writes them, or with --check compares.
 
 A certificate is told by its root's number, its nodes (order.head.block), its links (a-b.block.role) and its rows (blue/red.tag), each by ascending
 source, then by ascending destination. Node k has the number k + 1, or, where a file is of addresses, that of router (k + 1).(k + 1).(k + 1).(k + 1).
 """
-from told import address, main
-
-import certificate
-from database import ROUTER, Id
-from lowpoint import ABOVE, BELOW, CARRIED, CLOSING, HEAD, PLAIN, SOLE, SOLE_LINK, TOP, UNORDERED, Cert, Row
+from bench.reference import certificate
+from bench.reference.database import ROUTER, Id
+from bench.reference.lowpoint import ABOVE, BELOW, CARRIED, CLOSING, HEAD, PLAIN, SOLE, SOLE_LINK, TOP, UNORDERED, Cert, Row
+from bench.rows.told import address, main
 
 ROLES = {"plain": PLAIN, "sole": SOLE_LINK, "closing": CLOSING}
 TAGS = {"Sole": SOLE, "Head": HEAD, "Top": TOP, "Below": BELOW, "Above": ABOVE, "Unordered": UNORDERED, "Carried": CARRIED}

@@ -1,8 +1,7 @@
-#!/usr/bin/env python3
 """Compares rows of crates/graph_tests with the reference program: searches, ears, directions, least paths, rows, columns, certificates that are
 computed, read, spoilt, edited, judged and compared, colors by order, texts on prefixes.
 
-usage: graph_rows.py --check
+usage: python3 -m bench.rows.graph_rows --check
 
 What nothing here computes is counted. The status is 1 where something differs.
 """
@@ -10,15 +9,12 @@ import re
 import sys
 from collections import namedtuple
 
-sys.dont_write_bytecode = True
-import graph_files  # noqa: E402  (it puts bench/reference on the path)
-import certificate  # noqa: E402
-import lowpoint  # noqa: E402
-import proxied  # noqa: E402
-from by_order import Chooser, View, reached  # noqa: E402
-from database import NETWORK, ROUTER, Id, Refused, text_of  # noqa: E402
-from island import address_of, ends_of, number_of  # noqa: E402
-from rows import Unknown, compare, laid_out  # noqa: E402
+from bench.reference import certificate, lowpoint
+from bench.reference.by_order import Chooser, View, reached
+from bench.reference.database import NETWORK, ROUTER, Id, Refused, text_of
+from bench.reference.island import address_of, ends_of, number_of
+from bench.rows import graph_files
+from bench.rows.rows import Unknown, compare, laid_out
 
 Link = namedtuple("Link", "a b metric_a metric_b data_a data_b")
 Island = namedtuple("Island", "ids links ends root")

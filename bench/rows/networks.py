@@ -1,5 +1,5 @@
 """Small networks that several rows have, each a list of LSAs: routers 1, 2, 3 and so on are 1.1.1.1, 2.2.2.2, 3.3.3.3."""
-from told import POINT_TO_POINT, TRANSIT, address, joined, network, other, packet, router
+from bench.rows.told import POINT_TO_POINT, TRANSIT, address, joined, network, other, packet, router
 
 # Router 1.1.1.1 without links.
 ROUTER = [joined(1, [])]

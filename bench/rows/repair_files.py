@@ -1,7 +1,6 @@
-#!/usr/bin/env python3
 """The databases of the rows on primaries, repairs and packets: networks.py and those below."""
-from networks import CROSSED, LAN, LINE, TRIANGLE, TWO_TRIANGLES
-from told import POINT_TO_POINT, TRANSIT, joined, network, router
+from bench.rows.networks import CROSSED, LAN, LINE, TRIANGLE, TWO_TRIANGLES
+from bench.rows.told import POINT_TO_POINT, TRANSIT, joined, network, router
 
 
 def to(number, metric, data=None):

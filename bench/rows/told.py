@@ -2,19 +2,7 @@
 import pathlib
 import sys
 
-sys.path.insert(0, str(pathlib.Path(__file__).resolve().parent.parent / "reference"))
-
-from lsas import (  # noqa: E402
-    FIRST_SEQUENCE as FIRST,
-    POINT_TO_POINT,
-    STUB,
-    TRANSIT,
-    check_bytes,
-    lsa,
-    network_lsa,
-    router_lsa,
-    update,
-)
+from bench.reference.lsas import FIRST_SEQUENCE as FIRST, POINT_TO_POINT, STUB, TRANSIT, check_bytes, lsa, network_lsa, router_lsa, update
 
 CRATES = pathlib.Path(__file__).resolve().parent.parent.parent / "crates"
 

@@ -5,12 +5,20 @@ import os
 import subprocess
 import sys
 from functools import lru_cache
-from typing import Mapping, NamedTuple, Sequence
+from importlib import util
+from typing import TYPE_CHECKING, Mapping, NamedTuple, Sequence
 
-# The binding is a file for everyone, so it stands with the examples, here as in an archive and where the tools are installed.
-sys.path.append(os.path.join(os.path.dirname(os.path.realpath(__file__)), "..", "..", "examples", "python"))
-import mrt as libmrt  # pylint: disable=wrong-import-position
-from mrt import Library  # pylint: disable=wrong-import-position
+# The binding is a file for everyone, so it stands with the examples, here as in an archive and where the tools are
+# installed. Whoever needs it has it from here.
+BINDING = os.path.join(os.path.dirname(os.path.realpath(__file__)), "..", "..", "examples", "python", "mrt.py")
+if TYPE_CHECKING:
+    import mrt as libmrt
+    from mrt import Library
+else:
+    spec = util.spec_from_file_location("mrt", BINDING)
+    libmrt = sys.modules["mrt"] = util.module_from_spec(spec)
+    spec.loader.exec_module(libmrt)
+    Library = libmrt.Library
 
 Files = Mapping[bytes, bytes]
 

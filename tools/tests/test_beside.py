@@ -8,21 +8,21 @@ import unittest
 
 from tests.making import MRT, TOOLS
 
-MEASURE = os.path.join(os.path.dirname(TOOLS), "bench", "measure")
+ROOT = os.path.dirname(TOOLS)
 # As many cases as two minutes of one processor allow, in so many parts side by side, each with a seed of its own.
 PARTS, CASES = 4, 200
 
 
 def started(*words: str) -> subprocess.Popen[str]:
     return subprocess.Popen(
-        [sys.executable, *words], cwd=MEASURE, stdout=subprocess.PIPE, stderr=subprocess.STDOUT, text=True
+        [sys.executable, "-m", *words], cwd=ROOT, stdout=subprocess.PIPE, stderr=subprocess.STDOUT, text=True
     )
 
 
 @unittest.skipUnless(os.path.exists(MRT), "the program is not built")
 class Beside(unittest.TestCase):
     def test_the_reference_program_answers_the_same(self) -> None:
-        parts = [started("compare.py", MRT, str(CASES), str(seed)) for seed in range(1, PARTS + 1)]
+        parts = [started("bench.measure.compare", MRT, str(CASES), str(seed)) for seed in range(1, PARTS + 1)]
         for part in parts:
             said, _ = part.communicate()
             self.assertRegex(said, rf"^{CASES} cases, 0 differ; by status: ")
@@ -30,7 +30,7 @@ class Beside(unittest.TestCase):
 
     @unittest.skipUnless(shutil.which("cc"), "needs a C compiler")
     def test_each_allocation_is_refused_in_turn(self) -> None:
-        part = started("damage.py", "--memory")
+        part = started("bench.measure.damage", "--memory")
         said, _ = part.communicate()
         refused, failing = said.splitlines()
         self.assertRegex(refused, r"^refused allocations: \d+ runs, 0 wrong; by status: ")

@@ -10,12 +10,10 @@ import sys
 import tempfile
 import unittest
 
+from mrttools.library import libmrt as mrt
 from tests.header import ROOT, exports_of, header, in_c, layout, listed, read, size_of, snake, snapshot, sources
 from tests.header import structs_of
 from tests.making import DATA, MRT
-
-sys.path.insert(0, os.path.join(ROOT, "examples", "python"))
-import mrt  # pylint: disable=wrong-import-position
 
 SAID = header()
 # What a program that was built by an older header stands on: lines come to it, and none changes.

@@ -4,24 +4,25 @@ import subprocess
 import sys
 import unittest
 
-ROWS = pathlib.Path(__file__).resolve().parent.parent.parent / "bench" / "rows"
+ROOT = pathlib.Path(__file__).resolve().parent.parent.parent
 
 
 class RowsTest(unittest.TestCase):
     def check(self, name):
-        done = subprocess.run([sys.executable, ROWS / name, "--check"], capture_output=True, text=True)
+        words = [sys.executable, "-B", "-m", f"bench.rows.{name}", "--check"]
+        done = subprocess.run(words, cwd=ROOT, capture_output=True, text=True)
         self.assertEqual((done.returncode, done.stderr), (0, ""), done.stdout)
         return done.stdout
 
     def test_files_lie_as_they_are_told(self):
-        for name in ("graph_files.py", "area_files.py"):
+        for name in ("graph_files", "area_files"):
             with self.subTest(name):
                 self.check(name)
 
     def test_answers_are_those_of_the_reference_program(self):
-        self.assertIn("area_tests: 275 rows, 137 computed, 0 wrong\n", self.check("area_rows.py"))
-        self.assertIn("graph_tests: 416 rows, 281 computed, 0 wrong\n", self.check("graph_rows.py"))
-        self.assertIn("cmd_tests: 375 rows, 362 computed, 0 wrong\n", self.check("cmd_rows.py"))
+        self.assertIn("area_tests: 275 rows, 137 computed, 0 wrong\n", self.check("area_rows"))
+        self.assertIn("graph_tests: 416 rows, 281 computed, 0 wrong\n", self.check("graph_rows"))
+        self.assertIn("cmd_tests: 375 rows, 362 computed, 0 wrong\n", self.check("cmd_rows"))
 
 
 if __name__ == "__main__":

@@ -1,0 +1,1 @@
+"""What measures the built program."""

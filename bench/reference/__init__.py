@@ -1,0 +1,1 @@
+"""A plain program that computes what mrt does, written apart from it."""
