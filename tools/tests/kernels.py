@@ -4,10 +4,10 @@ from __future__ import annotations
 from typing import Any
 
 from mrttools.agent import batch
-from mrttools.router import kernel
 from mrttools.agent.batch import Refusal, State
 from mrttools.agent.netlink import News
 from mrttools.lab.network import Plan, link, router_id
+from mrttools.router import kernel
 
 # A square with both diagonals.
 SQUARE = [

@@ -12,18 +12,18 @@ from unittest import mock
 
 from mrttools import lsas
 from mrttools.agent import batch, generations
-from mrttools.router import kernel
-from mrttools.agent.surroundings import Around
 from mrttools.agent.batch import NOTHING, State
-from mrttools.router.kernel import Interfaces
 from mrttools.agent.loop import Agent
-from mrttools.lsas import Lsa, address, split
-from mrttools.lab.network import router_id
 from mrttools.agent.settings import Settings
 from mrttools.agent.sources import Told
+from mrttools.agent.surroundings import Around
+from mrttools.lab.network import router_id
+from mrttools.lsas import Lsa, address, split
+from mrttools.router import kernel
+from mrttools.router.kernel import Interfaces
 from tests.kernels import PLAN, ModelKernel
 from tests.making import MRT, TOOLS, router_lsa
-from tests.test_fib import lsas_of
+from tests.networks import lsas_of
 
 LINGER = 30.0
 

@@ -7,10 +7,10 @@ import unittest
 from random import Random
 
 from mrttools import area
-from mrttools.page import advice, new_links, sites
 from mrttools.area import Area, Bond, Node
-from mrttools.page.new_links import NEAR, Joining, Link
 from mrttools.lsas import ROUTER
+from mrttools.page import advice, new_links, sites
+from mrttools.page.new_links import NEAR, Joining, Link
 from tests.making import MRT, TOOLS
 from tests.test_cuts import area_of, connected, name, node, random_area, records_of
 from tests.test_report import run_report

@@ -8,9 +8,9 @@ import unittest
 
 from mrttools import program
 from mrttools.agent import batch
-from mrttools.router import kernel
 from mrttools.agent.batch import NOTHING, Refusal, State
 from mrttools.exits import READ_FAULT, ToolFault
+from mrttools.router import kernel
 from mrttools.router.kernel import TABLES
 from tests.kernels import ModelKernel
 from tests.making import TOOLS

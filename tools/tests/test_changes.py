@@ -6,10 +6,10 @@ import unittest
 from random import Random
 
 from mrttools import area, lsas
-from mrttools.page import changes, client, drafts
 from mrttools.area import Area
-from mrttools.page.drafts import Draft
 from mrttools.exits import ToolFault
+from mrttools.page import changes, client, drafts
+from mrttools.page.drafts import Draft
 from mrttools.program import Program
 from tests.making import DATA, MRT, TOOLS
 from tests.test_cuts import name, node, records_of

@@ -3,8 +3,8 @@ import unittest
 from random import Random
 
 from mrttools import area, lsas
-from mrttools.page import cuts
 from mrttools.area import Area, Bond, Node
+from mrttools.page import cuts
 from mrttools.page.cuts import Cut
 from tests.making import network_lsa, router_lsa
 

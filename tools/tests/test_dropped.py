@@ -7,10 +7,10 @@ from unittest import mock
 
 from mrttools.lab import dropped
 from mrttools.lab.dropped import AGENTS, DAEMONS, FAILURE, OTHER, SECOND, Down, Judge, Kernel, Lost
-from mrttools.router.kernel import POOL, TABLES
 from mrttools.lab.network import PLAN
 from mrttools.lab.pings import Counted
 from mrttools.lab.running_network import LabFault
+from mrttools.router.kernel import POOL, TABLES
 
 START = 1_800_000_000.0
 # The lab's wires by their routers.

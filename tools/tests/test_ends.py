@@ -16,9 +16,9 @@ from unittest import mock
 
 from mrttools import files, signals
 from mrttools.agent import batch, commands, exposure, file_watch, lock, loop, status
-from mrttools.router import table
-from mrttools.exits import ToolFault
 from mrttools.agent.settings import Settings
+from mrttools.exits import ToolFault
+from mrttools.router import table
 from tests.making import MRT, TOOLS
 from tests.spaces import lacks
 from tests.standing import Place, WithAgent
@@ -162,8 +162,8 @@ class TheProfile(unittest.TestCase):
 
     PROGRAM = """
 import os, sys, time
-from mrttools.signals import Waiting
 from mrttools.agent.file_watch import Watched
+from mrttools.signals import Waiting
 waiting, watched = Waiting(), Watched(sys.argv[1])
 for _ in range(3):
     print("waits", flush=True)

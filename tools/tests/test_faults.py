@@ -6,18 +6,18 @@ from unittest import mock
 
 from mrttools import files, lsas
 from mrttools.agent import batch, commands, inputs, loop
-from mrttools.router import kernel, table
 from mrttools.agent.batch import NOTHING
 from mrttools.agent.generations import PAUSE
-from mrttools.agent.loop import KERNEL_EVERY, LACKING, RETRY
-from mrttools.lsas import address, lsa_of, split
-from mrttools.agent.netlink import News
 from mrttools.agent.inputs import ROUTE_KEPT
+from mrttools.agent.loop import KERNEL_EVERY, LACKING, RETRY
+from mrttools.agent.netlink import News
 from mrttools.agent.sources import SILENT, Told
+from mrttools.lsas import address, lsa_of, split
+from mrttools.router import kernel, table
 from tests.kernels import PLAN
 from tests.making import MRT, router_lsa
 from tests.standing import LINGER, WithAgent, told_links
-from tests.test_fib import lsas_of
+from tests.networks import lsas_of
 
 
 @unittest.skipUnless(os.path.exists(MRT), "the program is not built")

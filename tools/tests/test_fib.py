@@ -12,64 +12,23 @@ from random import Random
 from typing import Iterator, NamedTuple
 
 from mrttools import area, lsas
-from mrttools.lab import failures
-from mrttools.router import frr, kernel, nexthops
 from mrttools.area import Bond, Node
+from mrttools.lab import failures
 from mrttools.lab.failures import Failure
-from mrttools.router.kernel import TABLES, Entry, Interfaces
-from mrttools.lab.network import Plan, Wire, link, owner, router_id
-from mrttools.router.nexthops import Unfit, Ways
-from mrttools.router.owners import Daemon, is_prefix
-from mrttools.paths import Graph
+from mrttools.lab.network import Plan, owner, router_id
 from mrttools.lab.plans import PLANS
-from mrttools.router.prefixes import Prefixes
+from mrttools.paths import Graph
 from mrttools.program import Program
-from tests.making import DATA, MRT, TOOLS, network_lsa, router_lsa
+from mrttools.router import frr, kernel, nexthops
+from mrttools.router.kernel import TABLES, Entry, Interfaces
+from mrttools.router.nexthops import Unfit, Ways
+from mrttools.router.owners import Daemon
+from mrttools.router.prefixes import Prefixes
+from tests.making import DATA, MRT, TOOLS, router_lsa
+from tests.networks import lsas_of, random_plan
 
 ROUTE = re.compile(r"(\S+)/32 via (\S+)(?: metric (\d+))?(?: realm (\d+))?(?: table (\d+))? proto 78")
 
-
-# networks
-
-
-def lsas_of(plan: Plan, stubs: dict[int, list[tuple[str, str, int, int]]] | None = None) -> bytes:
-    """The LSAs that the routers of a network would have, with more stub links."""
-    records = []
-    for router in plan.routers:
-        links = [(router_id(router), "255.255.255.255", 3, 0), *(stubs or {}).get(router, [])]
-        for each in plan.interfaces(router):
-            wire = plan.wires[each.wire]
-            metric = 65535 if router in plan.maintenance else each.metric
-            if wire.is_lan:
-                links.append((f"{wire.net}.{wire.designated}", each.address, 2, metric))
-            else:
-                links += [
-                    (router_id(each.far), each.address, 1, metric),
-                    (f"{wire.net}.0", "255.255.255.0", 3, metric),
-                ]
-        records.append(router_lsa(router_id(router), links))
-    for wire in plan.wires:
-        if wire.is_lan:
-            head = wire.designated
-            records.append(network_lsa(f"{wire.net}.{head}", router_id(head), map(router_id, wire.metrics)))
-    return b"".join(records)
-
-
-def random_plan(random: Random, lans: int) -> Plan:
-    """Up to seven routers that hang together, with parallel links and less than so many LANs."""
-    routers = list(range(1, random.randint(4, 8)))
-    ends = [(router, random.randint(1, router - 1)) for router in routers[1:]]
-    more = (random.sample(routers, 2) for _ in range(random.randint(2, 6)))
-    ends += [(one, other) for one, other in more]
-    wires = [link(one, other, random.randint(1, 4), f"10.1.{number}") for number, (one, other) in enumerate(ends)]
-    for number in range(random.randrange(lans)):
-        attached = random.sample(routers, random.randint(2, min(4, len(routers))))
-        metrics = {router: random.randint(1, 4) for router in attached}
-        wires.append(Wire(f"198.51.{number}", metrics, random.choice(attached)))
-    return Plan("random", routers, wires, joiner=1)
-
-
-# kernels
 
 
 def entries_of(ways: Ways) -> list[Entry]:
@@ -188,121 +147,6 @@ class Arrival(unittest.TestCase):
         random = Random(64)
         for _ in range(3):
             self.check(random_plan(random, 1), random)
-
-
-CUSTOMER = "203.0.113.0/24"
-
-
-class Customer:
-    """A prefix that hangs on some routers of a network, and the kernels' routes to it."""
-
-    def __init__(self, plan: Plan, owners: list[int], mrt: Program, found: list[lsas.Lsa]) -> None:
-        self.plan, self.owners = plan, owners
-        self.main: dict[int, list[Route]] = {router: [] for router in plan.routers}
-        self.colored: dict[tuple[int, int], str] = {}
-        self.told: set[str] = set()
-        for router in plan.routers:
-            ways = Ways(mrt, found, lsas.address(router_id(router)))
-            whole = Prefixes(ways, Daemon(None, Interfaces(None)), True)
-            attached = {1: IPv4Network(CUSTOMER)} if router in owners else {}
-            for entry in whole.entries():
-                if entry.prefix == CUSTOMER:
-                    for text in kernel.routes_of(entry, Interfaces(None, attached), False, 0):
-                        self.put(router, text)
-            self.told |= {whole.told[CUSTOMER]} if CUSTOMER in whole.told else set()
-
-    def put(self, router: int, text: str) -> None:
-        words = text.split()
-        gateway = words[words.index("via") + 1] if "via" in words else ""
-        if "table" in words:
-            self.colored[router, TABLES.index(int(words[words.index("table") + 1]))] = gateway
-        else:
-            color = kernel.REALMS.index(int(words[words.index("realm") + 1])) if "realm" in words else None
-            self.main[router].append(Route(int(words[words.index("metric") + 1]), gateway, color))
-
-    def step(self, at: int, color: int | None, down: set[str], cut: int) -> tuple[int | None, str] | None:
-        """The color and the next hop after a router; an empty one is the customer. `cut` has no port to it."""
-
-        def up(gateway: str) -> bool:
-            net = gateway.rsplit(".", 1)[0]
-            return at != cut if not gateway else not any(net == self.plan.wires[int(one)].net for one in down)
-
-        if color is not None:
-            gateway = self.colored.get((at, color))
-            return None if gateway is None or not up(gateway) else (color, gateway)
-        if at in self.owners and at != cut:
-            return None, ""
-        return next(((each.color, each.gateway) for each in sorted(self.main[at]) if up(each.gateway)), None)
-
-    def arrives(self, source: int, failure: Failure, cut: int) -> bool:
-        at, color, down = source, None, {name.split("-")[0][1:] for name in failure.ports}
-        for _ in range(4 * len(self.plan.routers)):
-            step = self.step(at, color, down, cut)
-            if step is None or step[1] == "":
-                return step is not None
-            color, at = step[0], owner(step[1])
-            if at == failure.router:
-                return False
-        return False
-
-    def reaches(self, source: int, failure: Failure, cut: int) -> bool:
-        """Whether there is any way."""
-        down = {int(name.split("-")[0][1:]) for name in failure.ports}
-        found, waiting = {source}, [source]
-        while waiting:
-            at = waiting.pop()
-            for number, wire in enumerate(self.plan.wires):
-                if at in wire.metrics and number not in down:
-                    waiting += [one for one in wire.metrics if one not in found]
-                    found |= set(wire.metrics)
-        return any(one in found and one not in (cut, failure.router) for one in self.owners)
-
-
-@unittest.skipUnless(os.path.exists(MRT), "the program is not built")
-class Customers(unittest.TestCase):
-    """A packet to a prefix of one router, or of two of one block, arrives wherever there is a way, whatever one thing
-    failed."""
-
-    def customer(self, plan: Plan, owners: list[int], random: Random) -> Customer:
-        stubs = {router: [("203.0.113.0", "255.255.255.0", 3, random.randint(1, 9))] for router in owners}
-        with tempfile.NamedTemporaryFile() as file:
-            file.write(lsas_of(plan, stubs))
-            file.flush()
-            mrt = Program(MRT, file.name, "-")
-            return Customer(plan, owners, mrt, list(lsas.split(lsas_of(plan, stubs))))
-
-    def check(self, plan: Plan, customer: Customer) -> None:
-        none = Failure("none", "", [], 0, [])
-        cuts = [(none, one) for one in customer.owners]
-        for failure, cut in [(each, 0) for each in failures.failures(plan)] + cuts:
-            for source in set(plan.routers) - {failure.router}:
-                wanted = customer.reaches(source, failure, cut)
-                self.assertEqual(
-                    customer.arrives(source, failure, cut), wanted, (plan, customer.owners, failure, cut)
-                )
-
-    def test_of_one_router(self) -> None:
-        random = Random(8)
-        for _ in range(2):
-            plan = random_plan(random, 1)
-            self.check(plan, self.customer(plan, [random.choice(plan.routers)], random))
-
-    def test_of_two_routers(self) -> None:
-        random, seen = Random(7), 0
-        while seen < 2:
-            plan = random_plan(random, 1)
-            customer = self.customer(plan, random.sample(plan.routers, 2), random)
-            if all(" and " in line for line in customer.told):
-                self.assertEqual(len(customer.told), 1)
-                self.check(plan, customer)
-                seen += 1
-
-
-class Owners(unittest.TestCase):
-    def test_masks(self) -> None:
-        good = [(0, 0), (0x0A000000, 0xFF000000), (0x0A000001, 0xFFFFFFFF)]
-        bad = [(0x0A000001, 0xFF000000), (0x0A000000, 0xFF00FF00), (1, 0)]
-        self.assertEqual([is_prefix(*each) for each in good + bad], [True] * 3 + [False] * 3)
 
 
 class ShortestPaths(unittest.TestCase):

@@ -11,19 +11,20 @@ from unittest import mock
 
 from mrttools import lsas
 from mrttools.agent import batch, generations
-from mrttools.lab import failures
-from mrttools.router import kernel, table
 from mrttools.agent.batch import NOTHING, State
 from mrttools.agent.generations import KEPT, PAUSE, TURN, Generations, Made
-from mrttools.router.kernel import Interfaces
+from mrttools.lab import failures
 from mrttools.lab.network import Plan, owner, router_id
+from mrttools.program import Program
+from mrttools.router import kernel, table
+from mrttools.router.kernel import Interfaces
 from mrttools.router.nexthops import Ways
 from mrttools.router.owners import Daemon
-from mrttools.program import Program
 from mrttools.router.table import Wanted
 from tests.kernels import ModelKernel
 from tests.making import MRT
-from tests.test_fib import CUSTOMER, lsas_of, random_plan
+from tests.networks import lsas_of, random_plan
+from tests.test_prefixes import CUSTOMER
 
 LINGER = 30.0
 Stubs = dict[int, list[tuple[str, str, int, int]]]

@@ -5,13 +5,13 @@ from unittest import mock
 from xml.etree import ElementTree
 
 from mrttools import lsas
-from mrttools.lab import agents, bars, dropped, failures, forwarding, hostile, network, outcomes, pings, primaries
 from mrttools import updates
+from mrttools.lab import agents, bars, dropped, failures, forwarding, hostile, network, outcomes, pings, primaries
 from mrttools.lab import static_routes
 from mrttools.lab.daemons import Bird, Frr, Running
 from mrttools.lab.pings import Counted
-from mrttools.lsas import lsa_of
 from mrttools.lab.plans import PLANS, SHARED_BY
+from mrttools.lsas import lsa_of
 from tests.making import router_lsa
 
 NOTHING = Running([], "")

@@ -7,20 +7,20 @@ from collections import deque
 from unittest import mock
 
 from mrttools.agent import batch, generations
-from mrttools.router import kernel, table
 from mrttools.agent.batch import NOTHING
-from mrttools.agent.generations import KEPT, PAUSE, TURN
-from mrttools.agent.loop import RETRY
-from mrttools.lsas import address, lsa_of, sealed, split
-from mrttools.agent.netlink import News
-from mrttools.lab.network import router_id
 from mrttools.agent.debounce import OFTEN
+from mrttools.agent.generations import KEPT, PAUSE, TURN
 from mrttools.agent.inputs import MOST_PASSED, PROFILE_WATCHED, ROUTE_KEPT, ROUTES_EVERY, ROUTES_SELDOM
+from mrttools.agent.loop import RETRY
+from mrttools.agent.netlink import News
 from mrttools.agent.sources import SILENT, Told
+from mrttools.lab.network import router_id
+from mrttools.lsas import address, lsa_of, sealed, split
+from mrttools.router import kernel, table
 from tests.kernels import PLAN
 from tests.making import MRT, router_lsa
 from tests.standing import LINGER, WithAgent, told_links
-from tests.test_fib import lsas_of
+from tests.networks import lsas_of
 
 
 @unittest.skipUnless(os.path.exists(MRT), "the program is not built")

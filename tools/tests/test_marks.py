@@ -6,8 +6,8 @@ import time
 import unittest
 
 from mrttools import lsas
-from mrttools.router import kernel
 from mrttools.lab.agents import Inside
+from mrttools.router import kernel
 from tests.making import found
 
 SEND = "import socket; s = socket.socket(type=socket.SOCK_DGRAM); s.bind(('10.0.0.1', 0)); s.sendto(b'x', ('10.0.0.2', 9))"

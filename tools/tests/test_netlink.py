@@ -16,9 +16,9 @@ PROGRAM = """
 import tempfile
 import tracemalloc
 from mrttools.agent import batch, netlink
-from mrttools.router import kernel
 from mrttools.agent.batch import Linux
 from mrttools.agent.own_kernel import Here
+from mrttools.router import kernel
 
 def run(text):
     Linux().run("ip", "-batch", "-", text=text)

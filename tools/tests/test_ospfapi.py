@@ -15,12 +15,12 @@ from unittest import mock
 
 from mrttools import lsas
 from mrttools.agent import daemon_list, exposure, ospfapi, sockets
-from mrttools.lab.daemons import Frr
-from mrttools.agent.sniffer import instance_of
-from mrttools.lsas import Key, address, lsa_of
-from mrttools.lab.network import Network, Plan, Wire, link
 from mrttools.agent.ospfapi import Api, ApiFault, Limits, Server, message
+from mrttools.agent.sniffer import instance_of
+from mrttools.lab.daemons import Frr
+from mrttools.lab.network import Network, Plan, Wire, link
 from mrttools.lab.running_network import Lab
+from mrttools.lsas import Key, address, lsa_of
 from tests.making import DATA, MRT, lsa, network_lsa, pair, router_lsa
 from tests.spaces import inside, lacks
 

@@ -7,18 +7,18 @@ import unittest
 from ipaddress import IPv4Network
 
 from mrttools import lsas
-from mrttools.router import owners
 from mrttools.area import node_of
 from mrttools.exits import ToolFault
-from mrttools.router.kernel import Interfaces
-from mrttools.lsas import address, lsa_of
 from mrttools.lab.network import PLAN, router_id
-from mrttools.router.nexthops import Ways
-from mrttools.router.owners import Daemon, Prefix
-from mrttools.router.prefixes import Prefixes
+from mrttools.lsas import address, lsa_of
 from mrttools.program import Program
+from mrttools.router import owners
+from mrttools.router.kernel import Interfaces
+from mrttools.router.nexthops import Ways
+from mrttools.router.owners import Daemon, Prefix, is_prefix
+from mrttools.router.prefixes import Prefixes
 from tests.making import MRT, TOOLS, lsa, router_lsa
-from tests.test_fib import lsas_of
+from tests.networks import lsas_of
 
 HOST = "255.255.255.255"
 
@@ -32,6 +32,11 @@ class Owners(unittest.TestCase):
     def of(self, *records: bytes) -> dict[str, dict[str, int]]:
         found = owners.owners_of(map(lsa_of, records))
         return {prefix.text: {node.text: metric for node, metric in own.items()} for prefix, own in found.items()}
+
+    def test_masks(self) -> None:
+        good = [(0, 0), (0x0A000000, 0xFF000000), (0x0A000001, 0xFFFFFFFF)]
+        bad = [(0x0A000001, 0xFF000000), (0x0A000000, 0xFF00FF00), (1, 0)]
+        self.assertEqual([is_prefix(*each) for each in good + bad], [True] * 3 + [False] * 3)
 
     def test_a_router_id_is_no_prefix(self) -> None:
         self.assertEqual(self.of(router_lsa("8.8.8.8", [("1.1.1.1", "10.0.0.1", 1, 1)])), {})

@@ -15,7 +15,7 @@ ROOT = os.path.dirname(TOOLS)
 DATA = os.path.join("crates", "mrt", "data")
 WORDS = {"README.md": 2500, "docs/AUDIT.md": 1800, "docs/OPERATORS.md": 4500}
 NARROW = ["README.md", "docs/COMMANDS.md", "docs/AUDIT.md", "docs/DECISIONS.md"]
-ALL_WORDS = 31100
+ALL_WORDS = 31200
 MADE = {"docs/CLAUSES.md", "docs/DEFINITIONS.md"}
 
 
@@ -182,6 +182,28 @@ class Names(unittest.TestCase):
             old = re.search(r"^old: (.*)$", said[0], re.MULTILINE)
             assert old is not None
             self.assertEqual(self.sources[file].count(old[1]), 1, item)
+
+
+class Map(unittest.TestCase):
+    """Its table has each crate, and the files that test it."""
+
+    ROWS: ClassVar[list[tuple[str, str]]] = re.findall(
+        r"^\| [a-z ]+ \| `(\w+)` \|.*\|([^|]*)\|$", read("docs/MAP.md"), re.MULTILINE
+    )
+
+    def test_each_crate_has_a_row(self) -> None:
+        crates = re.findall(r"^(\w+)[^:#]*:", read("crates.txt"), re.MULTILINE)
+        self.assertEqual(sorted(crate for crate, _ in self.ROWS), sorted(crates))
+
+    def test_its_tests_are_there(self) -> None:
+        for crate, tests in self.ROWS:
+            folder = f"crates/{crate}"
+            for name in re.findall(r"`([^`]+)`", tests):
+                places = [os.path.join(folder, name), name, os.path.join("crates", name)]
+                found = [place for place in places if os.path.exists(os.path.join(ROOT, place))]
+                self.assertNotEqual(found, [], f"{crate}: {name}")
+                folder = os.path.dirname(found[0])
+            self.assertTrue(tests.strip() or crate == "parts_of_tests", crate)
 
 
 class Completion(unittest.TestCase):

@@ -11,9 +11,9 @@ from random import Random
 from xml.etree import ElementTree
 
 from mrttools import area, certificate, lsas, names
-from mrttools.page import client, layout, picture, svg
 from mrttools.area import Node
 from mrttools.exits import ToolFault
+from mrttools.page import client, layout, picture, svg
 from mrttools.page.layout import Size
 from mrttools.page.picture import Arrow, Course, Failure, Island, Style
 from tests import making

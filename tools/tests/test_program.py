@@ -10,9 +10,9 @@ from unittest import mock
 
 from mrttools import library, program
 from mrttools.agent import batch
-from mrttools.library import libmrt
 from mrttools.agent.batch import Linux, Refusal
 from mrttools.exits import ToolFault
+from mrttools.library import libmrt
 from mrttools.program import Program
 
 STAND_IN = """#!/bin/sh

@@ -11,12 +11,12 @@ from random import Random
 from typing import Any, ClassVar
 
 from mrttools import area, lsas
-from mrttools.page import cross_check, facts, islands, plain_values
 from mrttools.area import Bond, Node
-from mrttools.paths import FAR, METRIC, Graph
-from mrttools.progress import Progress
-from mrttools.program import Program
+from mrttools.page import cross_check, facts, islands, plain_values
 from mrttools.page.stretches import Spread
+from mrttools.paths import FAR, METRIC, Graph
+from mrttools.program import Program
+from mrttools.progress import Progress
 from tests.making import DATA, MRT, TOOLS, router_lsa
 from tests.test_cuts import connected, name, records_of
 

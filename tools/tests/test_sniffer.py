@@ -15,11 +15,11 @@ from unittest import mock
 
 from mrttools import capture, updates
 from mrttools.agent import daemon_list, sniffer
-from mrttools.lab.daemons import Bird, Frr
 from mrttools.agent.sniffer import AT_ONCE, COUNT, Caught, Heard, Look, Neighbor, instance_of
-from mrttools.lsas import Key, Lsa, address, lsa_of, sealed
+from mrttools.lab.daemons import Bird, Frr
 from mrttools.lab.network import Network, Plan, Wire, link
 from mrttools.lab.running_network import Lab
+from mrttools.lsas import Key, Lsa, address, lsa_of, sealed
 from tests.making import datagram, fragments, network_lsa, ospf, pair, router_lsa, update
 from tests.spaces import inside, lacks, made
 

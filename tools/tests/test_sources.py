@@ -6,10 +6,10 @@ from typing import Iterator
 from unittest import mock
 
 from mrttools.agent import exposure, sniffer, sources
-from mrttools.agent.sniffer import Caught, Database, Heard, Look, Neighbor, instance_of
-from mrttools.router.kernel import Interfaces
-from mrttools.lsas import Lsa, address, lsa_of
 from mrttools.agent.ospfapi import ApiFault
+from mrttools.agent.sniffer import Caught, Database, Heard, Look, Neighbor, instance_of
+from mrttools.lsas import Lsa, address, lsa_of
+from mrttools.router.kernel import Interfaces
 from mrttools.agent.sources import (
     AGAIN,
     COMPARED,

@@ -8,11 +8,11 @@ import unittest
 from typing import Any
 
 from mrttools import area
-from mrttools.page import cuts, demand, facts, installed, islands, matrix, origin, overview
 from mrttools.exits import ToolFault
+from mrttools.page import cuts, demand, facts, installed, islands, matrix, origin, overview
+from mrttools.page.target import GAP, PARTED, size_of
 from mrttools.paths import Graph
 from mrttools.program import Program
-from mrttools.page.target import GAP, PARTED, size_of
 from tests.making import DATA, MRT, TOOLS
 from tests.test_cuts import area_of, name, node
 from tests.test_page import Case

@@ -7,8 +7,8 @@ import subprocess
 import tempfile
 from typing import Any, Iterable, Protocol
 
-from mrttools.router import kernel
 from mrttools.exits import REFUSED, ToolFault
+from mrttools.router import kernel
 from mrttools.router.kernel import MARK, MASK, PROTOCOL, TABLES
 from mrttools.signals import alive
 

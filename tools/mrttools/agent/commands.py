@@ -7,19 +7,19 @@ import json
 import os
 
 from mrttools import files, lsas
-from . import batch, daemon_list, exposure, lock, ospfapi, sniffer, status
-from mrttools.router import kernel
-from .surroundings import Around, Source
-from .batch import NOTHING, Linux
 from mrttools.exits import REFUSED, ToolFault
-from .own_kernel import Here
-from .sniffer import Heard
-from .loop import Agent, tell
 from mrttools.lsas import Lsa
-from .settings import Settings
-from .sources import Ears, Word
+from mrttools.router import kernel
 from mrttools.signals import Waiting, notify
+from . import batch, daemon_list, exposure, lock, ospfapi, sniffer, status
+from .batch import NOTHING, Linux
 from .file_watch import watched
+from .loop import Agent, tell
+from .own_kernel import Here
+from .settings import Settings
+from .sniffer import Heard
+from .sources import Ears, Word
+from .surroundings import Around, Source
 
 SETTINGS = "settings.json"
 

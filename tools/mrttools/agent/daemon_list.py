@@ -8,8 +8,8 @@ import subprocess
 from typing import Any, Iterator
 
 from mrttools import lsas
-from .sniffer import Database, Look, Neighbor
 from mrttools.lsas import MAX_AGE, NETWORK, ROUTER, Key
+from .sniffer import Database, Look, Neighbor
 
 # Seconds in which a daemon answers.
 PATIENCE = 10

@@ -12,8 +12,8 @@ import json
 from typing import NamedTuple
 
 from mrttools import files
-from .batch import State, bare, is_repair, prefix_of
 from mrttools.router.kernel import REALMS, TABLES
+from .batch import State, bare, is_repair, prefix_of
 
 # Seconds for which rows and repairs stay that fit no new rows, as they carry packets while OSPF finds new ways; those in
 # which other routers, too, have taken them away; and those after which a router turns its repairs that has itself lost a

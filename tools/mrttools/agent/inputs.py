@@ -8,17 +8,17 @@ import time
 from typing import NamedTuple
 
 from mrttools import lsas
-from mrttools.router import table
-from .surroundings import Around
 from mrttools.exits import system_line
-from .own_kernel import NUMBERS
-from mrttools.router.kernel import Interfaces
 from mrttools.lsas import HEADER, POINT_TO_POINT, ROUTER, TRANSIT, Key, Lsa
-from .netlink import News
+from mrttools.router import table
+from mrttools.router.kernel import Interfaces
 from mrttools.router.nexthops import LEAST_ADDRESS
 from mrttools.router.owners import Daemon, owners_of
 from .debounce import Settling
+from .netlink import News
+from .own_kernel import NUMBERS
 from .sources import SILENT, Told, usable
+from .surroundings import Around
 
 # Seconds between two looks at the profile, where the kernel tells of it and where it does not; those for which a route of
 # the daemon counts after it has gone, as it does while the daemon finds new ways; and those for which an interface may

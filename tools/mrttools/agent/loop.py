@@ -10,21 +10,21 @@ import traceback
 from typing import TextIO
 
 from mrttools import files, lsas
-from . import batch, generations
-from mrttools.router import kernel, table
-from .surroundings import Around
-from .batch import NOTHING, Refusal, State
 from mrttools.exits import ToolFault, system_line
-from .generations import Generations, Made
 from mrttools.lsas import Lsa
-from .netlink import News
-from mrttools.router.nexthops import Ways
 from mrttools.program import Program
-from .refused_hops import Refused
-from .debounce import Settling
-from .inputs import Content, Passed, Sight
-from .status import Status
+from mrttools.router import kernel, table
+from mrttools.router.nexthops import Ways
 from mrttools.router.table import Table, Wanted
+from . import batch, generations
+from .batch import NOTHING, Refusal, State
+from .debounce import Settling
+from .generations import Generations, Made
+from .inputs import Content, Passed, Sight
+from .netlink import News
+from .refused_hops import Refused
+from .status import Status
+from .surroundings import Around
 
 # Seconds between two looks at the kernel, whatever it tells, and at the least; those after which something is tried
 # again that failed; those after which it is told what lacks, and with --strict the table goes; and those that a run of

@@ -29,10 +29,10 @@ import time
 from typing import Callable, Iterator, NamedTuple
 
 from mrttools import gather, lsas
-from . import sockets
 from mrttools.exits import system_line
-from .sniffer import Database, instance_of
 from mrttools.lsas import NETWORK, ROUTER, Key, Lsa
+from . import sockets
+from .sniffer import Database, instance_of
 from .sockets import End
 
 PORT, VERSION = 2607, 1

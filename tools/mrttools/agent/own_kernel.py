@@ -4,10 +4,10 @@ from __future__ import annotations
 
 from typing import Any
 
-from . import netlink
 from mrttools.router import owners
-from .batch import Linux
 from mrttools.router.kernel import PROTOCOL
+from . import netlink
+from .batch import Linux
 from .netlink import News, Watch
 
 # Under which protocol a daemon's routes stand in the kernel.

@@ -7,12 +7,12 @@ import socket
 from typing import Callable, NamedTuple
 
 from mrttools import lsas
-from . import exposure, ospfapi, sniffer
-from .sniffer import Database, Heard, Neighbor
-from mrttools.router.kernel import Interfaces
-from .daemon_list import Client
 from mrttools.lsas import Lsa
+from mrttools.router.kernel import Interfaces
+from . import exposure, ospfapi, sniffer
+from .daemon_list import Client
 from .ospfapi import Api, ApiFault
+from .sniffer import Database, Heard, Neighbor
 
 SILENT = "the daemon does not answer"
 # Seconds between two questions for the daemon's list while packets come, and while none do.

@@ -9,8 +9,8 @@ from typing import Any
 
 from mrttools import files
 from mrttools.exits import NOT_THERE, READ_FAULT, ToolFault
-from .lock import is_locked
 from mrttools.router.table import Table
+from .lock import is_locked
 
 FORMAT = {"format": "semborui-agent", "version": 1}
 NAME = "agent.status"

@@ -4,12 +4,12 @@ from __future__ import annotations
 import time
 from typing import Callable, Iterable, NamedTuple, Protocol
 
-from . import batch
 from mrttools.router.kernel import Interfaces
+from . import batch
+from .file_watch import Watched
 from .netlink import News
 from .settings import Settings
 from .sources import Told
-from .file_watch import Watched
 
 
 class Router(batch.Kernel, Protocol):

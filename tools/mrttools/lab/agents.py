@@ -10,20 +10,20 @@ from typing import Any, Callable, NamedTuple
 
 from mrttools import lsas
 from mrttools.agent import batch, status
-from . import outcomes
-from mrttools.router import kernel
 from mrttools.agent.batch import Linux, State
-from .dropped import Down, Watch
+from mrttools.agent.sniffer import Database, instance_of
+from mrttools.agent.sources import SILENT
 from mrttools.exits import ToolFault
+from mrttools.program import ROOT
+from mrttools.router import kernel
+from . import outcomes
+from .dropped import Down, Watch
 from .failures import FAILING, STANDING, failures, pairs
 from .forwarding import Batch, do_at_once, line_of
-from mrttools.agent.sniffer import Database, instance_of
 from .network import router_id
 from .outcomes import Pinged, Row
 from .pings import Pinging
-from mrttools.program import ROOT
 from .running_network import Lab, LabFault
-from mrttools.agent.sources import SILENT
 
 # Seconds that old tables stay, and within which all are to have their tables.
 LINGER, PATIENCE = 3, 90

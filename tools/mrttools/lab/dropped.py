@@ -15,9 +15,9 @@ from collections import Counter, defaultdict
 from datetime import datetime
 from typing import Iterator, NamedTuple
 
+from mrttools.router.kernel import POOL, PROTOCOL, TABLES
 from .daemons import run_in
 from .failures import Pair
-from mrttools.router.kernel import POOL, PROTOCOL, TABLES
 from .network import Network, loopback, port
 from .pings import Counted
 from .running_network import LabFault

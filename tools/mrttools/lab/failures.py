@@ -5,8 +5,8 @@ import tempfile
 from itertools import permutations
 from typing import Iterator, NamedTuple
 
-from .network import SHARED, Plan, port, router_id
 from mrttools.program import Program
+from .network import SHARED, Plan, port, router_id
 
 # The failing wires' group, and that of all others.
 FAILING, STANDING = 99, 0

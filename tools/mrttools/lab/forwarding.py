@@ -8,12 +8,12 @@ import subprocess
 import time
 from typing import Callable, Iterable, NamedTuple
 
+from mrttools.program import ROOT, Program
+from mrttools.router.kernel import PRIMARY
 from .bars import Bar
 from .failures import FAILING, STANDING, Failure, Pair, failures, lost_by_mrt, pairs, pinged
-from mrttools.router.kernel import PRIMARY
 from .network import SHARED, Network, Plan, router_id
 from .pings import Counted, Pinging, gap_of
-from mrttools.program import ROOT, Program
 from .running_network import Lab
 
 # How long pings run in one failure, how long before it, and how long the network rests after it, in seconds.

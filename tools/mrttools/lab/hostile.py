@@ -9,9 +9,9 @@ from typing import Callable, NamedTuple
 
 from mrttools import lsas, updates
 from mrttools.agent import batch
+from mrttools.lsas import POINT_TO_POINT, ROUTER, Lsa
 from .agents import Agents
 from .daemons import Bird
-from mrttools.lsas import POINT_TO_POINT, ROUTER, Lsa
 from .network import Plan
 from .running_network import LabFault
 

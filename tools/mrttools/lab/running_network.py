@@ -8,9 +8,9 @@ from contextlib import contextmanager
 from typing import Callable, Iterator
 
 from mrttools import lsas
-from .daemons import Bird, Frr, Routes, Running, run_in
-from mrttools.agent.sniffer import Database
 from mrttools.agent.daemon_list import Client
+from mrttools.agent.sniffer import Database
+from .daemons import Bird, Frr, Routes, Running, run_in
 from .network import Network
 
 PATIENCE = 90

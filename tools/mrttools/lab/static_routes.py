@@ -5,10 +5,10 @@ from __future__ import annotations
 import time
 from typing import Iterable
 
+from mrttools.program import Program
 from .failures import Failure
 from .forwarding import Batch, Installed
 from .network import Network
-from mrttools.program import Program
 from .running_network import PATIENCE, Lab, LabFault
 
 # The number under which zebra has static routes in the kernel.

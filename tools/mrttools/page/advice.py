@@ -8,11 +8,11 @@ from typing import Any, Collection, Iterator, Sequence
 
 from mrttools import area, lsas
 from mrttools.area import MAINTENANCE, Bond, Node
-from .causes import INELIGIBLE, METRIC, NO_MRT, ONE_END, Cause, Causes
 from mrttools.exits import NOT_THERE, ToolFault
-from .new_links import Choice, Joining, Link
 from mrttools.lsas import ROUTER
 from mrttools.program import Program
+from .causes import INELIGIBLE, METRIC, NO_MRT, ONE_END, Cause, Causes
+from .new_links import Choice, Joining, Link
 from .plain_values import Found, Values, cause_values
 
 MOST = 10

@@ -6,9 +6,9 @@ from collections import deque
 from typing import Iterator, NamedTuple, Sequence
 
 from mrttools.area import MAINTENANCE, Bond, Node
+from mrttools.paths import Graph
 from .cuts import Cut
 from .islands import Islands
-from mrttools.paths import Graph
 
 NO_MRT, INELIGIBLE, METRIC, ONE_END = "no-mrt", "ineligible", "metric", "one-end"
 

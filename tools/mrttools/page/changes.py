@@ -4,14 +4,14 @@ from __future__ import annotations
 from typing import Iterable, Iterator, NamedTuple
 
 from mrttools import lsas, names
-from . import client, cross_check, cuts, facts, islands
 from mrttools.area import Area, Bond, Node
 from mrttools.certificate import COLORS
+from mrttools.paths import Graph
+from mrttools.program import Program
+from . import client, cross_check, cuts, facts, islands
 from .cuts import Cut
 from .facts import Facts, Ground
 from .islands import Islands
-from mrttools.paths import Graph
-from mrttools.program import Program
 from .target import END
 
 SHOWN = 20

@@ -7,8 +7,8 @@ from typing import NamedTuple, Sequence
 from mrttools import area, certificate, lsas
 from mrttools.area import Area, Bond, Node
 from mrttools.exits import REFUSED, ToolFault
-from .picture import Island
 from mrttools.program import Program
+from .picture import Island
 
 # A script's greatest number of packets.
 ROOM = 65535

@@ -5,14 +5,14 @@ from __future__ import annotations
 from typing import Iterator, NamedTuple
 
 from mrttools import lsas
-from . import client
-from .client import Packet
 from mrttools.certificate import COLORS
 from mrttools.exits import REFUSED, ToolFault
-from .facts import Facts, Tell, name_of
 from mrttools.lsas import ROUTER
 from mrttools.paths import Graph
 from mrttools.program import Program
+from . import client
+from .client import Packet
+from .facts import Facts, Tell, name_of
 from .stretches import Stretched
 from .target import END
 

@@ -6,6 +6,7 @@ from collections import Counter
 from typing import Callable, Iterator, NamedTuple
 
 from mrttools.area import Node
+from mrttools.paths import FAR, METRIC, Graph, Hop, Tree
 from .causes import Parting, WhyNot
 from .colors import Colors
 from .cuts import Cut
@@ -13,7 +14,6 @@ from .demand import EVEN, Demand
 from .islands import Islands
 from .loads import Loads
 from .losses import Losses
-from mrttools.paths import FAR, METRIC, Graph, Hop, Tree
 from .stretches import Stretches
 from .target import END, PARTED, Repairs, Target
 

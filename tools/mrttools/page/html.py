@@ -10,12 +10,12 @@ import shutil
 from typing import Any, NamedTuple, Sequence
 
 from mrttools import names
-from . import layout
 from mrttools.area import Node
 from mrttools.exits import READ_FAULT, ToolFault
-from .new_links import NEAR
-from .matrix import Matrix
 from mrttools.names import count
+from . import layout
+from .matrix import Matrix
+from .new_links import NEAR
 from .plain_values import Values
 
 FOLDER = os.path.join(os.path.dirname(os.path.abspath(__file__)), "templates")

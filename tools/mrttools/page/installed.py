@@ -8,12 +8,12 @@ import time
 from typing import Any
 
 from mrttools import area
-from . import origin
 from mrttools.area import Node
 from mrttools.exits import READ_FAULT, ToolFault
-from .islands import Islands
 from mrttools.lsas import ROUTER
 from mrttools.program import Program
+from . import origin
+from .islands import Islands
 
 FORMAT = "semborui-agent"
 # Seconds after which what an agent said is old; so is what it said that long in the future.

@@ -4,12 +4,12 @@ from __future__ import annotations
 from typing import NamedTuple, Sequence
 
 from mrttools import area
-from . import client
 from mrttools.area import Area, Bond, Node
-from .cuts import Cut
 from mrttools.lsas import ROUTER
-from .picture import Island, Parts
 from mrttools.program import Program
+from . import client
+from .cuts import Cut
+from .picture import Island, Parts
 
 
 class Islands(NamedTuple):

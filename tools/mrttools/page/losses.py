@@ -5,8 +5,8 @@ from __future__ import annotations
 
 from typing import Iterable, Iterator, NamedTuple
 
-from .causes import Causes, Parting, WhyNot, is_choice
 from mrttools.paths import Graph, Hop
+from .causes import Causes, Parting, WhyNot, is_choice
 from .target import END, GAP, PARTED, Repairs, Row, Target, routers_of, size_of
 
 # How many pairs a failure tells by name.

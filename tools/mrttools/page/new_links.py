@@ -6,8 +6,8 @@ from collections import deque
 from typing import Collection, NamedTuple, Sequence
 
 from mrttools.area import Area, Bond, Node
-from .cuts import Block, Forest
 from mrttools.lsas import ROUTER
+from .cuts import Block, Forest
 
 # Routers so many hops apart are near.
 NEAR = 3

@@ -8,9 +8,9 @@ import time
 from typing import Any
 
 from mrttools import lsas
-from . import client
 from mrttools.lsas import Lsa
 from mrttools.program import Program
+from . import client
 
 TIME = "%Y-%m-%dT%H:%M:%SZ"
 

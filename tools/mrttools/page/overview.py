@@ -3,12 +3,12 @@ from __future__ import annotations
 
 from typing import NamedTuple, Sequence
 
-from . import islands, picture, svg
 from mrttools.area import Area, Bond, Node
-from .cuts import Cut
-from .islands import Islands
 from mrttools.lsas import ROUTER
 from mrttools.names import count
+from . import islands, picture, svg
+from .cuts import Cut
+from .islands import Islands
 from .picture import Style
 from .svg import Drawing, Mark, Stroke
 

@@ -4,19 +4,19 @@ from __future__ import annotations
 from typing import Any, NamedTuple
 
 from mrttools import lsas
-from . import client, cross_check, cuts, facts, islands, origin, stretches
-from .cross_check import Asked
 from mrttools.area import Area, Bond, Node
-from .causes import Cause, Causes, is_choice
 from mrttools.certificate import COLORS
+from mrttools.lsas import ROUTER
+from mrttools.paths import METRIC, Graph
+from mrttools.program import Program
+from . import client, cross_check, cuts, facts, islands, origin, stretches
+from .causes import Cause, Causes, is_choice
+from .cross_check import Asked
 from .cuts import Cut
 from .demand import EVEN, Demand
 from .facts import Facts, Ground
 from .islands import Islands
 from .losses import Tally, Toll
-from mrttools.lsas import ROUTER
-from mrttools.paths import METRIC, Graph
-from mrttools.program import Program
 from .stretches import Longest, Stretched
 from .target import routers_of, size_of
 

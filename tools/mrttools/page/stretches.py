@@ -6,8 +6,8 @@ from bisect import bisect_left, bisect_right
 from itertools import accumulate
 from typing import NamedTuple, Sequence
 
-from .demand import Demand
 from mrttools.paths import METRIC, Graph, Hop, Tree
+from .demand import Demand
 from .target import Repairs, Target
 
 WORST = 10

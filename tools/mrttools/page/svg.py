@@ -5,8 +5,8 @@ from __future__ import annotations
 from html import escape
 from typing import Iterator, NamedTuple, Sequence
 
-from . import layout
 from mrttools.area import Bond, Node
+from . import layout
 from .layout import Layout, Point, Size
 
 FONT = "Helvetica, Arial, sans-serif"

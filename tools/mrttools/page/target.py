@@ -3,9 +3,9 @@ from __future__ import annotations
 
 from typing import Callable, Iterator, TypeVar
 
+from mrttools.paths import Graph, Hop
 from .colors import Colors, Ways
 from .demand import Demand
-from mrttools.paths import Graph, Hop
 
 # What becomes of packets after a failure, where it is no color: no way is left in the area, there is one that no color
 # may take, or the destination itself has failed.

@@ -3,9 +3,9 @@ from __future__ import annotations
 
 from typing import Iterable
 
+from mrttools.lsas import spelled
 from . import kernel
 from .kernel import TABLES, Entry, Interfaces
-from mrttools.lsas import spelled
 from .nexthops import Hop
 
 

@@ -10,8 +10,8 @@ from typing import Iterable, NamedTuple
 from mrttools import lsas
 from mrttools.area import Node
 from mrttools.exits import READ_FAULT, ToolFault
-from .kernel import Interfaces
 from mrttools.lsas import NETWORK, ROUTER, STUB, Lsa
+from .kernel import Interfaces
 
 HOST = 0xFFFFFFFF
 # The routes' protocols, by the names and numbers that `ip` has for FRR's OSPF and for BIRD.

@@ -5,9 +5,9 @@ from __future__ import annotations
 from mrttools import area, lsas
 from mrttools.area import Bond, Node
 from mrttools.exits import REFUSED, ToolFault
+from mrttools.lsas import NETWORK, ROUTER
 from .host_entries import after_daemon, entry_of
 from .kernel import FOR_PORT, FOR_WORD, Entry
-from mrttools.lsas import NETWORK, ROUTER
 from .nexthops import Hop, Route, Unfit, Ways
 from .owners import HOST, Daemon, Owners, Prefix, owners_of
 

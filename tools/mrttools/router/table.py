@@ -6,8 +6,8 @@ from ipaddress import IPv4Network
 from typing import NamedTuple
 
 from mrttools import lsas
-from . import kernel
 from mrttools.exits import READ_FAULT, ToolFault
+from . import kernel
 from .kernel import Entry, Interfaces
 from .nexthops import Ways
 from .owners import Daemon
