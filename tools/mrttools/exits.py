@@ -9,11 +9,11 @@ REFUSED, USAGE, NOT_THERE, READ_FAULT, WRITE_FAULT = 1, 2, 7, 8, 9
 
 
 class ToolFault(Exception):
-    """Why a tool stops: its line and its status. Where the line is empty, it has been told already: `told`."""
+    """Why a tool stops: its line and its status. What is printed is empty where the line has been told already."""
 
     def __init__(self, line: str, status: int, told: str = "") -> None:
         super().__init__(line)
-        self.status, self.told = status, told or line
+        self.status, self.line = status, told or line
 
 
 def system_line(fault: OSError) -> str:

@@ -13,7 +13,7 @@ from typing import Iterable
 SIGNALS = signal.SIGTERM, signal.SIGINT, signal.SIGHUP
 
 
-class Waiting:
+class HeldSignals:
     """A signal ends the agent while it waits and nowhere else, so that none comes in the middle of a change. What the
     agent starts has the signals blocked as well."""
 

@@ -15,8 +15,8 @@ from mrttools.agent import batch, generations
 from mrttools.agent.batch import NOTHING, State
 from mrttools.agent.loop import Agent
 from mrttools.agent.settings import Settings
-from mrttools.agent.sources import Told
-from mrttools.agent.surroundings import Around
+from mrttools.agent.sources import Snapshot
+from mrttools.agent.surroundings import Surroundings
 from mrttools.lab.network import router_id
 from mrttools.lsas import Lsa, address, split
 from mrttools.router import kernel
@@ -32,7 +32,7 @@ class Stand:
     """A source of LSAs."""
 
     def __init__(self) -> None:
-        self.told = Told(list(split(lsas_of(PLAN))))
+        self.snapshot = Snapshot(list(split(lsas_of(PLAN))))
 
     def name(self) -> str:
         return "a test"
@@ -40,8 +40,8 @@ class Stand:
     def filenos(self) -> list[int]:
         return []
 
-    def look(self, now: float, interfaces: Interfaces) -> Told:
-        return self.told
+    def look(self, now: float, interfaces: Interfaces) -> Snapshot:
+        return self.snapshot
 
     def next(self, now: float) -> float:
         return now + 60
@@ -116,8 +116,8 @@ class WithAgent(unittest.TestCase):
             "dry_run": False,
         }
         settings = Settings(self.place.kept, self.place.root)
-        around = Around(self.router, self.source, settings, lambda sources, seconds: None, lambda: self.now)
-        agent = Agent(argparse.Namespace(**said | more), around)
+        surroundings = Surroundings(self.router, self.source, settings, lambda sources, seconds: None, lambda: self.now)
+        agent = Agent(argparse.Namespace(**said | more), surroundings)
         self.quietly(lambda: agent.begin(self.now))
         # (what others had of late is no matter here)
         agent.knows = True
@@ -149,7 +149,7 @@ class WithAgent(unittest.TestCase):
         return self.step(agent, 0.25)
 
     def put(self, records: Iterable[Lsa]) -> None:
-        self.source.told = Told(list(records))
+        self.source.snapshot = Snapshot(list(records))
 
     def without_link(self, one: int, other: int) -> None:
         wires = [wire for wire in PLAN.wires if set(wire.metrics) != {one, other}]

@@ -123,8 +123,8 @@ class Signals(unittest.TestCase):
     PROGRAM = """
 import os, signal, sys, time
 from mrttools.agent.batch import Linux
-from mrttools.signals import Waiting
-waiting = Waiting()
+from mrttools.signals import HeldSignals
+waiting = HeldSignals()
 print("begun", flush=True)
 time.sleep(0.5)
 print(Linux().run("sh", "-c", "kill -%d $$; echo child"), end="", flush=True)
@@ -148,7 +148,7 @@ print("not here", flush=True)
         words = [
             sys.executable,
             "-c",
-            "from mrttools.signals import Waiting; w = Waiting(); print(flush=True); w.wait([], 60)",
+            "from mrttools.signals import HeldSignals; w = HeldSignals(); print(flush=True); w.wait([], 60)",
         ]
         with subprocess.Popen(words, stdout=subprocess.PIPE, cwd=TOOLS, text=True) as process:
             assert process.stdout
@@ -163,8 +163,8 @@ class TheProfile(unittest.TestCase):
     PROGRAM = """
 import os, sys, time
 from mrttools.agent.file_watch import Watched
-from mrttools.signals import Waiting
-waiting, watched = Waiting(), Watched(sys.argv[1])
+from mrttools.signals import HeldSignals
+waiting, watched = HeldSignals(), Watched(sys.argv[1])
 for _ in range(3):
     print("waits", flush=True)
     began = time.monotonic()
@@ -335,7 +335,7 @@ class OfItself(WithAgent):
             if strict:
                 self.quietly(agent.take_away)
             else:
-                settings = agent.around.settings
+                settings = agent.surroundings.settings
                 with mock.patch.multiple(commands, Linux=lambda: self.router, Settings=lambda name: settings):
                     commands.remove(self.folder)
             self.assertEqual(self.repairs(), {})

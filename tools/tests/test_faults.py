@@ -11,7 +11,7 @@ from mrttools.agent.generations import PAUSE
 from mrttools.agent.inputs import ROUTE_KEPT
 from mrttools.agent.loop import KERNEL_EVERY, LACKING, RETRY
 from mrttools.agent.netlink import News
-from mrttools.agent.sources import SILENT, Told
+from mrttools.agent.sources import SILENT, Snapshot
 from mrttools.lsas import address, lsa_of, split
 from mrttools.router import kernel, table
 from tests.kernels import PLAN
@@ -44,7 +44,7 @@ class Faults(WithAgent):
         with mock.patch.object(inputs, "usable", lambda found: (found, [])):
             self.test_a_link_with_metric_0()
         self.assertIsNone(loop.record_at([], "mrt: bad database: length at 7"))
-        self.assertIsNone(loop.record_at(agent.sight.found, "mrt: too large: area-nodes 5000"))
+        self.assertIsNone(loop.record_at(agent.inputs.lsas, "mrt: too large: area-nodes 5000"))
 
     def test_mrt_refuses(self) -> None:
         for strict in (False, True):
@@ -76,7 +76,7 @@ class Faults(WithAgent):
             agent = self.agent(strict=strict)
             self.settle(agent)
             before = self.router.state()
-            self.source.told = Told([], (SILENT,))
+            self.source.snapshot = Snapshot([], (SILENT,))
             self.step(agent, LACKING - 1)
             self.assertEqual(self.router.state(), before)
             self.step(agent, 1.1)
@@ -91,7 +91,7 @@ class Faults(WithAgent):
     def test_a_route_that_goes_while_no_table_can_be_made(self) -> None:
         """Its repair goes too, as soon as it would where there is a table, and comes back with the route: mrt need not run.
         Rows stay, for others."""
-        prefix, silent, off = "10.255.0.3/32", Told([], (SILENT,)), OSError("no word")
+        prefix, silent, off = "10.255.0.3/32", Snapshot([], (SILENT,)), OSError("no word")
         for fault in ("profile", "daemon", "source", "start"):
             agent = self.agent()
             self.settle(agent)
@@ -103,11 +103,11 @@ class Faults(WithAgent):
                 elif fault == "source":
                     until.enter_context(mock.patch.object(self.source, "look", side_effect=off))
                 else:
-                    until.enter_context(mock.patch.object(self.source, "told", silent))
+                    until.enter_context(mock.patch.object(self.source, "snapshot", silent))
                 if fault == "start":
                     agent = self.agent()
                 self.step(agent, 1, 0.3)
-                self.assertTrue(agent.fault or agent.sight.lacks())
+                self.assertTrue(agent.fault or agent.inputs.lacks())
                 until.enter_context(mock.patch.object(self.router, "daemon", self.router.daemon - {prefix}))
                 self.router.told = News(protocols=frozenset({188}))
                 self.step(agent, ROUTE_KEPT - 1)
@@ -145,7 +145,7 @@ class Faults(WithAgent):
         self.assertIn(f"agent: waits: {self.name('profile')}: No such file or directory", self.told)
         os.rename(self.name("away"), self.name("profile"))
         self.step(agent, 1, 0.3)
-        self.assertEqual((self.router.state(), agent.sight.lacks()), (before, []))
+        self.assertEqual((self.router.state(), agent.inputs.lacks()), (before, []))
 
     def test_an_interface_that_is_not_there(self) -> None:
         """For a while the daemon may soon tell otherwise; then what goes over it is left out, and the rest stays."""
@@ -235,7 +235,7 @@ class Faults(WithAgent):
                 for seconds in (0, 0.25):
                     self.now += seconds
                     agent.step()
-                with mock.patch.object(agent.sight, "look", side_effect=OSError("a fault")):
+                with mock.patch.object(agent.inputs, "look", side_effect=OSError("a fault")):
                     agent.step()
             with contextlib.suppress(OSError):
                 full.close()
@@ -250,13 +250,13 @@ class Faults(WithAgent):
             self.settle(agent)
             state = self.router.state()
             self.assertNotEqual(self.place.read(), before)
-            agent.around = agent.around._replace(wait=mock.Mock(side_effect=SystemExit(143)))
+            agent.surroundings = agent.surroundings._replace(wait=mock.Mock(side_effect=SystemExit(143)))
             with self.assertRaises(SystemExit):
-                self.quietly(lambda: commands.keep_until_end(agent, agent.said))
+                self.quietly(lambda: commands.keep_until_end(agent, agent.args))
             self.assertEqual(self.router.state(), NOTHING if strict else state)
             self.assertEqual(self.place.read() == before, strict)
             if not strict:
-                agent.around.settings.put_back()
+                agent.surroundings.settings.put_back()
 
 
 @unittest.skipUnless(os.path.exists(MRT), "the program is not built")
@@ -266,9 +266,9 @@ class PutBack(WithAgent):
         self.settle(agent)
         marks, before = self.router.nft, self.router.state()
         self.assertIn("chain write", marks)
-        for told in (Told([], (SILENT,)), self.source.told):
+        for told in (Snapshot([], (SILENT,)), self.source.snapshot):
             self.step(agent, 1)
-            self.source.told, self.router.nft = told, ""
+            self.source.snapshot, self.router.nft = told, ""
             self.router.told = News(marks=True)
             self.assertEqual(self.step(agent), ["nft table ip mrt"])
             self.assertEqual((self.router.nft, self.router.state()), (marks, before))
@@ -281,7 +281,7 @@ class PutBack(WithAgent):
         """Where others change them before there is a table they come back as they were, and once."""
         self.settle(self.agent())
         marks, times = self.router.nft, self.router.marked
-        self.source.told = Told([], (SILENT,))
+        self.source.snapshot = Snapshot([], (SILENT,))
         agent = self.agent()
         self.step(agent, 1)
         self.assertEqual((self.router.nft, self.router.marked), (marks, times))
@@ -314,7 +314,7 @@ class PutBack(WithAgent):
         agent = self.agent()
         self.settle(agent)
         self.router.lines.clear()
-        self.source.told, before = Told([], (SILENT,)), self.router.batches
+        self.source.snapshot, before = Snapshot([], (SILENT,)), self.router.batches
         self.step(agent, KERNEL_EVERY + 1, KERNEL_EVERY + 1)
         self.assertEqual(self.router.batches, before)
 

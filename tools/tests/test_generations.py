@@ -20,7 +20,7 @@ from mrttools.router import kernel, table
 from mrttools.router.kernel import Interfaces
 from mrttools.router.nexthops import Ways
 from mrttools.router.owners import Daemon
-from mrttools.router.table import Wanted
+from mrttools.router.table import TableOptions
 from tests.kernels import ModelKernel
 from tests.making import MRT
 from tests.networks import lsas_of, random_plan
@@ -44,7 +44,7 @@ def made_of(plan: Plan, stubs: Stubs, profile: str, router: int) -> Made:
             Program(MRT, file.name, profile), list(lsas.split(lsas_of(plan, stubs))), lsas.address(router_id(router))
         )
         attached = {1: IPv4Network(CUSTOMER)} if router in stubs else {}
-        found = table.table_of(ways, Daemon(None, Interfaces(None, attached)), Wanted(True, True, True, kernel.POOL))
+        found = table.table_of(ways, Daemon(None, Interfaces(None, attached)), TableOptions(True, True, True, kernel.POOL))
     owners = {entry.prefix: entry.owners for entry in found.entries}
     return Made(table.digest_of(ways.certified), found.generation, batch.state_of(found.routes), owners)
 

@@ -13,7 +13,7 @@ from mrttools.agent.generations import KEPT, PAUSE, TURN
 from mrttools.agent.inputs import MOST_PASSED, PROFILE_WATCHED, ROUTE_KEPT, ROUTES_EVERY, ROUTES_SELDOM
 from mrttools.agent.loop import RETRY
 from mrttools.agent.netlink import News
-from mrttools.agent.sources import SILENT, Told
+from mrttools.agent.sources import SILENT, Snapshot
 from mrttools.lab.network import router_id
 from mrttools.lsas import address, lsa_of, sealed, split
 from mrttools.router import kernel, table
@@ -120,7 +120,7 @@ class Changes(WithAgent):
             self.assertIn("another certificate of generation 5", " ".join(self.told))
             # (the same certificate again, as for a route that comes, is no reason to take any of it away)
             self.router.told = News(protocols=frozenset({188}))
-            agent.settling.note(self.now)
+            agent.debounce.note(self.now)
             self.step(agent, 0.3, KEPT - 0.5)
             self.assertEqual(self.router.state(), before)
             self.step(agent, 0.3)
@@ -191,7 +191,7 @@ class Changes(WithAgent):
             wires = [wire._replace(metrics=dict.fromkeys(wire.metrics, 20 + number)) for wire in PLAN.wires]
             self.put(split(lsas_of(PLAN._replace(wires=wires))))
             self.step(agent, 0.15)
-            self.assertLessEqual(len(agent.sight.passed), MOST_PASSED + 1)
+            self.assertLessEqual(len(agent.inputs.passed), MOST_PASSED + 1)
         self.without_link(2, 3)
         before = self.colors()
         self.settle(agent)
@@ -233,14 +233,14 @@ class Changes(WithAgent):
             with mock.patch.object(table, "generation_of", lambda *_: 1):
                 agent = self.agent()
                 self.settle(agent)
-            agent.settling.times = {address("10.255.0.3"): deque([self.now] * OFTEN, maxlen=OFTEN)}
+            agent.debounce.times = {address("10.255.0.3"): deque([self.now] * OFTEN, maxlen=OFTEN)}
             with mock.patch.object(table, "generation_of", lambda *_, mine=mine: mine):
                 wires = [wire for wire in PLAN.wires if set(wire.metrics) != {2, 3}]
                 other = {lsa.key: lsa for lsa in split(lsas_of(PLAN._replace(wires=wires)))}
                 self.put(other[lsa.key] if lsa.router == address("10.255.0.3") else lsa for lsa in split(lsas_of(PLAN)))
                 self.settle(agent)
                 told = sum("another certificate" in line for line in self.told)
-                self.assertEqual((told, agent.settling.due() is None), (is_early, is_early))
+                self.assertEqual((told, agent.debounce.due() is None), (is_early, is_early))
                 self.told.clear()
 
     def test_repairs_that_others_have_taken_the_place_of(self) -> None:
@@ -316,7 +316,7 @@ class Changes(WithAgent):
         os.mkfifo(self.name("profile"))
         agent = self.agent()
         self.settle(agent)
-        self.assertEqual(agent.sight.lacks(), [f"{self.name('profile')}: it is no file"])
+        self.assertEqual(agent.inputs.lacks(), [f"{self.name('profile')}: it is no file"])
         os.remove(self.name("profile"))
         self.write_profile(2)
         self.step(agent, 1)
@@ -326,20 +326,20 @@ class Changes(WithAgent):
     def test_a_profile_that_the_kernel_tells_of(self) -> None:
         """It is read when it has changed, and else seldom."""
         agent = self.agent()
-        agent.sight.watched = mock.Mock(take=mock.Mock(return_value=False))
+        agent.inputs.watched = mock.Mock(take=mock.Mock(return_value=False))
 
         def is_read(root: int) -> bool:
-            return agent.sight.profile == f"priority {router_id(root)} 1\n".encode()
+            return agent.inputs.profile == f"priority {router_id(root)} 1\n".encode()
 
         self.settle(agent)
         self.write_profile(2)
         self.step(agent, PROFILE_WATCHED / 3, PROFILE_WATCHED / 3)
         self.assertFalse(is_read(2))
-        self.assertGreater(agent.sight.next(self.now), self.now + 1)
-        agent.sight.watched.take.return_value = True
+        self.assertGreater(agent.inputs.next(self.now), self.now + 1)
+        agent.inputs.watched.take.return_value = True
         self.step(agent)
         self.assertTrue(is_read(2))
-        agent.sight.watched.take.return_value = False
+        agent.inputs.watched.take.return_value = False
         self.write_profile(3)
         self.step(agent, PROFILE_WATCHED - 1)
         self.assertFalse(is_read(3))
@@ -349,7 +349,7 @@ class Changes(WithAgent):
     def test_newer_instances_that_say_the_same(self) -> None:
         agent = self.agent()
         self.settle(agent)
-        again = (sealed(lsa, lsa.sequence + 1, lsa.record[20:]) for lsa in self.source.told.found)
+        again = (sealed(lsa, lsa.sequence + 1, lsa.record[20:]) for lsa in self.source.snapshot.lsas)
         self.put(map(lsa_of, again))
         batches = self.router.batches
         with mock.patch.object(os, "fsync", side_effect=AssertionError("the disk is waited for")):
@@ -359,7 +359,7 @@ class Changes(WithAgent):
         self.router.told = News(protocols=frozenset({188}))
         self.settle(agent)
         with open(self.name("area.lsas"), "rb") as file:
-            self.assertEqual(file.read(), b"".join(lsa.record for lsa in self.source.told.found))
+            self.assertEqual(file.read(), b"".join(lsa.record for lsa in self.source.snapshot.lsas))
 
     def test_a_dry_run(self) -> None:
         agent = self.agent(dry_run=True)
@@ -371,7 +371,7 @@ class Changes(WithAgent):
         """It changes nothing either, however long, of what an agent before has left."""
         self.settle(self.agent())
         state = self.router.state()
-        self.source.told = Told([], (SILENT,))
+        self.source.snapshot = Snapshot([], (SILENT,))
         agent = self.agent(dry_run=True, strict=True)
         self.step(agent, 1, LINGER, LINGER)
         self.assertFalse(agent.done)
@@ -410,8 +410,8 @@ class Routes(WithAgent):
         self.router.daemon |= {"203.0.113.0/24"}
         self.router.told = News(protocols=frozenset({188}))
         self.step(agent)
-        self.assertIsNone(agent.settling.due())
-        self.assertNotIn("203.0.113.0/24", agent.sight.daemon(self.now).routes or ())
+        self.assertIsNone(agent.debounce.due())
+        self.assertNotIn("203.0.113.0/24", agent.inputs.daemon(self.now).routes or ())
 
     def test_a_route_that_goes_counts_for_a_while(self) -> None:
         """The daemon has none while it finds new ways, and then the repair is what carries packets."""
@@ -431,7 +431,7 @@ class Routes(WithAgent):
         self.settle(agent)
         self.router.daemon -= {"10.255.0.3/32"}
         self.step(agent, ROUTES_SELDOM / 2, ROUTES_SELDOM / 2)
-        self.assertLessEqual(agent.sight.next(self.now), self.now + ROUTE_KEPT)
+        self.assertLessEqual(agent.inputs.next(self.now), self.now + ROUTE_KEPT)
         self.step(agent, ROUTE_KEPT + 0.1, 0.3)
         self.assertNotIn("10.255.0.3/32", self.repairs())
 
@@ -443,7 +443,7 @@ class Routes(WithAgent):
         for _ in range(5):
             self.router.told = News(protocols=frozenset({188}))
             self.step(agent)
-            self.assertIsNone(agent.settling.due())
+            self.assertIsNone(agent.debounce.due())
             self.now += 1
         # A prefix that is seen while others are on their way is not forgotten.
         self.router.told = News(protocols=frozenset({188}))
@@ -453,7 +453,7 @@ class Routes(WithAgent):
         self.step(agent)
         self.assertLessEqual(agent.next(self.now), self.now + ROUTES_EVERY)
         self.step(agent, ROUTES_EVERY)
-        self.assertIsNotNone(agent.settling.due())
+        self.assertIsNotNone(agent.debounce.due())
 
     def test_a_daemon_with_the_routes_of_the_internet(self) -> None:
         """A look at them takes long, and is a small part of the time."""

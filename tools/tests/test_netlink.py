@@ -17,7 +17,7 @@ import tempfile
 import tracemalloc
 from mrttools.agent import batch, netlink
 from mrttools.agent.batch import Linux
-from mrttools.agent.own_kernel import Here
+from mrttools.agent.own_kernel import OwnKernel
 from mrttools.router import kernel
 
 def run(text):
@@ -30,7 +30,7 @@ address add 192.0.2.1/24 dev a
 address add 192.0.2.129/32 peer 192.0.2.200 dev a
 address add 198.51.100.1/24 dev b
 ''')
-here, ip = Here("frr"), Linux()
+here, ip = OwnKernel("frr"), Linux()
 assert not here.news().interfaces
 routes = [
     f"10.0.0.1/32 via 192.0.2.9 dev a metric {kernel.AFTER_DAEMON + 30} realm 109 proto 78",

@@ -101,7 +101,7 @@ class Running(unittest.TestCase):
         with open(os.devnull, "w", encoding="ascii") as nowhere, contextlib.redirect_stderr(nowhere):
             with self.assertRaises(ToolFault) as caught:
                 Program(self.path, "db", "pf").run("certify", "x", "y")
-        self.assertEqual((caught.exception.status, caught.exception.told, str(caught.exception)), (5, "why", ""))
+        self.assertEqual((caught.exception.status, caught.exception.line, str(caught.exception)), (5, "why", ""))
 
 
 class StandIn:
@@ -139,7 +139,7 @@ class Here(unittest.TestCase):
         with open(os.devnull, "w", encoding="ascii") as nowhere, contextlib.redirect_stderr(nowhere):
             with self.assertRaises(ToolFault) as caught:
                 self.mrt().run("certify", "fault")
-        told = caught.exception.status, caught.exception.told, str(caught.exception)
+        told = caught.exception.status, caught.exception.line, str(caught.exception)
         self.assertEqual(told, (3, "mrt: bad database: length at 0", ""))
 
     def test_many(self) -> None:

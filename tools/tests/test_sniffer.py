@@ -15,7 +15,7 @@ from unittest import mock
 
 from mrttools import capture, updates
 from mrttools.agent import daemon_list, sniffer
-from mrttools.agent.sniffer import AT_ONCE, COUNT, Caught, Heard, Look, Neighbor, instance_of
+from mrttools.agent.sniffer import AT_ONCE, COUNT, PacketCopy, HeardLsas, DaemonView, Neighbor, instance_of
 from mrttools.lab.daemons import Bird, Frr
 from mrttools.lab.network import Network, Plan, Wire, link
 from mrttools.lab.running_network import Lab
@@ -128,8 +128,8 @@ class Lists(unittest.TestCase):
 
     def test_all_that_is_said(self) -> None:
         one, network = LISTED
-        self.assertEqual(daemon_list.frr_look([FRR_LOOK], 0), Look(LISTED, {one: 7, network: 36}, NEIGHBORS))
-        self.assertEqual(daemon_list.bird_look(BIRD_LOOK, 0), Look(LISTED, {}, NEIGHBORS))
+        self.assertEqual(daemon_list.frr_look([FRR_LOOK], 0), DaemonView(LISTED, {one: 7, network: 36}, NEIGHBORS))
+        self.assertEqual(daemon_list.bird_look(BIRD_LOOK, 0), DaemonView(LISTED, {}, NEIGHBORS))
 
     def test_a_network_that_came_between_two_questions(self) -> None:
         """Its size is not known, so that it is not taken yet."""
@@ -143,7 +143,7 @@ class Lists(unittest.TestCase):
             self.assertIsNone(daemon_list.frr_look([text], 0))
         self.assertIsNone(daemon_list.frr_look([FRR_LOOK], 2))
         self.assertIsNone(daemon_list.bird_look(BIRD_LOOK, 2))
-        self.assertEqual(daemon_list.bird_look([BIRD_LIST, "", ""], 0), Look(LISTED, {}, frozenset()))
+        self.assertEqual(daemon_list.bird_look([BIRD_LIST, "", ""], 0), DaemonView(LISTED, {}, frozenset()))
 
 
 # whose packets count
@@ -156,28 +156,28 @@ MINE = {address(OWN): "core", address("192.0.2.1"): "customer"}
 ROUTER_ID = address("2.2.2.2")
 
 
-def look(*records: bytes, **more: int) -> Look:
+def look(*records: bytes, **more: int) -> DaemonView:
     """What a daemon says that has these LSAs and one neighbor."""
     found = [lsa_of(record) for record in records]
     sizes = {each.key: sniffer.size_of(each) for each in found} if more.get("sized") else {}
-    return Look({each.key: instance_of(each) for each in found}, sizes, frozenset({SENDER}))
+    return DaemonView({each.key: instance_of(each) for each in found}, sizes, frozenset({SENDER}))
 
 
-def came(payload: bytes, device: str = "core", out: bool = False, ends: tuple[str, str] = (NEAR, ALL)) -> Caught:
-    return Caught(device, out, datagram(payload, ends=ends))
+def came(payload: bytes, device: str = "core", out: bool = False, ends: tuple[str, str] = (NEAR, ALL)) -> PacketCopy:
+    return PacketCopy(device, out, datagram(payload, ends=ends))
 
 
 class Hearing(unittest.TestCase):
     def setUp(self) -> None:
-        self.heard = Heard(0, ROUTER_ID, [])
+        self.heard = HeardLsas(0, ROUTER_ID, [])
 
-    def take(self, *packets: Caught, listed: Look) -> tuple[list[bytes], list[str]]:
+    def take(self, *packets: PacketCopy, listed: DaemonView) -> tuple[list[bytes], list[str]]:
         there, lacks_of = self.heard.take(iter(packets), listed, MINE)
         return [each.record for each in there], lacks_of
 
     def test_what_the_daemon_lists(self) -> None:
         one, other = pair()
-        parts = [Caught("core", False, part) for part in fragments(update([other]), 32)]
+        parts = [PacketCopy("core", False, part) for part in fragments(update([other]), 32)]
         self.assertEqual(self.take(came(update([one])), *parts, listed=look(one, other)), ([one, other], []))
         self.assertEqual(self.take(listed=look(one)), ([one], []))
 
@@ -272,7 +272,7 @@ class Hearing(unittest.TestCase):
             datagram(update([one]), protocol=17),
             datagram(ospf(1, update([one])[24:])),
         ):
-            found = self.take(Caught("core", False, packet), came(update([other])), listed=look(one, other))
+            found = self.take(PacketCopy("core", False, packet), came(update([other])), listed=look(one, other))
             self.assertEqual(found, ([other], ["not heard: router-LSA of 1.1.1.1"]))
 
     def test_an_interface_without_ospf(self) -> None:
@@ -313,13 +313,13 @@ class Hearing(unittest.TestCase):
             self.setUp()
             data = bytearray(came(update(pair())).data)
             data[8] = hops
-            found = self.take(Caught("core", False, bytes(data)), listed=look(*pair()))
+            found = self.take(PacketCopy("core", False, bytes(data)), listed=look(*pair()))
             self.assertEqual(found[0], pair() if hops in (1, 255) else [], hops)
 
     def test_what_the_router_sends_itself(self) -> None:
         """Its own LSAs, to all its neighbors: what goes out to one address may only go through."""
         one, own = pair()
-        sent = lambda ends: Caught("core", True, datagram(self.by_router(update([one, own])), ends=ends))
+        sent = lambda ends: PacketCopy("core", True, datagram(self.by_router(update([one, own])), ends=ends))
         for ends in itertools.product((OWN, NEAR, FAR, "192.0.2.1"), (ALL, DESIGNATED, NEAR, FAR, OWN)):
             self.setUp()
             found = self.take(sent(ends), listed=look(one, own))
@@ -343,15 +343,15 @@ class Hearing(unittest.TestCase):
         self.assertEqual(([each.record for each in there], lacking), (pair(), []))
 
     def test_what_was_there_before(self) -> None:
-        self.heard = Heard(0, ROUTER_ID, map(lsa_of, pair()))
+        self.heard = HeardLsas(0, ROUTER_ID, map(lsa_of, pair()))
         self.assertEqual(self.take(listed=look(*pair())), (pair(), []))
 
 
 class Floods(unittest.TestCase):
     """A neighbor that sends without end."""
 
-    def heard(self) -> Heard:
-        return Heard(0, ROUTER_ID, [])
+    def heard(self) -> HeardLsas:
+        return HeardLsas(0, ROUTER_ID, [])
 
     def empties(self, first: int, count: int) -> bytes:
         """A packet of the shortest LSAs that there are."""
@@ -404,7 +404,7 @@ class Floods(unittest.TestCase):
         waiting = itertools.repeat(packet)
         heard, taken = self.heard(), 0
 
-        def counted() -> Iterator[Caught]:
+        def counted() -> Iterator[PacketCopy]:
             nonlocal taken
             for each in waiting:
                 taken += len(each.data)
@@ -426,7 +426,7 @@ class Floods(unittest.TestCase):
         heard = self.heard()
         with mock.patch.object(sniffer, "PARTS", 3):
             for number in range(9):
-                part = Caught("core", False, fragments(update(pair()), 32, number)[0])
+                part = PacketCopy("core", False, fragments(update(pair()), 32, number)[0])
                 heard.take(iter([part]), look(), MINE)
                 self.assertLessEqual(sum(map(len, heard.fragments.waiting.values())), 3)
         # Those of others are not kept at all.
@@ -439,7 +439,7 @@ LACKS = lacks()
 
 
 @unittest.skipIf(LACKS, f"packets of an interface are not tried: {LACKS}")
-class Ears(unittest.TestCase):
+class PacketSocket(unittest.TestCase):
     """Packets between two namespaces."""
 
     spaces: ClassVar[list[str]]
@@ -458,8 +458,8 @@ class Ears(unittest.TestCase):
 
     def setUp(self) -> None:
         with inside(self.spaces[0]):
-            self.ears = sniffer.ears()
-        self.addCleanup(self.ears.close)
+            self.socket_of_packets = sniffer.packet_socket()
+        self.addCleanup(self.socket_of_packets.close)
         signal.alarm(30)
         self.addCleanup(signal.alarm, 0)
 
@@ -474,7 +474,7 @@ class Ears(unittest.TestCase):
     def caught(self) -> list[tuple[str, bool, str]]:
         """What has come within a while: by which interface, whether out, and from which address."""
         time.sleep(0.1)
-        found = list(sniffer.packets(self.ears))
+        found = list(sniffer.packets(self.socket_of_packets))
         self.assertTrue(all(capture.is_protocol(each.data, updates.PROTOCOL) for each in found))
         return [(each.device, each.out, socket.inet_ntoa(each.data[12:16])) for each in found]
 
@@ -516,7 +516,7 @@ class Ears(unittest.TestCase):
 
     def taken(self) -> list[bytes]:
         time.sleep(0.1)
-        there, _ = Heard(0, ROUTER_ID, []).take(sniffer.packets(self.ears), look(*pair()), MINE)
+        there, _ = HeardLsas(0, ROUTER_ID, []).take(sniffer.packets(self.socket_of_packets), look(*pair()), MINE)
         return [each.record for each in there]
 
 
@@ -537,9 +537,9 @@ class BesideDaemons(unittest.TestCase):
         lab = Lab(daemon, network, folder)
         self.addCleanup(lab.stop)
         with inside(network.of(2)):
-            source = sniffer.ears()
+            source = sniffer.packet_socket()
         self.addCleanup(source.close)
-        heard, own = Heard(0, address("10.255.0.2"), []), {
+        heard, own = HeardLsas(0, address("10.255.0.2"), []), {
             address(each.address): each.name for each in PLAN.interfaces(2)
         }
         for router in PLAN.routers:

@@ -7,7 +7,7 @@ from unittest import mock
 
 from mrttools.agent import exposure, sniffer, sources
 from mrttools.agent.ospfapi import ApiFault
-from mrttools.agent.sniffer import Caught, Database, Heard, Look, Neighbor, instance_of
+from mrttools.agent.sniffer import PacketCopy, Database, HeardLsas, DaemonView, Neighbor, instance_of
 from mrttools.lsas import Lsa, address, lsa_of
 from mrttools.router.kernel import Interfaces
 from mrttools.agent.sources import (
@@ -18,9 +18,9 @@ from mrttools.agent.sources import (
     ON_ITS_WAY,
     SILENT,
     SOON,
-    Ears,
-    Told,
-    Word,
+    SniffedSource,
+    Snapshot,
+    ApiSource,
     usable,
 )
 from tests.making import datagram, pair, router_lsa, update
@@ -54,11 +54,11 @@ class StandIn:
         return {key: instance_of(lsa) for key, lsa in self.found.items()}
 
 
-class EarsThat(Ears):
+class SniffedThat(SniffedSource):
     """What is heard."""
 
     def __init__(self, known: list[Lsa]) -> None:
-        self.told = Told(known, (SILENT,))
+        self.snapshot = Snapshot(known, (SILENT,))
         self.answers = False
         self.client = mock.Mock(database=lambda: {lsa.key: instance_of(lsa) for lsa in map(lsa_of, pair())})
 
@@ -68,8 +68,8 @@ class EarsThat(Ears):
     def filenos(self) -> list[int]:
         return [5]
 
-    def look(self, now: float, interfaces: Interfaces) -> Told:
-        return self.told
+    def look(self, now: float, interfaces: Interfaces) -> Snapshot:
+        return self.snapshot
 
     def next(self, now: float) -> float:
         return now + 1
@@ -89,11 +89,11 @@ class TheWord(unittest.TestCase):
         self.enterContext(
             mock.patch.object(exposure, "open_to_others", mock.Mock(side_effect=lambda port: self.exposed))
         )
-        self.word = Word(0, EarsThat, False, self.lines.append)
+        self.word = ApiSource(0, SniffedThat, False, self.lines.append)
 
     def whole(self) -> StandIn:
         """The word when all LSAs are there."""
-        self.word.ears.answers = True
+        self.word.sniffed.answers = True
         self.word.look(1, NAMES)
         self.apis[-1].whole = self.apis[-1].changed = True
         self.word.look(2, NAMES)
@@ -105,23 +105,23 @@ class TheWord(unittest.TestCase):
         self.assertEqual((self.apis, self.word.name()), ([], "ears"))
 
     def test_what_is_heard_until_all_is_told(self) -> None:
-        self.word.ears.answers = True
-        self.word.ears.told = heard = Told(list(map(lsa_of, pair()[:1])))
+        self.word.sniffed.answers = True
+        self.word.sniffed.snapshot = heard = Snapshot(list(map(lsa_of, pair()[:1])))
         self.assertEqual(self.word.filenos(), [5])
         self.assertIs(self.word.look(1, NAMES), heard)
         self.assertIs(self.word.look(2, NAMES), heard)
         self.assertEqual(self.word.filenos(), [7, 5])
         self.apis[0].whole = self.apis[0].changed = True
-        told = self.word.look(3, NAMES)
-        self.assertEqual(([lsa.record for lsa in told.found], told.lacks), (pair(), ()))
+        snapshot = self.word.look(3, NAMES)
+        self.assertEqual(([lsa.record for lsa in snapshot.lsas], snapshot.lacks), (pair(), ()))
         self.assertEqual((self.word.name(), self.word.filenos()), ("FRR's OSPF API", [7]))
-        self.assertIs(self.word.look(4, NAMES), told)
+        self.assertIs(self.word.look(4, NAMES), snapshot)
 
     def test_a_change(self) -> None:
         api = self.whole()
         lsa = lsa_of(router_lsa("2.2.2.2", [("1.1.1.1", "10.0.0.2", 1, 9)], sequence=0x80000002))
         api.found[lsa.key], api.changed = lsa, True
-        self.assertIn(lsa, self.word.look(3, NAMES).found)
+        self.assertIn(lsa, self.word.look(3, NAMES).lsas)
 
     def test_a_fault(self) -> None:
         """What there was stays with what is heard from then on, and it is asked again."""
@@ -129,9 +129,9 @@ class TheWord(unittest.TestCase):
         api.fault = ApiFault("gone")
         self.word.look(3, NAMES)
         self.assertTrue(api.closed)
-        self.assertEqual([lsa.record for lsa in self.word.ears.told.found], pair())
+        self.assertEqual([lsa.record for lsa in self.word.sniffed.snapshot.lsas], pair())
         self.assertEqual(self.lines, ["FRR's OSPF API: gone"])
-        self.word.ears.answers = True
+        self.word.sniffed.answers = True
         self.word.look(3 + AGAIN / 2, NAMES)
         self.assertEqual(len(self.apis), 1)
         self.word.look(3 + AGAIN, NAMES)
@@ -139,7 +139,7 @@ class TheWord(unittest.TestCase):
 
     def test_an_api_that_is_not_there(self) -> None:
         """It is told once, and asked for now and then."""
-        self.word.ears.answers = True
+        self.word.sniffed.answers = True
         refuse = mock.Mock(side_effect=ApiFault("port 2607: Connection refused"))
         with mock.patch.object(sources, "Api", refuse):
             for now in range(1, 60):
@@ -151,7 +151,7 @@ class TheWord(unittest.TestCase):
         self.assertEqual(len(self.apis), 1)
 
     def test_an_open_port(self) -> None:
-        self.exposed, self.word.ears.answers = "TCP port 2607 is open", True
+        self.exposed, self.word.sniffed.answers = "TCP port 2607 is open", True
         for now in (1, 5, 100):
             self.word.look(now, NAMES)
         self.assertEqual((self.apis, self.lines), ([], ["FRR's OSPF API: TCP port 2607 is open; it is not used"]))
@@ -177,17 +177,17 @@ class TheEars(unittest.TestCase):
     """When the daemon is asked for its list, and what is made of it."""
 
     def setUp(self) -> None:
-        self.daemon: Look | None = None
+        self.daemon: DaemonView | None = None
         self.asked = 0
         self.here, self.there = socket.socketpair(socket.AF_UNIX, socket.SOCK_DGRAM)
         for end in (self.here, self.there):
             self.addCleanup(end.close)
 
-        def packets(source: socket.socket) -> Iterator[Caught]:
+        def packets(source: socket.socket) -> Iterator[PacketCopy]:
             while select.select([source], [], [], 0)[0]:
-                yield Caught("a", False, datagram(source.recv(65535), ends=("10.0.0.2", "224.0.0.5")))
+                yield PacketCopy("a", False, datagram(source.recv(65535), ends=("10.0.0.2", "224.0.0.5")))
 
-        def look() -> Look | None:
+        def look() -> DaemonView | None:
             self.asked += 1
             return self.daemon
 
@@ -195,50 +195,50 @@ class TheEars(unittest.TestCase):
         patch.start()
         self.addCleanup(patch.stop)
         known = map(lsa_of, pair()[:1])
-        self.ears = Ears(mock.Mock(look=look), self.here, Heard(0, address("1.1.1.1"), known))
+        self.sniffed = SniffedSource(mock.Mock(look=look), self.here, HeardLsas(0, address("1.1.1.1"), known))
 
     def answers(self) -> None:
         listed = {lsa.key: instance_of(lsa) for lsa in map(lsa_of, pair())}
-        self.daemon = Look(listed, {}, frozenset({Neighbor("a", address("10.0.0.2"), address("9.9.9.9"))}))
+        self.daemon = DaemonView(listed, {}, frozenset({Neighbor("a", address("10.0.0.2"), address("9.9.9.9"))}))
 
     def test_a_silent_daemon(self) -> None:
         """It is asked now and then, and packets stay where they are, without waking anybody."""
         self.there.send(update(pair()))
         for now in (10, 10.1, 10.2):
-            self.assertEqual(self.ears.look(now, NAMES).lacks, (SILENT,))
-        self.assertEqual((self.asked, self.ears.filenos()), (1, []))
+            self.assertEqual(self.sniffed.look(now, NAMES).lacks, (SILENT,))
+        self.assertEqual((self.asked, self.sniffed.filenos()), (1, []))
         self.answers()
-        told = self.ears.look(10 + AGAIN, NAMES)
-        self.assertEqual(([lsa.record for lsa in told.found], told.lacks), (pair(), ()))
-        self.assertEqual(self.ears.filenos(), [self.here.fileno()])
+        snapshot = self.sniffed.look(10 + AGAIN, NAMES)
+        self.assertEqual(([lsa.record for lsa in snapshot.lsas], snapshot.lacks), (pair(), ()))
+        self.assertEqual(self.sniffed.filenos(), [self.here.fileno()])
 
     def test_a_neighbor_that_has_gone_since(self) -> None:
         """Its last packet waits, and the daemon has taken it; what comes later does not count."""
         self.answers()
-        self.ears.look(10, NAMES)
+        self.sniffed.look(10, NAMES)
         self.there.send(update(pair()))
         assert self.daemon
         self.daemon = self.daemon._replace(neighbors=frozenset())
-        told = self.ears.look(20, NAMES)
-        self.assertEqual(([lsa.record for lsa in told.found], told.lacks), (pair(), ()))
+        snapshot = self.sniffed.look(20, NAMES)
+        self.assertEqual(([lsa.record for lsa in snapshot.lsas], snapshot.lacks), (pair(), ()))
         newer = router_lsa("2.2.2.2", [("1.1.1.1", "10.0.0.2", 1, 9)], sequence=0x80000002)
         lsa = lsa_of(newer)
         self.daemon.database[lsa.key] = instance_of(lsa)
         self.there.send(update([newer]))
-        self.assertEqual(self.ears.look(30, NAMES).lacks, ("not heard: router-LSA of 2.2.2.2",))
+        self.assertEqual(self.sniffed.look(30, NAMES).lacks, ("not heard: router-LSA of 2.2.2.2",))
 
     def test_soon_after_a_packet(self) -> None:
         self.answers()
         self.there.send(update(pair()[:1]))
-        self.assertEqual(self.ears.look(10, NAMES).lacks, ("not heard: router-LSA of 2.2.2.2",))
+        self.assertEqual(self.sniffed.look(10, NAMES).lacks, ("not heard: router-LSA of 2.2.2.2",))
         self.there.send(update(pair()))
-        self.ears.look(10 + SOON / 2, NAMES)
-        self.assertEqual((self.asked, self.ears.next(11)), (1, 10 + SOON))
-        told = self.ears.look(10 + SOON, NAMES)
-        self.assertEqual([lsa.record for lsa in told.found], pair())
+        self.sniffed.look(10 + SOON / 2, NAMES)
+        self.assertEqual((self.asked, self.sniffed.next(11)), (1, 10 + SOON))
+        snapshot = self.sniffed.look(10 + SOON, NAMES)
+        self.assertEqual([lsa.record for lsa in snapshot.lsas], pair())
         self.there.send(update(pair()))
-        self.assertIs(self.ears.look(20, NAMES), told)
-        self.assertEqual(self.ears.next(20), 20 + LATER)
+        self.assertIs(self.sniffed.look(20, NAMES), snapshot)
+        self.assertEqual(self.sniffed.next(20), 20 + LATER)
 
 
 class Usable(unittest.TestCase):

@@ -10,16 +10,16 @@ from mrttools import files, lsas
 from mrttools.exits import REFUSED, ToolFault
 from mrttools.lsas import Lsa
 from mrttools.router import kernel
-from mrttools.signals import Waiting, notify
+from mrttools.signals import HeldSignals, notify
 from . import batch, daemon_list, exposure, lock, ospfapi, sniffer, status
 from .batch import NOTHING, Linux
 from .file_watch import watched
 from .loop import Agent, tell
-from .own_kernel import Here
+from .own_kernel import OwnKernel
 from .settings import Settings
-from .sniffer import Heard
-from .sources import Ears, Word
-from .surroundings import Around, Source
+from .sniffer import HeardLsas
+from .sources import SniffedSource, ApiSource
+from .surroundings import Surroundings, Source
 
 SETTINGS = "settings.json"
 
@@ -33,47 +33,47 @@ def kept(folder: str) -> list[Lsa]:
         return []
 
 
-def source_of(said: argparse.Namespace) -> Source:
+def source_of(args: argparse.Namespace) -> Source:
     """Where LSAs come from."""
-    client, source = daemon_list.Client(said.daemon, said.socket, said.area), sniffer.ears()
+    client, source = daemon_list.Client(args.daemon, args.socket, args.area), sniffer.packet_socket()
 
-    def ears(known: list[Lsa]) -> Ears:
-        return Ears(client, source, Heard(said.area, said.router, known or kept(said.folder)))
+    def sniff(known: list[Lsa]) -> SniffedSource:
+        return SniffedSource(client, source, HeardLsas(args.area, args.router, known or kept(args.folder)))
 
-    if said.daemon == "frr":
-        return Word(said.area, ears, said.open_api, tell)
-    return ears([])
+    if args.daemon == "frr":
+        return ApiSource(args.area, sniff, args.open_api, tell)
+    return sniff([])
 
 
-def refuse_exposed(said: argparse.Namespace) -> None:
+def refuse_exposed(args: argparse.Namespace) -> None:
     """Does not start beside an OSPF API that others can reach: who speaks to it can put LSAs into the area."""
-    exposed = exposure.open_to_others(ospfapi.PORT) if said.daemon == "frr" and not said.open_api else None
+    exposed = exposure.open_to_others(ospfapi.PORT) if args.daemon == "frr" and not args.open_api else None
     if exposed:
         raise ToolFault(f"{exposed}: close it, or say --open-api", REFUSED)
 
 
-def keep(said: argparse.Namespace) -> int:
+def keep(args: argparse.Namespace) -> int:
     """Keeps the router's tables."""
-    waiting = Waiting()
-    refuse_exposed(said)
-    with lock.lock_folder(said.folder), lock.lock_namespace():
-        files.clear_parts(said.folder)
-        tell(f"the program is {said.mrt}")
-        settings = Settings(os.path.join(said.folder, SETTINGS))
-        watch = watched(said.profile)
-        agent = Agent(said, Around(Here(said.daemon), source_of(said), settings, waiting.wait, profile=watch))
+    waiting = HeldSignals()
+    refuse_exposed(args)
+    with lock.lock_folder(args.folder), lock.lock_namespace():
+        files.clear_parts(args.folder)
+        tell(f"the program is {args.mrt}")
+        settings = Settings(os.path.join(args.folder, SETTINGS))
+        watch = watched(args.profile)
+        agent = Agent(args, Surroundings(OwnKernel(args.daemon), source_of(args), settings, waiting.wait, profile=watch))
         notify("READY=1")
-        keep_until_end(agent, said)
+        keep_until_end(agent, args)
     return 0
 
 
-def keep_until_end(agent: Agent, said: argparse.Namespace) -> None:
+def keep_until_end(agent: Agent, args: argparse.Namespace) -> None:
     """Works until a signal comes; with --strict no table is left then."""
     try:
         agent.work()
     finally:
         notify("STOPPING=1")
-        if said.strict and not said.dry_run:
+        if args.strict and not args.dry_run:
             agent.take_away()
 
 

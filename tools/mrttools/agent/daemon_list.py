@@ -9,7 +9,7 @@ from typing import Any, Iterator
 
 from mrttools import lsas
 from mrttools.lsas import MAX_AGE, NETWORK, ROUTER, Key
-from .sniffer import Database, Look, Neighbor
+from .sniffer import Database, DaemonView, Neighbor
 
 # Seconds in which a daemon answers.
 PATIENCE = 10
@@ -40,7 +40,7 @@ def frr_lsas(said: Any, area: int) -> Iterator[tuple[Key, tuple[int, int], int |
                 yield key, (int(each["sequenceNumber"], 16), int(each["checksum"], 16)), each.get("numOfRouterLinks")
 
 
-def frr_look(answers: list[str], area: int) -> Look | None:
+def frr_look(answers: list[str], area: int) -> DaemonView | None:
     """All that FRR says of an area, in one answer."""
     try:
         database, networks, interfaces, neighbors = values_in("".join(answers))
@@ -51,7 +51,7 @@ def frr_look(answers: list[str], area: int) -> Look | None:
             key = Key(NETWORK, lsas.address(each["linkStateId"]), lsas.address(each["advertisingRouter"]))
             sizes[key] = each["length"]
         inside = {name for name, each in interfaces["interfaces"].items() if each.get("area") == lsas.spelled(area)}
-        return Look({key: instance for key, instance, _ in found}, sizes, frr_neighbors(neighbors, inside))
+        return DaemonView({key: instance for key, instance, _ in found}, sizes, frr_neighbors(neighbors, inside))
     except NO_ANSWER:
         return None
 
@@ -96,7 +96,7 @@ def bird(text: str, area: int) -> Database | None:
     return found if there else None
 
 
-def bird_look(answers: list[str], area: int) -> Look | None:
+def bird_look(answers: list[str], area: int) -> DaemonView | None:
     """All that BIRD says of an area. Of the size of an LSA it says nothing."""
     database, interfaces, neighbors = answers
     listed = bird(database, area)
@@ -112,7 +112,7 @@ def bird_look(answers: list[str], area: int) -> Look | None:
         fields = re.match(r"([\d.]+)\s+\d+\s+([^/\s]+)\S*\s+\S+\s+(\S+)\s+([\d.]+)\s*$", line)
         if fields and fields[3] in inside and fields[2] in EXCHANGES:
             found.add(Neighbor(fields[3], lsas.address(fields[4]), lsas.address(fields[1])))
-    return None if listed is None else Look(listed, {}, frozenset(found))
+    return None if listed is None else DaemonView(listed, {}, frozenset(found))
 
 
 # asking
@@ -140,7 +140,7 @@ class Client:
         said = self.answer(self.list)
         return None if said is None else self.read(said, self.area)
 
-    def look(self) -> Look | None:
+    def look(self) -> DaemonView | None:
         """All that it says of the area; none where it does not answer."""
         answers = []
         for question in self.all:

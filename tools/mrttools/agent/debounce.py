@@ -29,7 +29,7 @@ class Pending:
         return None if self.first is None else min(self.last + self.quiet, self.first + self.latest)
 
 
-class Settling:
+class Debounce:
     """What has changed since tables were made last, and how often each router was the cause of late."""
 
     def __init__(self, quiet: float = QUIET) -> None:

@@ -14,11 +14,11 @@ from mrttools.router import table
 from mrttools.router.kernel import Interfaces
 from mrttools.router.nexthops import LEAST_ADDRESS
 from mrttools.router.owners import Daemon, owners_of
-from .debounce import Settling
+from .debounce import Debounce
 from .netlink import News
 from .own_kernel import NUMBERS
-from .sources import SILENT, Told, usable
-from .surroundings import Around
+from .sources import SILENT, Snapshot, usable
+from .surroundings import Surroundings
 
 # Seconds between two looks at the profile, where the kernel tells of it and where it does not; those for which a route of
 # the daemon counts after it has gone, as it does while the daemon finds new ways; and those for which an interface may
@@ -45,24 +45,24 @@ class Content(NamedTuple):
 class Passed(NamedTuple):
     """What there was between two tables: LSAs, what they say, and the profile."""
 
-    found: list[Lsa]
+    lsas: list[Lsa]
     bodies: dict[Key, bytes]
     profile: bytes
 
 
-class Sight:
+class Inputs:
     """What there is, and what of it has changed."""
 
-    def __init__(self, said: argparse.Namespace, around: Around, settling: Settling) -> None:
-        self.said, self.kernel, self.source, self.settling = said, around.kernel, around.source, settling
-        self.watched = around.profile
-        self.protocol = NUMBERS[said.daemon]
+    def __init__(self, args: argparse.Namespace, surroundings: Surroundings, debounce: Debounce) -> None:
+        self.args, self.kernel, self.source, self.debounce = args, surroundings.kernel, surroundings.source, debounce
+        self.watched = surroundings.profile
+        self.protocol = NUMBERS[args.daemon]
         self.interfaces = Interfaces({})
-        self.told: Told | None = None
-        self.found: list[Lsa] = []
+        self.snapshot: Snapshot | None = None
+        self.lsas: list[Lsa] = []
         self.left: list[str] = []
         self.bodies: dict[Key, bytes] = {}
-        self.profile, self.unread, self.profile_next = b"", "not read yet" if said.profile != "-" else "", 0.0
+        self.profile, self.unread, self.profile_next = b"", "not read yet" if args.profile != "-" else "", 0.0
         self.stamp: tuple[int, int, int] | None = None
         # The prefixes of the area; those of them to which the daemon has routes, and when others had none any more.
         self.prefixes: frozenset[str] = frozenset()
@@ -76,18 +76,18 @@ class Sight:
 
     def look(self, news: News, now: float) -> None:
         """Takes what has come, and notes what has changed."""
-        if news.interfaces or self.told is None:
-            found = table.interfaces_of(self.kernel.addresses(), "the kernel")
-            if found != self.interfaces:
-                self.interfaces = found
-                self.settling.note(now)
+        if news.interfaces or self.snapshot is None:
+            interfaces = table.interfaces_of(self.kernel.addresses(), "the kernel")
+            if interfaces != self.interfaces:
+                self.interfaces = interfaces
+                self.debounce.note(now)
         # (routes over an interface that is set down go without a word)
         self.routes_told = self.routes_told or self.protocol in news.protocols or news.interfaces
         if (self.routes_told and now >= self.routes_next) or now >= self.routes_due:
             self.look_at_routes(now)
-        told = self.source.look(now, self.interfaces)
-        if told is not self.told:
-            self.take(told, now)
+        snapshot = self.source.look(now, self.interfaces)
+        if snapshot is not self.snapshot:
+            self.take(snapshot, now)
         if (self.watched and self.watched.take()) or now >= self.profile_next:
             self.profile_next = now + (PROFILE_WATCHED if self.watched else PROFILE_EVERY)
             self.read_profile(now)
@@ -99,76 +99,76 @@ class Sight:
         began, before = time.monotonic(), self.routes
         self.read_routes(now)
         if self.routes != before:
-            self.settling.note(now)
+            self.debounce.note(now)
         took = time.monotonic() - began
         self.routes_told, self.routes_next = False, now + max(ROUTES_EVERY, ROUTES_SHARE * took)
         self.routes_due = now + max(ROUTES_SELDOM, SELDOM_SHARE * took)
 
-    def take(self, told: Told, now: float) -> None:
+    def take(self, snapshot: Snapshot, now: float) -> None:
         """Takes the LSAs, and says which routers tell something else now."""
-        if self.told is None or bool(told.lacks) != bool(self.told.lacks):
-            self.settling.note(now)
-        self.told = told
-        if told.lacks:
+        if self.snapshot is None or bool(snapshot.lacks) != bool(self.snapshot.lacks):
+            self.debounce.note(now)
+        self.snapshot = snapshot
+        if snapshot.lacks:
             return
-        found, self.left = usable(told.found)
-        bodies = {lsa.key: lsa.record[HEADER:] for lsa in found}
+        good, self.left = usable(snapshot.lsas)
+        bodies = {lsa.key: lsa.record[HEADER:] for lsa in good}
         changed = {key for key in bodies.keys() | self.bodies.keys() if bodies.get(key) != self.bodies.get(key)}
         if changed:
             self.pass_by(now)
-            self.settling.note(now, {key.router for key in changed})
-        self.found, self.bodies = found, bodies
+            self.debounce.note(now, {key.router for key in changed})
+        self.lsas, self.bodies = good, bodies
 
     def pass_by(self, now: float) -> None:
         """Notes what there was, if other routers may have found it quiet for as long as a table takes: what comes at once
         here comes nearly so there."""
-        there = Passed(self.found, self.bodies, self.profile)
+        there = Passed(self.lsas, self.bodies, self.profile)
         is_whole = bool(self.bodies) and not self.unread and len(self.passed) <= MOST_PASSED
-        if is_whole and now - self.changed >= self.said.quiet / 2 and not is_among(there, [self.last, *self.passed]):
+        if is_whole and now - self.changed >= self.args.quiet / 2 and not is_among(there, [self.last, *self.passed]):
             self.passed.append(there)
         self.changed = now
 
     def acted(self) -> list[Passed] | None:
         """What there was since the last table and is no more, where a table is made of what there is; none where that is too
         much to be looked at."""
-        self.last = Passed(self.found, self.bodies, self.profile)
+        self.last = Passed(self.lsas, self.bodies, self.profile)
         passed, self.passed = self.passed, []
-        return [each for each in passed if not is_among(each, [self.last])] if len(passed) <= MOST_PASSED else None
+        return [state for state in passed if not is_among(state, [self.last])] if len(passed) <= MOST_PASSED else None
 
     def read_profile(self, now: float) -> None:
         """Reads the profile where its file is another one."""
-        if self.said.profile == "-":
+        if self.args.profile == "-":
             return
         try:
-            found = os.stat(self.said.profile)
-            if not stat.S_ISREG(found.st_mode):
-                self.unread = f"{self.said.profile}: it is no file"
+            status = os.stat(self.args.profile)
+            if not stat.S_ISREG(status.st_mode):
+                self.unread = f"{self.args.profile}: it is no file"
                 return
-            stamp = found.st_ino, found.st_mtime_ns, found.st_size
+            stamp = status.st_ino, status.st_mtime_ns, status.st_size
             if stamp == self.stamp and not self.unread:
                 return
-            with open(self.said.profile, "rb") as file:
+            with open(self.args.profile, "rb") as file:
                 data = file.read()
         except OSError as fault:
             self.unread = system_line(fault)
             return
         if data != self.profile or self.unread:
             self.pass_by(now)
-            self.settling.note(now)
+            self.debounce.note(now)
         self.profile, self.unread, self.stamp = data, "", stamp
 
     # what is made of it
 
     def lacks(self) -> list[str]:
         """What is not there, so that there can be no table."""
-        if self.told is None or self.told.lacks:
-            return list(self.told.lacks) if self.told else [SILENT]
+        if self.snapshot is None or self.snapshot.lacks:
+            return list(self.snapshot.lacks) if self.snapshot else [SILENT]
         if self.unread:
             return [self.unread]
-        return [] if self.own() else [f"no router-LSA of {lsas.spelled(self.said.router)}"]
+        return [] if self.own() else [f"no router-LSA of {lsas.spelled(self.args.router)}"]
 
     def own(self) -> Lsa | None:
-        return next((lsa for lsa in self.found if lsa.kind == ROUTER and lsa.number == self.said.router), None)
+        return next((lsa for lsa in self.lsas if lsa.kind == ROUTER and lsa.number == self.args.router), None)
 
     def own_links(self) -> set[tuple[int, int]]:
         """The router's links to others, by far end and link data."""
@@ -191,7 +191,7 @@ class Sight:
 
     def daemon(self, now: float) -> Daemon:
         """The prefixes of the area to which the daemon has routes, or had until a while ago."""
-        self.prefixes = frozenset(prefix.text for prefix in owners_of(self.found))
+        self.prefixes = frozenset(prefix.text for prefix in owners_of(self.lsas))
         self.read_routes(now)
         return Daemon(self.routes | frozenset(self.went), self.interfaces)
 
@@ -215,7 +215,7 @@ class Sight:
     def next(self, now: float) -> float:
         """When to look again, whatever comes."""
         kept = min(self.went.values(), default=now + ROUTE_KEPT) + ROUTE_KEPT
-        profile = self.profile_next if self.said.profile != "-" else kept
+        profile = self.profile_next if self.args.profile != "-" else kept
         routes = self.routes_next if self.routes_told else self.routes_due
         return min(self.source.next(now), profile, kept, routes)
 
@@ -224,9 +224,9 @@ class Sight:
         kept = {prefix: at for prefix, at in self.went.items() if now - at < ROUTE_KEPT}
         if kept != self.went:
             self.went = kept
-            self.settling.note(now)
+            self.debounce.note(now)
 
 
 def is_among(one: Passed, others: list[Passed]) -> bool:
     """Whether something says what another one says, whatever its instances."""
-    return any((one.bodies, one.profile) == (each.bodies, each.profile) for each in others)
+    return any((one.bodies, one.profile) == (other.bodies, other.profile) for other in others)

@@ -15,16 +15,16 @@ from mrttools.lsas import Lsa
 from mrttools.program import Program
 from mrttools.router import kernel, table
 from mrttools.router.nexthops import Ways
-from mrttools.router.table import Table, Wanted
+from mrttools.router.table import Table, TableOptions
 from . import batch, generations
 from .batch import NOTHING, Refusal, State
-from .debounce import Settling
+from .debounce import Debounce
 from .generations import Generations, Made
-from .inputs import Content, Passed, Sight
+from .inputs import Content, Passed, Inputs
 from .netlink import News
 from .refused_hops import Refused
 from .status import Status
-from .surroundings import Around
+from .surroundings import Surroundings
 
 # Seconds between two looks at the kernel, whatever it tells, and at the least; those after which something is tried
 # again that failed; those after which it is told what lacks, and with --strict the table goes; and those that a run of
@@ -51,13 +51,13 @@ def say(line: str, to: TextIO) -> None:
 class Agent:
     """What the agent knows, and what it has put into the kernel."""
 
-    def __init__(self, said: argparse.Namespace, around: Around) -> None:
-        self.said, self.around, self.kernel = said, around, around.kernel
-        self.settling = Settling(said.quiet)
-        self.sight = Sight(said, around, self.settling)
-        self.generations = Generations(said.linger)
+    def __init__(self, args: argparse.Namespace, surroundings: Surroundings) -> None:
+        self.args, self.surroundings, self.kernel = args, surroundings, surroundings.kernel
+        self.debounce = Debounce(args.quiet)
+        self.inputs = Inputs(args, surroundings, self.debounce)
+        self.generations = Generations(args.linger)
         self.refused = Refused()
-        self.status = Status(self.name("status", "agent"), lsas.spelled(said.router), said.daemon)
+        self.status = Status(self.name("status", "agent"), lsas.spelled(args.router), args.daemon)
         # What the kernel listed after the last change, its marks, and what these were made of.
         self.state: State = NOTHING
         self.news = News()
@@ -70,20 +70,20 @@ class Agent:
         self.links: set[tuple[int, int]] = set()
         self.lacking: float | None = None
         self.fault, self.retry = "", 0.0
-        self.kept, self.keep_next = self.sight.found, 0.0
-        self.told = ""
+        self.kept, self.keep_next = self.inputs.lsas, 0.0
+        self.last_line = ""
         # Whether all certificates of late are known: an agent that has just begun, or has long heard nothing, knows none.
         self.knows = False
         self.done = self.begun = False
 
     def name(self, kind: str, stem: str = "area") -> str:
-        return os.path.join(self.said.folder, f"{stem}.{kind}")
+        return os.path.join(self.args.folder, f"{stem}.{kind}")
 
     def tell_once(self, line: str) -> None:
         """Tells what may be so for long."""
-        if line != self.told:
+        if line != self.last_line:
             tell(line)
-        self.told = line
+        self.last_line = line
 
     # the kernel
 
@@ -91,23 +91,23 @@ class Agent:
         """Has the kernel end packets on colors that have no table yet, from the first moment on."""
         self.state = self.kernel.state()
         self.generations.begin(self.state, generations.read(self.name("json", "generations")), now)
-        self.sight.begin(frozenset(batch.prefix_of(line) for line in self.state if batch.is_repair(line)), now)
-        if not self.said.dry_run:
+        self.inputs.begin(frozenset(batch.prefix_of(line) for line in self.state if batch.is_repair(line)), now)
+        if not self.args.dry_run:
             # (those of an agent before have the interfaces of the area, which are not known yet)
-            found = self.kernel.marks()
-            whole = found.count(" meta mark set ") == len(self.said.dscp)
-            self.mark(kernel.NO_MARKING + found if whole else kernel.marking(self.said.dscp, set()))
+            marks = self.kernel.marks()
+            whole = marks.count(" meta mark set ") == len(self.args.dscp)
+            self.mark(kernel.NO_MARKING + marks if whole else kernel.marking(self.args.dscp, set()))
             self.put(now)
         self.begun = True
-        if not self.said.dry_run:
+        if not self.args.dry_run:
             # (what an agent before has said is so no more)
             self.write_status(now)
 
     def put(self, now: float) -> int:
         """Brings the kernel to what it is to have by now; how many lines that were."""
-        self.gone = self.sight.gone(now)
-        wanted = self.refused.without(self.generations.state(now))
-        lines = batch.put(self.kernel, wanted - {line for line in wanted if self.is_gone(line)})
+        self.gone = self.inputs.gone(now)
+        state = self.refused.without(self.generations.state(now))
+        lines = batch.put(self.kernel, state - {line for line in state if self.is_gone(line)})
         for line in lines:
             say(line, sys.stdout)
         # (what is told up to here of one's own routes is in the state that there is now)
@@ -151,97 +151,97 @@ class Agent:
     def look_after(self, news: News, now: float) -> None:
         """Puts back what others have taken out of the kernel. Where a firewall took the marks, packets on repairs may
         circle, so that these come back whatever is seen; the routes only where all is as it was."""
-        told = kernel.PROTOCOL in news.protocols or news.rules
-        if now >= self.kernel_next or ((told or news.marks) and now >= self.kernel_last + KERNEL_LEAST):
+        changed = kernel.PROTOCOL in news.protocols or news.rules
+        if now >= self.kernel_next or ((changed or news.marks) and now >= self.kernel_last + KERNEL_LEAST):
             self.kernel_last, self.kernel_next = now, now + KERNEL_EVERY
             lost = self.mark(self.nft) if self.nft else False
             self.set()
-            if self.settling.due() is None and not self.sight.lacks() and self.kernel.state() != self.state:
+            if self.debounce.due() is None and not self.inputs.lacks() and self.kernel.state() != self.state:
                 lost = bool(self.put_or_refuse(now)) or lost
             if lost:
                 tell("put back what the kernel had lost")
-        elif told or news.marks:
+        elif changed or news.marks:
             self.kernel_next = min(self.kernel_next, self.kernel_last + KERNEL_LEAST)
 
     def set(self) -> None:
         """Keeps the settings on the interfaces of the area."""
         if self.devices:
-            for name in self.around.settings.apply(self.devices):
+            for name in self.surroundings.settings.apply(self.devices):
                 say(f"setting {name}", sys.stdout)
 
     # tables
 
-    def certified(self, profile: bytes, found: list[Lsa]) -> tuple[Program, bytes, list[Lsa]]:
+    def certified(self, profile: bytes, records: list[Lsa]) -> tuple[Program, bytes, list[Lsa]]:
         """mrt over the files of the next table, and the certificate. A record that mrt refuses is left out, and told."""
-        mrt = Program(self.said.mrt, self.name("lsas", "next"), self.name("profile", "next"), LIMIT)
+        mrt = Program(self.args.mrt, self.name("lsas", "next"), self.name("profile", "next"), LIMIT)
         files.replace(mrt.profile, profile, lasting=False)
         for _ in range(TRIES):
-            files.replace(mrt.database, b"".join(lsa.record for lsa in found), lasting=False)
+            files.replace(mrt.database, b"".join(lsa.record for lsa in records), lasting=False)
             try:
-                certificate = mrt.run("certify", lsas.spelled(self.said.router))
+                certificate = mrt.run("certify", lsas.spelled(self.args.router))
             except ToolFault as fault:
-                bad = record_at(found, fault.told) if fault.status == BAD_DATABASE else None
+                bad = record_at(records, fault.line) if fault.status == BAD_DATABASE else None
                 if bad is None:
                     raise
-                self.sight.left.append(f"{lsas.key_text(bad.key)}: {fault.told}")
-                found = [lsa for lsa in found if lsa is not bad]
+                self.inputs.left.append(f"{lsas.key_text(bad.key)}: {fault.line}")
+                records = [lsa for lsa in records if lsa is not bad]
                 continue
             files.replace(self.name("cert", "next"), certificate, lasting=False)
-            return mrt, certificate, found
+            return mrt, certificate, records
         raise ToolFault(f"mrt refuses more than {TRIES} records", BAD_DATABASE)
 
     def certificate_of(self, there: Passed) -> tuple[int, str] | None:
         """The generation and the digest of what is no table."""
-        mrt = Program(self.said.mrt, self.name("lsas", "passed"), self.name("profile", "passed"), LIMIT)
+        mrt = Program(self.args.mrt, self.name("lsas", "passed"), self.name("profile", "passed"), LIMIT)
         files.replace(mrt.profile, there.profile, lasting=False)
-        files.replace(mrt.database, b"".join(lsa.record for lsa in there.found), lasting=False)
+        files.replace(mrt.database, b"".join(lsa.record for lsa in there.lsas), lasting=False)
         try:
-            certificate = mrt.run("certify", lsas.spelled(self.said.router))
+            certificate = mrt.run("certify", lsas.spelled(self.args.router))
         except ToolFault:
             # (others have no certificate of it either)
             return None
-        return table.generation_of(certificate, self.said.dscp), table.digest_of(certificate)
+        return table.generation_of(certificate, self.args.dscp), table.digest_of(certificate)
 
     def look_at_skipped(self, now: float) -> None:
         """Notes which certificates others may have had since the last one here."""
-        passed = self.sight.acted()
+        passed = self.inputs.acted()
         if not self.knows or passed is None:
             self.generations.skip(now)
         else:
-            for found in filter(None, map(self.certificate_of, passed)):
-                self.generations.skip(now, *found)
+            for certificate in filter(None, map(self.certificate_of, passed)):
+                self.generations.skip(now, *certificate)
         self.knows = True
 
     def look_ahead(self, now: float) -> None:
         """A router that changes too often is waited for, but not with rows whose generation others may give to another
         certificate by now."""
-        self.settling.early.first = None
-        if self.generations.made and not self.sight.lacks() and not self.said.dry_run:
-            sight = self.sight
-            found = self.certificate_of(Passed(sight.found, sight.bodies, sight.profile))
-            if found and self.generations.clashes(*found, now):
+        self.debounce.early.first = None
+        if self.generations.made and not self.inputs.lacks() and not self.args.dry_run:
+            inputs = self.inputs
+            certificate = self.certificate_of(Passed(inputs.lsas, inputs.bodies, inputs.profile))
+            if certificate and self.generations.clashes(*certificate, now):
                 self.act(now)
 
     def ways_of(self, content: Content) -> Ways:
         """The ways by a certificate that mrt has checked; those of before where only the daemon's routes are others."""
         if self.ways is None or self.ways[0] != content:
-            mrt, certificate, found = self.certified(content.profile, self.sight.found)
+            mrt, certificate, records = self.certified(content.profile, self.inputs.lsas)
             tell(mrt.lines("check", self.name("cert", "next"))[0])
-            self.ways = content, Ways(mrt, found, self.said.router, certificate)
+            self.ways = content, Ways(mrt, records, self.args.router, certificate)
             self.refused = Refused()
         return self.ways[1]
 
     def table(self, now: float) -> tuple[Table, Ways]:
-        ways = self.ways_of(self.sight.content())
-        wanted = Wanted(True, self.said.prefixes, True, self.said.dscp)
-        return table.table_of(ways, self.sight.daemon(now), wanted), ways
+        ways = self.ways_of(self.inputs.content())
+        options = TableOptions(True, self.args.prefixes, True, self.args.dscp)
+        return table.table_of(ways, self.inputs.daemon(now), options), ways
 
     def install(self, now: float) -> None:
         """Makes the table and puts it into the kernel."""
         before = self.ways
         made, ways = self.table(now)
         state = batch.state_of(made.routes)
-        if self.said.dry_run:
+        if self.args.dry_run:
             print(*batch.changes(self.kernel.state(), state), sep="\n")
             self.done = True
             return
@@ -250,16 +250,16 @@ class Agent:
             old = set(before[1].place) if before else set()
             self.knows = self.knows and (not before or len(set(ways.place) - old) <= len(old))
             self.look_at_skipped(now)
-        links = self.sight.own_links()
+        links = self.inputs.own_links()
         owners = {entry.prefix: entry.owners for entry in made.entries}
         digest = table.digest_of(ways.certified)
         is_other = self.generations.made is None or self.generations.made.digest != digest
-        told = self.generations.take(
+        line = self.generations.take(
             Made(digest, made.generation, state, owners), self.state, bool(self.links - links), now
         )
-        if told:
-            tell(told)
-        self.links, self.devices = links, self.sight.interfaces.of(ways.own_addresses())
+        if line:
+            tell(line)
+        self.links, self.devices = links, self.inputs.interfaces.of(ways.own_addresses())
         self.mark(made.nft)
         self.set()
         self.put_or_refuse(now)
@@ -267,8 +267,8 @@ class Agent:
 
     def left_out(self, made: Table) -> dict[str, str]:
         """What has no repair, and why."""
-        left = dict(made.left) | {record.split(": ")[0]: record.split(": ", 1)[1] for record in self.sight.left}
-        left |= {f"interface {name!r}": "a name that is not taken" for name in self.sight.interfaces.odd}
+        left = dict(made.left) | {record.split(": ")[0]: record.split(": ", 1)[1] for record in self.inputs.left}
+        left |= {f"interface {name!r}": "a name that is not taken" for name in self.inputs.interfaces.odd}
         return left | self.refused.told()
 
     def keep_files(self, now: float) -> None:
@@ -280,9 +280,9 @@ class Agent:
 
     def keep(self, now: float) -> None:
         """Keeps newer instances that say the same, with which an agent that is started again begins."""
-        settled = self.ways and self.settling.due() is None and not self.sight.lacks() and not self.fault
-        if settled and self.sight.found is not self.kept and now >= self.keep_next:
-            self.kept, self.keep_next = self.sight.found, now + KEPT_EVERY
+        settled = self.ways and self.debounce.due() is None and not self.inputs.lacks() and not self.fault
+        if settled and self.inputs.lsas is not self.kept and now >= self.keep_next:
+            self.kept, self.keep_next = self.inputs.lsas, now + KEPT_EVERY
             # (that often the disk is not waited for)
             files.replace(self.name("lsas"), b"".join(lsa.record for lsa in self.kept), lasting=False)
 
@@ -297,40 +297,40 @@ class Agent:
         """Takes away all that the agent has put into the kernel, and puts the settings back."""
         batch.put(self.kernel, NOTHING)
         self.kernel.mark(kernel.NO_MARKING)
-        self.around.settings.put_back()
+        self.surroundings.settings.put_back()
         self.status.bare()
         with contextlib.suppress(OSError):
-            self.write_status(self.around.clock())
+            self.write_status(self.surroundings.clock())
 
     # the work
 
     def act(self, now: float) -> None:
         """Makes what there is into a table. A fault leaves the last good one, or with --strict none."""
-        if self.sight.lacks():
+        if self.inputs.lacks():
             return
-        if self.sight.soft_lacks(now):
-            self.settling.note(now)
+        if self.inputs.soft_lacks(now):
+            self.debounce.note(now)
             return
         before = self.ways
-        first, last = self.settling.acted(now, (key.router for key in self.sight.bodies))
+        first, last = self.debounce.acted(now, (key.router for key in self.inputs.bodies))
         self.install(now)
-        self.fault = self.told = ""
-        after = self.around.clock()
+        self.fault = self.last_line = ""
+        after = self.surroundings.clock()
         if self.ways is not before:
             self.status.took(after - now, after - first, after - last, self.generations.whole(after) - after)
         self.write_status(after)
-        if not self.said.dry_run:
+        if not self.args.dry_run:
             self.keep_files(now)
 
     def failed(self, line: str, now: float) -> None:
         self.fault, self.retry = line, now + RETRY
-        self.tell_once(f"{line}; the last table {'goes' if self.said.strict else 'stays'}, and it is tried again")
+        self.tell_once(f"{line}; the last table {'goes' if self.args.strict else 'stays'}, and it is tried again")
         self.lose(now)
 
     def lose(self, now: float) -> None:
         """With --strict no table is left where something is wrong."""
         try:
-            if self.said.strict and self.generations.made:
+            if self.args.strict and self.generations.made:
                 self.take_back(now)
             self.write_status(now)
         except (ToolFault, OSError) as fault:
@@ -338,39 +338,39 @@ class Agent:
 
     def look_at_lacks(self, now: float) -> None:
         """Tells what lacks, if that has been so for a while; with --strict the table goes then."""
-        lacks = self.sight.lacks()
+        lacks = self.inputs.lacks()
         if not lacks:
             if self.lacking is not None:
-                self.lacking, self.told = None, ""
+                self.lacking, self.last_line = None, ""
             return
         self.lacking = now if self.lacking is None else self.lacking
         if now - self.lacking >= LACKING:
             self.knows = False
             first, *others = lacks
             line = f"waits: {first}" + (f", and {len(others)} more" if others else "")
-            if line != self.told:
+            if line != self.last_line:
                 self.tell_once(line)
                 self.lose(now)
 
     def withdraw(self, now: float) -> None:
         """Takes out the repairs whose route the daemon has lost, whether a table can be made or not."""
-        if self.begun and not self.said.dry_run and self.sight.gone(now) != self.gone:
+        if self.begun and not self.args.dry_run and self.inputs.gone(now) != self.gone:
             self.put_or_refuse(now)
 
     def write_status(self, now: float) -> None:
-        lacks = self.sight.lacks()
+        lacks = self.inputs.lacks()
         waits = self.fault or (lacks[0] if lacks else "")
-        dampened = [lsas.spelled(router) for router in self.settling.dampened(now)]
-        self.status.write(self.around.source.name(), waits, dampened)
+        dampened = [lsas.spelled(router) for router in self.debounce.dampened(now)]
+        self.status.write(self.surroundings.source.name(), waits, dampened)
 
     def step(self) -> float:
         """Does what is to be done; when to look again at the latest. Whatever fails, the next look is another one."""
-        now = self.around.clock()
+        now = self.surroundings.clock()
         for work in (self.look, self.look_at_lacks, self.withdraw):
             try:
                 work(now)
             except ToolFault as fault:
-                self.failed(fault.told, now)
+                self.failed(fault.line, now)
             except OSError as fault:
                 self.failed(system_line(fault), now)
             except Exception as fault:  # pylint: disable=broad-except
@@ -382,17 +382,17 @@ class Agent:
         if not self.begun:
             self.begin(now)
         news, self.news = self.news.and_then(self.kernel.news()), News()
-        self.sight.look(news, now)
+        self.inputs.look(news, now)
         if self.fault and now >= self.retry:
             self.retry = now + RETRY
-            self.settling.note(now)
-        due = self.settling.due()
-        ahead = self.settling.early.due()
+            self.debounce.note(now)
+        due = self.debounce.due()
+        ahead = self.debounce.early.due()
         if due is not None and now >= due:
             self.act(now)
         elif ahead is not None and now >= ahead:
             self.look_ahead(now)
-        if not self.said.dry_run:
+        if not self.args.dry_run:
             following = self.generations.next(self.put_last)
             if following is not None and now >= following:
                 self.put_or_refuse(now)
@@ -404,27 +404,27 @@ class Agent:
         if not self.begun:
             return now + 1
         # (as long as something lacks nothing is made of what changes, however it is due)
-        lacks = self.sight.lacks()
-        due, ahead = (now + 1, None) if lacks else (self.settling.due(), self.settling.early.due())
-        times = [self.kernel_next, self.sight.next(now), due, ahead, self.generations.next(now)]
-        return min(each for each in times if each is not None)
+        lacks = self.inputs.lacks()
+        due, ahead = (now + 1, None) if lacks else (self.debounce.due(), self.debounce.early.due())
+        times = [self.kernel_next, self.inputs.next(now), due, ahead, self.generations.next(now)]
+        return min(time for time in times if time is not None)
 
     def work(self) -> None:
         """Until a signal comes; with --dry-run until there is a table."""
         while not self.done:
             until = self.step()
             if not self.done:
-                sources = [*self.kernel.filenos(), *self.around.source.filenos()]
-                self.around.wait(sources, until - self.around.clock())
+                sources = [*self.kernel.filenos(), *self.surroundings.source.filenos()]
+                self.surroundings.wait(sources, until - self.surroundings.clock())
 
 
-def record_at(found: list[Lsa], told: str) -> Lsa | None:
+def record_at(records: list[Lsa], line: str) -> Lsa | None:
     """The record that mrt means, by where it says that it lies."""
-    words = told.split(" ")
+    words = line.split(" ")
     if "at" not in words[:-1] or not words[words.index("at") + 1].isdecimal():
         return None
     at, place = int(words[words.index("at") + 1]), 0
-    for lsa in found:
+    for lsa in records:
         place += len(lsa.record)
         if at < place:
             return lsa

@@ -14,7 +14,7 @@ from .netlink import News, Watch
 NUMBERS = {"frr": 188, "bird": 12}
 
 
-class Here(Linux):
+class OwnKernel(Linux):
     """This kernel, beside one daemon."""
 
     def __init__(self, daemon: str) -> None:

@@ -64,7 +64,7 @@ class Neighbor(NamedTuple):
     router: int
 
 
-class Look(NamedTuple):
+class DaemonView(NamedTuple):
     """What the daemon says of an area: its live router-LSAs and network-LSAs, the size of those of which it says that
     too, and its neighbors."""
 
@@ -78,7 +78,7 @@ class Look(NamedTuple):
         return self.database.get(lsa.key) == instance_of(lsa) and self.sizes.get(lsa.key, size) == size
 
 
-class Caught(NamedTuple):
+class PacketCopy(NamedTuple):
     """A copy of a packet: by which interface it went, whether it went out, and its bytes."""
 
     device: str
@@ -86,7 +86,7 @@ class Caught(NamedTuple):
     data: bytes
 
 
-def ears() -> socket.socket:
+def packet_socket() -> socket.socket:
     """A socket that gets a copy of each OSPF packet that comes in or goes out."""
     made = socket.socket(socket.AF_PACKET, socket.SOCK_DGRAM, socket.htons(ALL_FRAMES))
     code = ctypes.create_string_buffer(b"".join(struct.pack("HBBI", *line) for line in FILTER))
@@ -96,7 +96,7 @@ def ears() -> socket.socket:
     return made
 
 
-def packets(source: socket.socket) -> Iterator[Caught]:
+def packets(source: socket.socket) -> Iterator[PacketCopy]:
     """The packets that wait."""
     while True:
         try:
@@ -104,10 +104,10 @@ def packets(source: socket.socket) -> Iterator[Caught]:
         except BlockingIOError:
             return
         if kind in COMES or kind == GOES:
-            yield Caught(device, kind == GOES, data)
+            yield PacketCopy(device, kind == GOES, data)
 
 
-class Heard:
+class HeardLsas:
     """The live router-LSAs and network-LSAs that were heard, at most two that differ of each instance: those that the
     daemon lists, and so many that it does not list yet."""
 
@@ -120,9 +120,9 @@ class Heard:
         self.others: dict[tuple[Key, Instance], list[Lsa]] = {}
         self.size = 0
         for lsa in known:
-            self.hear(lsa, Look({}, {}, frozenset()))
+            self.hear(lsa, DaemonView({}, {}, frozenset()))
 
-    def take(self, waiting: Iterator[Caught], look: Look, own: dict[int, str]) -> tuple[list[Lsa], list[str]]:
+    def take(self, waiting: Iterator[PacketCopy], look: DaemonView, own: dict[int, str]) -> tuple[list[Lsa], list[str]]:
         """Takes packets that wait, of so many bytes at once; the LSAs that the daemon lists, and what lacks: those that
         were not heard, or in two ways. `own` are the router's addresses, with their interfaces; those that it had count
         too, for packets that waited while an interface went down."""
@@ -147,7 +147,7 @@ class Heard:
 
     # packets
 
-    def take_packet(self, each: Caught, look: Look, senders: dict[tuple[str, bytes], int]) -> None:
+    def take_packet(self, each: PacketCopy, look: DaemonView, senders: dict[tuple[str, bytes], int]) -> None:
         """Takes the LSAs of a packet that the daemon takes too."""
         if self.fragments.count >= PARTS:
             self.fragments = Fragments()
@@ -166,7 +166,7 @@ class Heard:
         except (BadDatagram, BadPacket):
             pass
 
-    def sender(self, each: Caught, part: Datagram, senders: dict[tuple[str, bytes], int]) -> int | None:
+    def sender(self, each: PacketCopy, part: Datagram, senders: dict[tuple[str, bytes], int]) -> int | None:
         """The router that has sent a packet, where that is a neighbor or the router itself. What only goes through the
         router may be from anywhere, and so may be what goes out to one address, whoever it says that has sent it."""
         if each.out:
@@ -177,12 +177,12 @@ class Heard:
 
     # LSAs
 
-    def hear(self, lsa: Lsa, look: Look) -> None:
+    def hear(self, lsa: Lsa, look: DaemonView) -> None:
         """Takes an LSA, but for one that a router would drop."""
         if lsa.kind in (ROUTER, NETWORK) and not lsa.withdrawn and self.is_wanted(lsa, look) and not lsas.damage(lsa):
             self.place(lsa, look)
 
-    def is_wanted(self, lsa: Lsa, look: Look) -> bool:
+    def is_wanted(self, lsa: Lsa, look: DaemonView) -> bool:
         """Whether the daemon lists an LSA, or may list it yet, as it is newer, and it is not here."""
         sequence, checksum = look.database.get(lsa.key, NONE)
         if not look.has(lsa) and (lsa.sequence, lsa.checksum) <= (signed(sequence), checksum):
@@ -190,7 +190,7 @@ class Heard:
         texts = self.listed.get(lsa.key, []) if look.has(lsa) else self.others.get((lsa.key, instance_of(lsa)), [])
         return len(texts) < 2 and all(lsa.text != each.text for each in texts)
 
-    def place(self, lsa: Lsa, look: Look) -> None:
+    def place(self, lsa: Lsa, look: DaemonView) -> None:
         """Puts a wanted LSA among those that are listed, or the others, of which those that came first go where there is
         no room."""
         if look.has(lsa):
@@ -202,7 +202,7 @@ class Heard:
             gone = self.others.pop(next(iter(self.others)))
             self.size -= sum(len(each.record) for each in gone)
 
-    def sort(self, look: Look) -> None:
+    def sort(self, look: DaemonView) -> None:
         """Puts what was heard where it belongs by what the daemon lists now."""
         before = [lsa for texts in (*self.listed.values(), *self.others.values()) for lsa in texts]
         self.listed, self.others, self.size = {}, {}, 0

@@ -12,7 +12,7 @@ from mrttools.router.kernel import Interfaces
 from . import exposure, ospfapi, sniffer
 from .daemon_list import Client
 from .ospfapi import Api, ApiFault
-from .sniffer import Database, Heard, Neighbor
+from .sniffer import Database, HeardLsas, Neighbor
 
 SILENT = "the daemon does not answer"
 # Seconds between two questions for the daemon's list while packets come, and while none do.
@@ -22,25 +22,25 @@ SOON, LATER = 0.25, 2.0
 AGAIN, REFUSED, DISTRUSTED, COMPARED, ON_ITS_WAY = 1.0, 10.0, 600.0, 30.0, 2.0
 
 
-class Told(NamedTuple):
+class Snapshot(NamedTuple):
     """The LSAs of the area that are there now, and what lacks of them."""
 
-    found: list[Lsa]
+    lsas: list[Lsa]
     lacks: tuple[str, ...] = ()
 
     @property
     def text(self) -> tuple[list[bytes], tuple[str, ...]]:
         """All that can change, but for the ages."""
-        return [lsa.text for lsa in self.found], self.lacks
+        return [lsa.text for lsa in self.lsas], self.lacks
 
 
-class Ears:
+class SniffedSource:
     """The packets on the interfaces, held to what the daemon lists. As long as it does not answer they are left where
     they are."""
 
-    def __init__(self, client: Client, source: socket.socket, heard: Heard) -> None:
+    def __init__(self, client: Client, source: socket.socket, heard: HeardLsas) -> None:
         self.client, self.source, self.heard = client, source, heard
-        self.told = Told([], (SILENT,))
+        self.snapshot = Snapshot([], (SILENT,))
         self.asked = 0.0
         self.waiting = self.answers = False
         self.neighbors: frozenset[Neighbor] = frozenset()
@@ -51,69 +51,69 @@ class Ears:
     def filenos(self) -> list[int]:
         return [] if self.waiting else [self.source.fileno()]
 
-    def look(self, now: float, interfaces: Interfaces) -> Told:
+    def look(self, now: float, interfaces: Interfaces) -> Snapshot:
         """Asks for the daemon's list soon after a packet. The list comes first, so that what is in it was heard."""
         self.waiting = self.waiting or self.has_more()
         if now >= self.next(now):
             self.asked, look = now, self.client.look()
             self.answers = look is not None
-            made = Told([], (SILENT,))
+            snapshot = Snapshot([], (SILENT,))
             if look is not None:
                 # (what waits may have come from a neighbor that has gone since)
                 both, self.neighbors = look._replace(neighbors=look.neighbors | self.neighbors), look.neighbors
-                found, lacks = self.heard.take(sniffer.packets(self.source), both, interfaces.names or {})
-                made = Told(found, tuple(lacks))
+                heard, lacks = self.heard.take(sniffer.packets(self.source), both, interfaces.names or {})
+                snapshot = Snapshot(heard, tuple(lacks))
                 self.waiting = self.has_more()
-            if made.text != self.told.text:
-                self.told = made
-        return self.told
+            if snapshot.text != self.snapshot.text:
+                self.snapshot = snapshot
+        return self.snapshot
 
     def has_more(self) -> bool:
         return bool(select.select([self.source], [], [], 0)[0])
 
     def next(self, now: float) -> float:
-        return self.asked + (SOON if self.waiting and self.answers else AGAIN if self.told.lacks else LATER)
+        return self.asked + (SOON if self.waiting and self.answers else AGAIN if self.snapshot.lacks else LATER)
 
 
-class Word:
+class ApiSource:
     """FRR's own word on its database, by its OSPF API; as long as that is not there, what is heard."""
 
     def __init__(
-        self, area: int, ears: Callable[[list[Lsa]], Ears], open_api: bool, tell: Callable[[str], None]
+        self, area: int, sniff: Callable[[list[Lsa]], SniffedSource], open_api: bool, tell: Callable[[str], None]
     ) -> None:
-        self.area, self.make_ears, self.open_api, self.tell = area, ears, open_api, tell
-        self.ears = ears([])
+        self.area, self.sniff, self.open_api, self.tell = area, sniff, open_api, tell
+        self.sniffed = sniff([])
         self.api: Api | None = None
-        self.told = self.ears.told
+        self.snapshot = self.sniffed.snapshot
         self.again = self.compared = 0.0
         self.differs: Database = {}
         self.last = ""
 
     def name(self) -> str:
-        return "FRR's OSPF API" if self.is_whole() else self.ears.name()
+        return "FRR's OSPF API" if self.is_whole() else self.sniffed.name()
 
     def is_whole(self) -> bool:
         return self.api is not None and self.api.whole
 
     def filenos(self) -> list[int]:
         word = [] if self.api is None else [self.api.fileno()]
-        return word if self.is_whole() else word + self.ears.filenos()
+        return word if self.is_whole() else word + self.sniffed.filenos()
 
-    def look(self, now: float, interfaces: Interfaces) -> Told:
+    def look(self, now: float, interfaces: Interfaces) -> Snapshot:
         if not self.is_whole():
-            self.told = self.ears.look(now, interfaces)
+            self.snapshot = self.sniffed.look(now, interfaces)
             # (FRR 8.4.4 ends by a signal where it is asked before it has an area)
-            if self.api is None and self.ears.answers and now >= self.again:
+            if self.api is None and self.sniffed.answers and now >= self.again:
                 self.connect(now)
         if self.api is not None:
             try:
                 if self.api.read() and self.api.whole:
-                    self.told = Told(list(self.api.found.values()))
+                    self.snapshot = Snapshot(list(self.api.found.values()))
                 if self.api.whole and now >= self.compared:
                     self.compare(self.api, now)
             except ApiFault as fault:
                 self.lose(str(fault), now + (AGAIN if self.is_whole() else REFUSED))
-        return self.told
+        return self.snapshot
 
     def connect(self, now: float) -> None:
         """Asks for the daemon's word, where none but this machine can speak to it, or it is told that this may be so."""
@@ -137,12 +137,12 @@ class Word:
         self.last = why
         if whole:
             self.last = ""
-            self.ears = self.make_ears(self.told.found)
+            self.sniffed = self.sniff(self.snapshot.lsas)
 
     def compare(self, api: Api, now: float) -> None:
         """Holds the word to the daemon's list, as FRR 8.4.4 sends no LSA of more than 1,488 bytes, and loses others with
         it. What differs twice in the same way is no change on its way."""
-        listed = self.ears.client.database()
+        listed = self.sniffed.client.database()
         if listed is None:
             self.compared = now + ON_ITS_WAY
             return
@@ -156,15 +156,15 @@ class Word:
 
     def next(self, now: float) -> float:
         if self.api is None:
-            return min(self.ears.next(now), self.again if self.ears.answers else self.ears.next(now))
-        return min(self.api.due, self.compared if self.api.whole else self.ears.next(now))
+            return min(self.sniffed.next(now), self.again if self.sniffed.answers else self.sniffed.next(now))
+        return min(self.api.due, self.compared if self.api.whole else self.sniffed.next(now))
 
 
-def usable(found: list[Lsa]) -> tuple[list[Lsa], list[str]]:
+def usable(listed: list[Lsa]) -> tuple[list[Lsa], list[str]]:
     """The LSAs that mrt takes, and what is told of the others: one record of one router is not to cost all the repairs.
     A router that is left out has none, and no color goes over it."""
     good, left = [], []
-    for lsa in found:
+    for lsa in listed:
         why = lsas.damage(lsa) or zero_metric(lsa)
         if why:
             left.append(f"{lsas.key_text(lsa.key)}: {why}")

@@ -9,7 +9,7 @@ from . import batch
 from .file_watch import Watched
 from .netlink import News
 from .settings import Settings
-from .sources import Told
+from .sources import Snapshot
 
 
 class Router(batch.Kernel, Protocol):
@@ -43,14 +43,14 @@ class Source(Protocol):
     def filenos(self) -> list[int]:
         """What has something to read when there may be news."""
 
-    def look(self, now: float, interfaces: Interfaces) -> Told:
+    def look(self, now: float, interfaces: Interfaces) -> Snapshot:
         """What there is now: the same object as before where nothing has changed."""
 
     def next(self, now: float) -> float:
         """When to look again, whatever comes."""
 
 
-class Around(NamedTuple):
+class Surroundings(NamedTuple):
     """A signal ends the agent in `wait` and nowhere else."""
 
     kernel: Router

@@ -14,7 +14,7 @@ from .owners import Daemon
 from .prefixes import Prefixes
 
 
-class Wanted(NamedTuple):
+class TableOptions(NamedTuple):
     """What of it is asked for: with the primaries left to a daemon, to all prefixes, with repairs; and the code points,
     two for each generation."""
 
@@ -80,7 +80,7 @@ def lines_of(ways: Ways, whole: Prefixes, entries: list[Entry]) -> list[str]:
     return lines + [f"{prefix}: left out, {why}" for prefix, why in whole.left.items()]
 
 
-def table_of(ways: Ways, daemon: Daemon, wanted: Wanted) -> Table:
+def table_of(ways: Ways, daemon: Daemon, wanted: TableOptions) -> Table:
     whole = Prefixes(ways, daemon, wanted.prefixes)
     entries = whole.entries()
     told = lines_of(ways, whole, entries)
