@@ -246,8 +246,11 @@ class Limits(unittest.TestCase):
         """Its watchdog is more patient than all that the agent waits for in one step."""
         with open(os.path.join(TOOLS, "mrt-agent@.service"), encoding="ascii") as file:
             lines = dict(line.strip().split("=", 1) for line in file if "=" in line and not line.startswith("#"))
-        self.assertEqual((lines["Type"], lines["MemoryMax"]), ("notify", "1G"))
+        bounds = [lines[name] for name in ("Type", "MemoryMax", "TasksMax", "Restart")]
+        self.assertEqual(bounds, ["notify", "1G", "64", "on-failure"])
         self.assertGreater(int(lines["WatchdogSec"]), 5 * loop.LIMIT + 3 * batch.LIMIT)
+        # (a signal is heard when a step has ended, and then --strict takes its time)
+        self.assertGreater(int(lines["TimeoutStopSec"]), int(lines["WatchdogSec"]))
 
 
 class Locks(unittest.TestCase):

@@ -541,6 +541,12 @@ class Silent(Case):
             getattr(self.daemon, which).close()
             self.faults_alone(api)
 
+    def test_what_cannot_be_taken_is_not_taken_again(self) -> None:
+        """A fault of this program ends the copy as any other does: each later look would meet the same bytes."""
+        api = self.whole(*pair())
+        with mock.patch.object(api.copy, "update", side_effect=ZeroDivisionError("x")):
+            self.faults(api, "ZeroDivisionError('x')", told(pair()[0]))
+
     def faults_alone(self, api: Api) -> None:
         with self.assertRaises(ApiFault) as caught:
             api.read()

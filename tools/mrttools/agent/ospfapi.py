@@ -340,6 +340,10 @@ class Api:
             # (one that has ended a connection may not have read all that was asked)
             self.end(isinstance(fault, ConnectionError))
             raise ApiFault(system_line(fault)) from fault
+        except Exception as fault:  # pylint: disable=broad-except
+            # (what cannot be taken would be there again at each later look)
+            self.close()
+            raise ApiFault(repr(fault)) from fault
 
     def end(self, by_the_daemon: bool) -> None:
         if by_the_daemon:
