@@ -2,7 +2,7 @@
 from __future__ import annotations
 
 import struct
-from typing import Iterator, NamedTuple
+from typing import Iterator, NamedTuple, Sequence
 
 from . import lsas
 from .lsas import Lsa
@@ -51,6 +51,14 @@ def packet_of(payload: bytes) -> Packet:
     elif authentication != CRYPTOGRAPHIC:
         raise BadPacket(f"authentication of type {authentication}")
     return Packet(kind, router, area, data)
+
+
+def made(router: int, records: Sequence[bytes]) -> bytes:
+    """A Link State Update of a router in the area 0, without authentication."""
+    body = struct.pack(">I", len(records)) + b"".join(records)
+    head = struct.pack(">BBHII", 2, UPDATE, 24 + len(body), router, 0)
+    checksum = 0xFFFF ^ internet_sum(head + bytes(4) + body)
+    return head + struct.pack(">HH", checksum, NO_AUTHENTICATION) + bytes(8) + body
 
 
 def records_of(packet: Packet) -> Iterator[Lsa]:

@@ -16,8 +16,8 @@ from mrttools.lsas import address, lsa_of, split
 from mrttools.router import kernel, table
 from tests.kernels import PLAN
 from tests.making import MRT, router_lsa
-from tests.standing import LINGER, WithAgent, told_links
 from tests.networks import lsas_of
+from tests.standing import LINGER, WithAgent, told_links
 
 
 @unittest.skipUnless(os.path.exists(MRT), "the program is not built")

@@ -4,14 +4,15 @@ from functools import partial
 from unittest import mock
 from xml.etree import ElementTree
 
-from mrttools import lsas
-from mrttools import updates
-from mrttools.lab import agents, bars, dropped, failures, forwarding, hostile, network, outcomes, pings, primaries
-from mrttools.lab import static_routes
+from mrttools import lsas, updates
+from mrttools.agent.sniffer import DaemonView, instance_of
+from mrttools.lab import agents, bars, dropped, failures, forwarding, hostile, network, outcomes, outside, pings
+from mrttools.lab import primaries, static_routes
 from mrttools.lab.daemons import Bird, Frr, Running
 from mrttools.lab.pings import Counted
 from mrttools.lab.plans import PLANS, SHARED_BY
 from mrttools.lsas import lsa_of
+from mrttools.router.owners import owners_of
 from tests.making import router_lsa
 
 NOTHING = Running([], "")
@@ -267,21 +268,55 @@ class Harm(unittest.TestCase):
         lines = hostile.Hostile().configuration(network.PLAN, hostile.ROUTER_NUMBER).splitlines()
         self.assertEqual(lines[0], "router id 8.8.8.8;")
         area = lines.index("    area 0 {")
-        stubs = [f"        stubnet {each};" for each in hostile.NETWORKS]
+        stubs = [f"        stubnet {each};" for each in (*hostile.NETWORKS, hostile.GOOD)]
         self.assertEqual(lines[area + 1 : area + 1 + len(stubs)], stubs)
         self.assertEqual(len([line for line in lines if "stubnet" in line]), len(stubs))
         self.assertFalse(any("protocol kernel" in line for line in lines))
         self.assertEqual(sum("interface" in line for line in lines), 1)
 
     def test_what_it_sends(self) -> None:
-        """An update that a router takes, with a newer instance that mrt does not take."""
+        """An update that a router takes, with newer instances: one that mrt does not take, and one of a neighbor elsewhere."""
         before = lsa_of(router_lsa("8.8.8.8", [("1.1.1.1", "10.0.0.1", 1, 7), ("10.9.0.0", "255.255.0.0", 3, 5)]))
-        packet = updates.packet_of(hostile.update(hostile.with_zero(before)))
-        (after,) = updates.records_of(packet)
+        records = [hostile.changed(before, metric=0), hostile.changed(before, data=lsas.address(hostile.OFF))]
+        packet = updates.packet_of(updates.made(lsas.address(hostile.IDENTIFIER), records))
+        after = list(updates.records_of(packet))
         self.assertEqual((packet.kind, lsas.spelled(packet.router)), (updates.UPDATE, "8.8.8.8"))
-        self.assertIsNone(lsas.damage(after))
-        self.assertEqual((after.key, after.sequence), (before.key, before.sequence + 1))
-        self.assertEqual([link.metric for link in lsas.links_of(after.record)], [0, 5])
+        for each in after:
+            self.assertIsNone(lsas.damage(each))
+            self.assertEqual((each.key, each.sequence), (before.key, before.sequence + 1))
+        said = [[(link.metric, lsas.spelled(link.data)) for link in lsas.links_of(each.record)] for each in after]
+        stub = (5, "255.255.0.0")
+        self.assertEqual(said, [[(0, "10.0.0.1"), stub], [(7, hostile.OFF), stub]])
+
+    def test_a_network_in_the_place_of_a_loopback(self) -> None:
+        """The router's link to it, and its list of routers, so that it is one of the area."""
+        before = lsa_of(router_lsa("8.8.8.8", [("10.255.0.5", "10.0.58.8", 1, 7)]))
+        with_it, network = lsa_of(hostile.with_network(before)), lsa_of(hostile.network_lsa())
+        self.assertEqual(hostile.with_network(with_it)[lsas.HEADER :], with_it.record[lsas.HEADER :])
+        self.assertEqual((lsas.damage(with_it), lsas.damage(network)), (None, None))
+        self.assertEqual(lsas.routers_of(network.record), [before.router])
+        (owners,) = owners_of([network]).values()
+        self.assertEqual([prefix.text for prefix in owners_of([network])], ["10.255.0.9/32"])
+        self.assertEqual(list(owners.values()), [0])
+        self.assertIn(network.number, [link.far for link in lsas.links_of(with_it.record)])
+
+    def test_an_lsa_to_be_taken_for_another_one(self) -> None:
+        """By number and checksum it is the one that a daemon lists; and it comes in a packet of a neighbor."""
+        links = [("10.255.0.1", "10.0.12.2", 1, 10), ("10.255.0.2", "255.255.255.255", 3, 0)]
+        true = lsa_of(router_lsa("10.255.0.2", links))
+        made = lsa_of(outside.forged(true))
+        self.assertTrue(DaemonView({true.key: instance_of(true)}, {}, frozenset()).has(made))
+        self.assertIsNone(lsas.damage(made))
+        self.assertNotEqual(made.text, true.text)
+        data = outside.datagram([made.record])
+        self.assertEqual((data[8], updates.internet_sum(data[:20])), (1, 0xFFFF))
+        packet = updates.packet_of(data[20:])
+        self.assertEqual((lsas.spelled(packet.router), list(updates.records_of(packet))), ("10.255.0.2", [made]))
+
+    def test_lsas_without_end(self) -> None:
+        made = [lsa_of(each) for each in outside.empty(300)]
+        self.assertEqual((len({each.key for each in made}), {lsas.damage(each) for each in made}), (300, {None}))
+        self.assertLessEqual(len(outside.datagram(each.record for each in made[: outside.IN_A_PACKET])), 1500)
 
 
 class Configurations(unittest.TestCase):
