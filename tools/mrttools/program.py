@@ -38,10 +38,10 @@ def file_of(path: str) -> str:
 
 def program_in(root: str) -> str:
     """The program of a folder that has the script."""
-    found = os.path.join(root, "crates", "mrt", "out", "mrt")
-    if not os.path.exists(found) and not os.path.exists(os.path.join(root, "crates.txt")):
-        found = os.path.realpath(os.path.join(root, "..", "..", "libexec", "semborui", "mrt"))
-    return found
+    path = os.path.join(root, "crates", "mrt", "out", "mrt")
+    if not os.path.exists(path) and not os.path.exists(os.path.join(root, "crates.txt")):
+        path = os.path.realpath(os.path.join(root, "..", "..", "libexec", "semborui", "mrt"))
+    return path
 
 
 def built(path: str) -> str:
@@ -51,9 +51,9 @@ def built(path: str) -> str:
     root = os.path.dirname(file_of(path))
     if not os.path.isdir(os.path.join(root, "crates", "mrt")):
         return path
-    found = program_in(root)
-    refuse_without(found)
-    return found
+    program = program_in(root)
+    refuse_without(program)
+    return program
 
 
 def library_for(path: str) -> library.Library | None:
@@ -80,13 +80,13 @@ class Program:
         # (of several runs one after another the watchdog waits for each alone)
         alive()
         try:
-            said = self.answer(command, *words)
+            answer = self.answer(command, *words)
         except (subprocess.TimeoutExpired, futures.TimeoutError):
             raise self.too_slow(command) from None
-        if said.status != 0:
-            sys.stderr.buffer.write(said.line)
-            raise ToolFault("", said.status, said.line.decode("utf-8", "replace").strip())
-        return said.text
+        if answer.status != 0:
+            sys.stderr.buffer.write(answer.line)
+            raise ToolFault("", answer.status, answer.line.decode("utf-8", "replace").strip())
+        return answer.text
 
     def answer(self, *words: str) -> library.Answer:
         if self.library and library.are_plain(words):
@@ -107,10 +107,10 @@ class Program:
 
     def lines(self, command: str, *words: str) -> list[str]:
         """The lines that a command writes, of which there is one at least."""
-        found = self.run(command, *words).decode("ascii").splitlines()
-        if not found:
+        lines = self.run(command, *words).decode("ascii").splitlines()
+        if not lines:
             raise ToolFault(f"{self.path} {command} ended with status 0 and has written nothing", REFUSED)
-        return found
+        return lines
 
     def many(self, command: str, each: Sequence[tuple[str, ...]], untold: int) -> Iterator[tuple[int, bytes | None]]:
         """What a command writes for each of several words, by their place, as it comes; none where it refuses with the

@@ -41,10 +41,10 @@ def place(line: str) -> str:
     words = line.split(" ")
     if words[0] == "rule":
         return line
-    found = words[: 3 if words[1] == "unreachable" else 2]
+    key = words[: 3 if words[1] == "unreachable" else 2]
     for name in ("table", "metric"):
-        found += [name, words[words.index(name) + 1]] if name in words else []
-    return " ".join([*found, "proto", str(PROTOCOL)])
+        key += [name, words[words.index(name) + 1]] if name in words else []
+    return " ".join([*key, "proto", str(PROTOCOL)])
 
 
 def prefix_of(line: str) -> str:
@@ -63,13 +63,13 @@ def said(line: str, verb: str) -> str:
     return f"{kind} {verb} {rest}"
 
 
-def changes(have: State, wanted: State) -> list[str]:
+def changes(have: State, state: State) -> list[str]:
     """The batch that makes one state of another. Repairs that go are first, then come rows of colors, then repairs, and
     rows that go are last, so that no packet is put on a color that has no way."""
-    gone, come = {place(line) for line in have} - {place(line) for line in wanted}, wanted - have
+    gone, come = {place(line) for line in have} - {place(line) for line in state}, state - have
     verbs = [(line, "del") for line in gone] + [(line, "add" if line in RULES else "replace") for line in come]
     order = [(True, "del"), (False, "add"), (False, "replace"), (True, "replace"), (False, "del")]
-    verbs.sort(key=lambda each: (order.index((is_repair(each[0]), each[1])), each[0]))
+    verbs.sort(key=lambda change: (order.index((is_repair(change[0]), change[1])), change[0]))
     return [said(line, verb) for line, verb in verbs]
 
 
@@ -94,11 +94,11 @@ class Refusal(ToolFault):
         self.lines = list(lines)
 
 
-def put(router: Kernel, wanted: State) -> list[str]:
+def put(router: Kernel, state: State) -> list[str]:
     """Brings a kernel to what is wanted; the lines of what changed. Where the batch fails in its middle the kernel gets
     back what it had, and where it does not take that, no repair is left, and packets on colors end."""
     have = router.state()
-    lines = changes(have, wanted)
+    lines = changes(have, state)
     if not lines:
         return []
     try:
@@ -111,13 +111,13 @@ def put(router: Kernel, wanted: State) -> list[str]:
 def taken_back(router: Kernel, had: State) -> str:
     """Undoes the half of a batch; what is told of it."""
     ends = (bare(), "all repairs are taken away"), (NOTHING, "all routes are taken away")
-    for state, told in ((had, "the routes are as they were before"), *ends):
+    for state, line in ((had, "the routes are as they were before"), *ends):
         try:
             router.batch(changes(router.state(), state))
         except Refusal:
             pass
         if router.state() == state:
-            return told
+            return line
     return "ROUTES ARE LEFT: run tools/fib --remove | sh"
 
 
@@ -160,8 +160,8 @@ class Linux:
         return self.told("rule", "show")
 
     def state(self) -> State:
-        ours = (number for each in self.rules() if (number := number_of(each)) is not None)
-        return frozenset(f"route {route_of(each)}" for each in self.routes(PROTOCOL)) | {RULES[each] for each in ours}
+        ours = (number for item in self.rules() if (number := number_of(item)) is not None)
+        return frozenset(f"route {route_of(item)}" for item in self.routes(PROTOCOL)) | {RULES[item] for item in ours}
 
     def batch(self, lines: list[str]) -> None:
         if lines:
@@ -183,32 +183,32 @@ class Linux:
             return ""
 
 
-def route_of(found: dict[str, Any]) -> str:
+def route_of(route: dict[str, Any]) -> str:
     """A route of `ip -j`, in the words of `kernel.routes_of`."""
-    kind, prefix = KINDS.get(str(found.get("type")), "unicast"), str(found["dst"])
+    kind, prefix = KINDS.get(str(route.get("type")), "unicast"), str(route["dst"])
     if prefix == "default" and kind == "unicast":
         prefix = "0.0.0.0/0"
     if "/" not in prefix and prefix != "default":
         prefix += "/32"
     words = [prefix] if kind == "unicast" else [kind, prefix]
     if kind == "unicast":
-        words += ["via", found["gateway"]] if "gateway" in found else []
-        words += ["dev", found["dev"]] if "dev" in found else []
-        words += [] if "gateway" in found else ["scope", "link"]
+        words += ["via", route["gateway"]] if "gateway" in route else []
+        words += ["dev", route["dev"]] if "dev" in route else []
+        words += [] if "gateway" in route else ["scope", "link"]
     for name in ("table", "metric"):
-        words += [name, found[name]] if name in found else []
-    words += ["realm", found["flow"]["to"]] if "flow" in found else []
+        words += [name, route[name]] if name in route else []
+    words += ["realm", route["flow"]["to"]] if "flow" in route else []
     return " ".join(map(str, [*words, "proto", PROTOCOL]))
 
 
 def number_of(rule: dict[str, Any]) -> int | None:
     """Which color's rule one of `ip -j` is, if it is one."""
-    said = rule.get("priority"), rule.get("fwmark"), rule.get("fwmask"), rule.get("table")
+    fields = rule.get("priority"), rule.get("fwmark"), rule.get("fwmask"), rule.get("table")
     return next(
         (
             number
             for number, table in enumerate(TABLES)
-            if said == (table, hex(MARK * (number + 1)), hex(MASK), str(table))
+            if fields == (table, hex(MARK * (number + 1)), hex(MASK), str(table))
         ),
         None,
     )

@@ -30,51 +30,52 @@ def frr(text: str, area: int) -> Database | None:
         return None
 
 
-def frr_lsas(said: Any, area: int) -> Iterator[tuple[Key, tuple[int, int], int | None]]:
+def frr_lsas(answer: Any, area: int) -> Iterator[tuple[Key, tuple[int, int], int | None]]:
     """Each live LSA: its key, its instance, and of a router-LSA how many links it has."""
-    listed = said["areas"][lsas.spelled(area)]
+    listed = answer["areas"][lsas.spelled(area)]
     for kind, name in ((ROUTER, "routerLinkStates"), (NETWORK, "networkLinkStates")):
-        for each in listed.get(name, []):
-            if each["lsaAge"] < MAX_AGE:
-                key = Key(kind, lsas.address(each["lsId"]), lsas.address(each["advertisedRouter"]))
-                yield key, (int(each["sequenceNumber"], 16), int(each["checksum"], 16)), each.get("numOfRouterLinks")
+        for entry in listed.get(name, []):
+            if entry["lsaAge"] < MAX_AGE:
+                key = Key(kind, lsas.address(entry["lsId"]), lsas.address(entry["advertisedRouter"]))
+                instance = int(entry["sequenceNumber"], 16), int(entry["checksum"], 16)
+                yield key, instance, entry.get("numOfRouterLinks")
 
 
 def frr_look(answers: list[str], area: int) -> DaemonView | None:
     """All that FRR says of an area, in one answer."""
     try:
         database, networks, interfaces, neighbors = values_in("".join(answers))
-        found = list(frr_lsas(database, area))
+        instances = list(frr_lsas(database, area))
         # (a network-LSA that came between the two questions has no size that any has)
-        sizes = {key: -1 if size is None else size for key, _, size in found}
-        for each in networks["networkLinkStates"]["areas"].get(lsas.spelled(area), []):
-            key = Key(NETWORK, lsas.address(each["linkStateId"]), lsas.address(each["advertisingRouter"]))
-            sizes[key] = each["length"]
-        inside = {name for name, each in interfaces["interfaces"].items() if each.get("area") == lsas.spelled(area)}
-        return DaemonView({key: instance for key, instance, _ in found}, sizes, frr_neighbors(neighbors, inside))
+        sizes = {key: -1 if size is None else size for key, _, size in instances}
+        for entry in networks["networkLinkStates"]["areas"].get(lsas.spelled(area), []):
+            key = Key(NETWORK, lsas.address(entry["linkStateId"]), lsas.address(entry["advertisingRouter"]))
+            sizes[key] = entry["length"]
+        inside = {name for name, entry in interfaces["interfaces"].items() if entry.get("area") == lsas.spelled(area)}
+        return DaemonView({key: instance for key, instance, _ in instances}, sizes, frr_neighbors(neighbors, inside))
     except NO_ANSWER:
         return None
 
 
 def values_in(text: str) -> list[Any]:
     """The values of JSON that stand one after another."""
-    found, decoder, at = [], json.JSONDecoder(), 0
+    values, decoder, at = [], json.JSONDecoder(), 0
     while text[at:].strip():
         at += len(text[at:]) - len(text[at:].lstrip())
         value, at = decoder.raw_decode(text, at)
-        found.append(value)
-    return found
+        values.append(value)
+    return values
 
 
-def frr_neighbors(said: Any, inside: set[str]) -> frozenset[Neighbor]:
+def frr_neighbors(answer: Any, inside: set[str]) -> frozenset[Neighbor]:
     """The neighbors on some interfaces."""
-    found = set()
-    for router, group in said["neighbors"].items():
-        for each in group:
-            device = each["ifaceName"].rsplit(":", 1)[0]
-            if device in inside and each["state"].split("/")[0] in EXCHANGES:
-                found.add(Neighbor(device, lsas.address(each["address"]), lsas.address(router)))
-    return frozenset(found)
+    neighbors = set()
+    for router, group in answer["neighbors"].items():
+        for entry in group:
+            device = entry["ifaceName"].rsplit(":", 1)[0]
+            if device in inside and entry["state"].split("/")[0] in EXCHANGES:
+                neighbors.add(Neighbor(device, lsas.address(entry["address"]), lsas.address(router)))
+    return frozenset(neighbors)
 
 
 # BIRD
@@ -82,7 +83,7 @@ def frr_neighbors(said: Any, inside: set[str]) -> frozenset[Neighbor]:
 
 def bird(text: str, area: int) -> Database | None:
     """The area's live LSAs in the answer of BIRD; none where that has no such area."""
-    found: Database = {}
+    instances: Database = {}
     here = there = False
     for line in text.splitlines():
         heading = re.fullmatch(r"(?:Area (\S+)|Global|Link .*)", line.strip())
@@ -92,8 +93,8 @@ def bird(text: str, area: int) -> Database | None:
         fields = re.match(r"\s*000([12])\s+(\S+)\s+(\S+)\s+([0-9a-f]{8})\s+(\d+)\s+([0-9a-f]{4})", line)
         if here and fields and int(fields[5]) < MAX_AGE:
             key = Key(int(fields[1]), lsas.address(fields[2]), lsas.address(fields[3]))
-            found[key] = int(fields[4], 16), int(fields[6], 16)
-    return found if there else None
+            instances[key] = int(fields[4], 16), int(fields[6], 16)
+    return instances if there else None
 
 
 def bird_look(answers: list[str], area: int) -> DaemonView | None:
@@ -102,17 +103,17 @@ def bird_look(answers: list[str], area: int) -> DaemonView | None:
     listed = bird(database, area)
     inside, device = set(), ""
     for line in interfaces.splitlines():
-        heading, said = re.match(r"Interface (\S+) ", line), re.match(r"\s+Area: (\S+)", line)
+        heading, area_line = re.match(r"Interface (\S+) ", line), re.match(r"\s+Area: (\S+)", line)
         if heading:
             device = heading[1]
-        elif said and said[1] == lsas.spelled(area):
+        elif area_line and area_line[1] == lsas.spelled(area):
             inside.add(device)
-    found = set()
+    exchanging = set()
     for line in neighbors.splitlines():
         fields = re.match(r"([\d.]+)\s+\d+\s+([^/\s]+)\S*\s+\S+\s+(\S+)\s+([\d.]+)\s*$", line)
         if fields and fields[3] in inside and fields[2] in EXCHANGES:
-            found.add(Neighbor(fields[3], lsas.address(fields[4]), lsas.address(fields[1])))
-    return None if listed is None else DaemonView(listed, {}, frozenset(found))
+            exchanging.add(Neighbor(fields[3], lsas.address(fields[4]), lsas.address(fields[1])))
+    return None if listed is None else DaemonView(listed, {}, frozenset(exchanging))
 
 
 # asking
@@ -137,17 +138,17 @@ class Client:
 
     def database(self) -> Database | None:
         """What it lists; none where it does not answer."""
-        said = self.answer(self.list)
-        return None if said is None else self.read(said, self.area)
+        answer = self.answer(self.list)
+        return None if answer is None else self.read(answer, self.area)
 
     def look(self) -> DaemonView | None:
         """All that it says of the area; none where it does not answer."""
         answers = []
         for question in self.all:
-            said = self.answer(question)
-            if said is None:
+            answer = self.answer(question)
+            if answer is None:
                 return None
-            answers.append(said)
+            answers.append(answer)
         return self.read_all(answers, self.area)
 
 

@@ -45,25 +45,25 @@ class Chain(NamedTuple):
 Place = tuple[str, str, str]
 
 
-def chains_of(said: Any) -> dict[Place, Chain]:
+def chains_of(ruleset: Any) -> dict[Place, Chain]:
     """The chains in the answer of `nft -j list ruleset`, but for those of tables that are asleep, or have another flag:
     nft 1.0.6 does not say which."""
-    entries = said["nftables"]
+    entries = ruleset["nftables"]
     asleep = {
         (one["family"], one["name"])
-        for one in (each["table"] for each in entries if "table" in each)
+        for one in (entry["table"] for entry in entries if "table" in entry)
         if one.get("flags")
     }
-    found: dict[Place, Chain] = {}
-    for one in (each["chain"] for each in entries if "chain" in each):
+    chains: dict[Place, Chain] = {}
+    for one in (entry["chain"] for entry in entries if "chain" in entry):
         if (one["family"], one["table"]) not in asleep:
             place = one["family"], one["table"], one["name"]
-            found[place] = Chain(one["family"], one.get("hook", ""), one.get("policy", "accept"), [])
-    for one in (each["rule"] for each in entries if "rule" in each):
+            chains[place] = Chain(one["family"], one.get("hook", ""), one.get("policy", "accept"), [])
+    for one in (entry["rule"] for entry in entries if "rule" in entry):
         place = one["family"], one["table"], one["chain"]
-        if place in found:
-            found[place].rules.append(one["expr"])
-    return found
+        if place in chains:
+            chains[place].rules.append(one["expr"])
+    return chains
 
 
 class Packets:
@@ -129,11 +129,12 @@ class Packets:
                     return Way.MAY_BE_ACCEPTED, name == "accept"
         return None, False
 
-    def mapped(self, said: Any) -> tuple[Way | None, bool]:
+    def mapped(self, map_of_verdicts: Any) -> tuple[Way | None, bool]:
         """What may become of packets by a map of verdicts, where it has one for them."""
-        if not isinstance(said["data"], dict):
+        if not isinstance(map_of_verdicts["data"], dict):
             return Way.MAY_BE_ACCEPTED, False
-        verdicts = [verdict for key, verdict in said["data"]["set"] if self.is_one(said["key"], key) is not False]
+        left, pairs = map_of_verdicts["key"], map_of_verdicts["data"]["set"]
+        verdicts = [verdict for key, verdict in pairs if self.is_one(left, key) is not False]
         if all("drop" in verdict for verdict in verdicts):
             return None, False
         return Way.MAY_BE_ACCEPTED, False
@@ -142,45 +143,46 @@ class Packets:
 
     def holds(self, rule: Rule) -> bool | None:
         """Whether a rule is for all of them, for none of them, or that cannot be told."""
-        found: list[bool | None] = []
+        answers: list[bool | None] = []
         for statement in rule:
             if "match" in statement:
-                found.append(self.matches(statement["match"]))
+                answers.append(self.matches(statement["match"]))
             elif "limit" in statement:
-                found.append(None)
-        if False in found:
+                answers.append(None)
+        if False in answers:
             return False
-        return None if None in found else True
+        return None if None in answers else True
 
     def matches(self, match: Any) -> bool | None:
         left, right, equal = match["left"], match["right"], match["op"] in ("==", "in")
         if match["op"] not in ("==", "in", "!="):
             return None
-        found = self.is_one(left, right)
-        return found if equal or found is None else not found
+        answer = self.is_one(left, right)
+        return answer if equal or answer is None else not answer
 
     def is_one(self, left: Any, right: Any) -> bool | None:
         """Whether what is asked of them is one of some values."""
-        (kind, said), *more = left.items()
-        if more or not isinstance(said, dict):
+        (kind, fields), *more = left.items()
+        if more or not isinstance(fields, dict):
             return None
-        if kind == "meta" and said["key"] in ("iif", "iifname"):
+        if kind == "meta" and fields["key"] in ("iif", "iifname"):
             # (the name is known to be another one)
             return False if values_of(right) == ["lo"] else None
-        asked = (kind, *(said[name] for name in ("protocol", "field", "key") if name in said))
+        asked = (kind, *(fields[name] for name in ("protocol", "field", "key") if name in fields))
         if asked[:2] == ("payload", "ip" if self.version == 6 else "ip6"):
             return False
-        if kind == "payload" and said.get("protocol") in ("udp", "udplite", "sctp", "dccp", "icmp", "icmpv6", "igmp"):
+        others = "udp", "udplite", "sctp", "dccp", "icmp", "icmpv6", "igmp"
+        if kind == "payload" and fields.get("protocol") in others:
             return False
         if asked not in self.known:
             return None
         return any_of([is_value(known, one) for one in values_of(right) for known in self.known[asked]])
 
 
-def any_of(found: list[bool | None]) -> bool | None:
-    if True in found:
+def any_of(answers: list[bool | None]) -> bool | None:
+    if True in answers:
         return True
-    return None if None in found else False
+    return None if None in answers else False
 
 
 def values_of(right: Any) -> list[Any]:
@@ -190,17 +192,17 @@ def values_of(right: Any) -> list[Any]:
     return right if isinstance(right, list) else [right]
 
 
-def is_value(known: object, said: object) -> bool | None:
+def is_value(known: object, value: object) -> bool | None:
     """Whether a value is the one that a rule says, or in its range."""
-    if isinstance(said, dict):
-        low, high = said.get("range", (None, None))
+    if isinstance(value, dict):
+        low, high = value.get("range", (None, None))
         if isinstance(low, int) and isinstance(high, int):
             return low <= known <= high if isinstance(known, int) else False
         return None
     # A named set; and what a rule before may have made of a packet.
-    if isinstance(said, str) and (said.startswith("@") or said == "untracked"):
+    if isinstance(value, str) and (value.startswith("@") or value == "untracked"):
         return None
-    return known == said
+    return known == value
 
 
 # what is asked
@@ -221,10 +223,10 @@ def rules() -> Any:
         return {"nftables": []}
 
 
-def are_dropped(said: Any, version: int, port: int) -> bool:
+def are_dropped(ruleset: Any, version: int, port: int) -> bool:
     """Whether rules drop what others send to a port by IPv4 or IPv6."""
     try:
-        return Packets(chains_of(said), version, port).are_dropped()
+        return Packets(chains_of(ruleset), version, port).are_dropped()
     except (KeyError, TypeError, ValueError, AttributeError, IndexError):
         # (another form than that of this nft)
         return False
@@ -233,11 +235,11 @@ def are_dropped(said: Any, version: int, port: int) -> bool:
 def open_to_others(port: int) -> str | None:
     """Where a port is listened on so that others may reach it; nothing where they cannot."""
     addresses = map(ipaddress.ip_address, sorted(set(sockets.listening(port).values())))
-    found = [address for address in addresses if not address.is_loopback]
-    if not found:
+    exposed = [address for address in addresses if not address.is_loopback]
+    if not exposed:
         return None
-    said = rules()
-    opened = [str(address) for address in found if not are_dropped(said, address.version, port)]
+    ruleset = rules()
+    opened = [str(address) for address in exposed if not are_dropped(ruleset, address.version, port)]
     if not opened:
         return None
     return f"TCP port {port} is listened on at {' '.join(opened)}, and no rule of nft is seen that drops what others send to it"

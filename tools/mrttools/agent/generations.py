@@ -84,20 +84,21 @@ class Generations:
         """What a former agent has left in the kernel, and of which certificates. What is left of none that is known may
         be of any."""
         self.old = {line: now + self.linger for line in state if generation_of(line) is not None}
-        there = sorted({each for line in self.old if (each := generation_of(line)) is not None})
-        self.digests = {each: digests.get(each, "") for each in there}
-        self.gone = {each: now + self.linger for each in there}
+        there = sorted({generation for line in self.old if (generation := generation_of(line)) is not None})
+        self.digests = {generation: digests.get(generation, "") for generation in there}
+        self.gone = {generation: now + self.linger for generation in there}
 
     def take(self, made: Made, has: State, lost_link: bool, now: float) -> str | None:
         """Takes newest routes in the place of what the kernel has; what is to be told of it."""
-        told, before, mine = None, self.made, made.generation
+        notice, before, mine = None, self.made, made.generation
         self.lay_away(made, has, now)
         if self.clashes(mine, made.digest, now):
             self.held[mine, ""] = now + KEPT + PAUSE
             for line in has:
                 if generation_of(line) == mine:
                     self.old[line] = min(self.old.get(line, now + KEPT), now + KEPT)
-            told = f"routers may have another certificate of generation {mine}: the new rows come in {KEPT + PAUSE:g} s"
+            pause = f"{KEPT + PAUSE:g} s"
+            notice = f"routers may have another certificate of generation {mine}: the new rows come in {pause}"
         if before and before.digest == made.digest:
             for prefix in made.moved_from(before):
                 self.held[mine, prefix] = now + PAUSE
@@ -105,7 +106,7 @@ class Generations:
             self.turn = now + TURN if lost_link else 0.0
             self.gone[before.generation] = now + self.linger
         self.made, self.digests[mine] = made, made.digest
-        return told
+        return notice
 
     def lay_away(self, made: Made, has: State, now: float) -> None:
         """What is not wanted any more lingers, if it is of another generation."""
@@ -131,11 +132,11 @@ class Generations:
         current = self.made is not None and self.made.generation == generation
         if known not in (None, digest) and (current or now < self.gone.get(generation, 0) + PAUSE):
             return True
-        self.skipped = [each for each in self.skipped if now < each.until + PAUSE]
+        self.skipped = [skipped for skipped in self.skipped if now < skipped.until + PAUSE]
         # (rows that are there already are those of all who have this certificate)
         return any(
-            known != digest if each.generation is None else each.generation == generation and each.digest != digest
-            for each in self.skipped
+            known != digest if other.generation is None else other.generation == generation and other.digest != digest
+            for other in self.skipped
         )
 
     # what there is to be
@@ -144,15 +145,15 @@ class Generations:
         """The routes and rules that the kernel is to have. Of a prefix that has old repairs and new ones, these are the
         new ones, but before repairs turn the old ones."""
         self.old = {line: until for line, until in self.old.items() if now < until}
-        self.held = {each: until for each, until in self.held.items() if now < until}
-        wanted = {line for line in self.made.state if not self.waits(line)} if self.made else set(bare())
-        repaired = {prefix_of(line) for line in wanted if is_of_color(line)}
+        self.held = {place: until for place, until in self.held.items() if now < until}
+        lines = {line for line in self.made.state if not self.waits(line)} if self.made else set(bare())
+        repaired = {prefix_of(line) for line in lines if is_of_color(line)}
         kept = {prefix_of(line) for line in self.old if is_of_color(line)}
         if now < self.turn:
-            wanted = {line for line in wanted if not (is_of_color(line) and prefix_of(line) in kept)}
+            lines = {line for line in lines if not (is_of_color(line) and prefix_of(line) in kept)}
             repaired -= kept
         return frozenset(
-            wanted | {line for line in self.old if not (is_of_color(line) and prefix_of(line) in repaired)}
+            lines | {line for line in self.old if not (is_of_color(line) and prefix_of(line) in repaired)}
         )
 
     def waits(self, line: str) -> bool:
@@ -163,7 +164,7 @@ class Generations:
     def next(self, now: float) -> float | None:
         """When the kernel is to have something else."""
         times = [self.turn, *self.held.values(), *self.old.values()]
-        return min((each for each in times if each > now), default=None)
+        return min((time for time in times if time > now), default=None)
 
     def whole(self, now: float) -> float:
         """When all of the newest routes are in the kernel."""
@@ -173,7 +174,8 @@ class Generations:
     def clear(self, now: float) -> None:
         """The kernel has nothing any more; other routers may."""
         self.made, self.old, self.held, self.turn = None, {}, {}, 0.0
-        self.gone = {each: min(self.gone.get(each, now + self.linger), now + self.linger) for each in self.digests}
+        until = now + self.linger
+        self.gone = {generation: min(self.gone.get(generation, until), until) for generation in self.digests}
 
     def forget_old(self) -> None:
         """Nothing lingers any more, as the kernel refuses it."""
@@ -182,14 +184,14 @@ class Generations:
     # files
 
     def write(self, name: str) -> None:
-        told = {str(each): digest for each, digest in self.digests.items()}
-        files.replace(name, json.dumps(told).encode("ascii"), lasting=False)
+        digests = {str(generation): digest for generation, digest in self.digests.items()}
+        files.replace(name, json.dumps(digests).encode("ascii"), lasting=False)
 
 
 def read(name: str) -> dict[int, str]:
     """The digests of the tables in the kernel, by generation, as an agent before has kept them."""
     try:
         with open(name, encoding="ascii") as file:
-            return {int(each): str(digest) for each, digest in json.load(file).items()}
+            return {int(generation): str(digest) for generation, digest in json.load(file).items()}
     except (OSError, ValueError, AttributeError):
         return {}

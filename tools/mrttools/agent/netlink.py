@@ -43,48 +43,48 @@ def messages(data: bytes) -> Iterator[Message]:
 
 
 def attributes(body: bytes, at: int) -> Attributes:
-    found = {}
+    values = {}
     while len(body) - at >= 4:
         length, kind = struct.unpack_from("=HH", body, at)
         if not 4 <= length <= len(body) - at:
             break
-        found[kind & 0x3FFF] = body[at + 4 : at + length]
+        values[kind & 0x3FFF] = body[at + 4 : at + length]
         at += (length + 3) & ~3
-    return found
+    return values
 
 
-def number(found: Attributes, kind: int, otherwise: int = 0) -> int:
-    return int(struct.unpack("=I", found[kind])[0]) if kind in found else otherwise
+def number(values: Attributes, kind: int, otherwise: int = 0) -> int:
+    return int(struct.unpack("=I", values[kind])[0]) if kind in values else otherwise
 
 
 def dump(kind: int, head: bytes, keep: Callable[[Message], bool] | None = None) -> list[Message]:
     """All that the kernel has of a kind, or what is kept of it as it is read. Where it changes while it is told, it is told
     again."""
     for _ in range(TRIES):
-        found, whole = dumped(kind, head, keep)
+        entries, whole = dumped(kind, head, keep)
         if whole:
-            return found
+            return entries
     raise OSError(f"the kernel's answer was cut into {TRIES} times")
 
 
 def dumped(kind: int, head: bytes, keep: Callable[[Message], bool] | None) -> tuple[list[Message], bool]:
     """An answer, and whether nothing changed meanwhile."""
-    found: list[Message] = []
+    entries: list[Message] = []
     flags = 0
-    with socket.socket(socket.AF_NETLINK, socket.SOCK_RAW, socket.NETLINK_ROUTE) as asked:
-        asked.settimeout(PATIENCE)
-        asked.setsockopt(OPTIONS, STRICT, 1)
-        asked.send(struct.pack("=IHHII", 16 + len(head), kind, REQUEST | DUMP, 1, 0) + head)
+    with socket.socket(socket.AF_NETLINK, socket.SOCK_RAW, socket.NETLINK_ROUTE) as kernel:
+        kernel.settimeout(PATIENCE)
+        kernel.setsockopt(OPTIONS, STRICT, 1)
+        kernel.send(struct.pack("=IHHII", 16 + len(head), kind, REQUEST | DUMP, 1, 0) + head)
         while True:
-            for message in messages(asked.recv(1 << 16)):
+            for message in messages(kernel.recv(1 << 16)):
                 if message.kind == ERROR:
                     code = -struct.unpack_from("=i", message.body)[0]
                     raise OSError(code, "the kernel refuses to tell of its routes")
                 flags |= message.flags
                 if message.kind == DONE:
-                    return found, not flags & INTERRUPTED
+                    return entries, not flags & INTERRUPTED
                 if keep is None or keep(message):
-                    found.append(message)
+                    entries.append(message)
 
 
 # what there is
@@ -92,12 +92,12 @@ def dumped(kind: int, head: bytes, keep: Callable[[Message], bool] | None) -> tu
 
 def names() -> dict[int, tuple[str, bool]]:
     """The interfaces by number: their names, and whether they are up."""
-    found = {}
+    interfaces = {}
     for message in dump(GET_LINK, bytes(16)):
         index, flags = struct.unpack_from("=4xiI", message.body)
         name = attributes(message.body, 16).get(3, b"").rstrip(b"\0")
-        found[index] = name.decode("utf-8", "surrogateescape"), bool(flags & UP)
-    return found
+        interfaces[index] = name.decode("utf-8", "surrogateescape"), bool(flags & UP)
+    return interfaces
 
 
 def addresses() -> list[Said]:
@@ -106,28 +106,27 @@ def addresses() -> list[Said]:
     infos: dict[int, list[Said]] = {index: [] for index, (_, up) in links.items() if up}
     for message in dump(GET_ADDRESS, struct.pack("=BBBBI", socket.AF_INET, 0, 0, 0, 0)):
         length, index = struct.unpack_from("=xBxxI", message.body)
-        found = attributes(message.body, 8)
-        if index in infos and 2 in found:
-            info: Said = {"local": socket.inet_ntoa(found[2]), "prefixlen": length}
-            if found.get(1, found[2]) != found[2]:
-                info["address"] = socket.inet_ntoa(found[1])
+        values = attributes(message.body, 8)
+        if index in infos and 2 in values:
+            info: Said = {"local": socket.inet_ntoa(values[2]), "prefixlen": length}
+            if values.get(1, values[2]) != values[2]:
+                info["address"] = socket.inet_ntoa(values[1])
             infos[index].append(info)
     return [{"ifname": links[index][0], "addr_info": own} for index, own in infos.items()]
 
 
-def routes(protocol: int, wanted: frozenset[str] | None = None) -> list[Said]:
+def routes(protocol: int, prefixes: frozenset[str] | None = None) -> list[Said]:
     """What `ip -N -j -4 route show table all proto PROTOCOL` says, of it what is used; of the prefixes wanted alone, where
     there are such: a protocol may have the routes of the Internet."""
-    networks = frozenset(map(network_of, wanted or ()))
-    keep = (lambda message: destination(message.body) in networks) if wanted is not None else None
-    links, found = names(), []
+    networks = frozenset(map(network_of, prefixes or ()))
+    keep = (lambda message: destination(message.body) in networks) if prefixes is not None else None
+    links, entries = names(), []
     for message in dump(GET_ROUTE, struct.pack("=8BI", socket.AF_INET, 0, 0, 0, 0, protocol, 0, 0, 0), keep):
-        length, table, told, scope, kind = struct.unpack_from("=xBxxBBBB", message.body)
-        if message.kind == NEW_ROUTE and told == protocol:
-            found.append(
-                route_of(attributes(message.body, 12), links, (length, table, scope, kind)) | {"protocol": str(told)}
-            )
-    return found
+        length, table, of_protocol, scope, kind = struct.unpack_from("=xBxxBBBB", message.body)
+        if message.kind == NEW_ROUTE and of_protocol == protocol:
+            route = route_of(attributes(message.body, 12), links, (length, table, scope, kind))
+            entries.append(route | {"protocol": str(protocol)})
+    return entries
 
 
 def network_of(prefix: str) -> tuple[bytes, int]:
@@ -140,34 +139,34 @@ def destination(body: bytes) -> tuple[bytes, int]:
     return attributes(body, 12).get(1, bytes(4)), body[1]
 
 
-def route_of(found: Attributes, links: dict[int, tuple[str, bool]], head: tuple[int, int, int, int]) -> Said:
+def route_of(values: Attributes, links: dict[int, tuple[str, bool]], head: tuple[int, int, int, int]) -> Said:
     length, table, scope, kind = head
-    said: Said = {"dst": f"{socket.inet_ntoa(found[1])}/{length}" if 1 in found else "default", "type": str(kind)}
-    if 5 in found:
-        said["gateway"] = socket.inet_ntoa(found[5])
-    if 4 in found:
-        said["dev"] = links.get(number(found, 4), ("", False))[0]
-    if number(found, 15, table) != MAIN:
-        said["table"] = str(number(found, 15, table))
-    if 6 in found:
-        said["metric"] = number(found, 6)
-    if 11 in found:
-        said["flow"] = {"to": str(number(found, 11) & 0xFFFF)}
-    said["scope"] = str(scope)
-    return said
+    route: Said = {"dst": f"{socket.inet_ntoa(values[1])}/{length}" if 1 in values else "default", "type": str(kind)}
+    if 5 in values:
+        route["gateway"] = socket.inet_ntoa(values[5])
+    if 4 in values:
+        route["dev"] = links.get(number(values, 4), ("", False))[0]
+    if number(values, 15, table) != MAIN:
+        route["table"] = str(number(values, 15, table))
+    if 6 in values:
+        route["metric"] = number(values, 6)
+    if 11 in values:
+        route["flow"] = {"to": str(number(values, 11) & 0xFFFF)}
+    route["scope"] = str(scope)
+    return route
 
 
 def rules() -> list[Said]:
     """What `ip -N -j -4 rule show` says, of it what is used."""
-    told = []
+    entries = []
     for message in dump(GET_RULE, struct.pack("=8BI", socket.AF_INET, 0, 0, 0, 0, 0, 0, 0, 0)):
-        found = attributes(message.body, 12)
-        said: Said = {"priority": number(found, 6), "table": str(number(found, 15, message.body[4]))}
-        if 10 in found:
-            said["fwmark"] = f"{number(found, 10):#x}"
-            said["fwmask"] = f"{number(found, 16, 0xFFFFFFFF):#x}"
-        told.append(said)
-    return told
+        values = attributes(message.body, 12)
+        rule: Said = {"priority": number(values, 6), "table": str(number(values, 15, message.body[4]))}
+        if 10 in values:
+            rule["fwmark"] = f"{number(values, 10):#x}"
+            rule["fwmask"] = f"{number(values, 16, 0xFFFFFFFF):#x}"
+        entries.append(rule)
+    return entries
 
 
 # what changes
@@ -232,14 +231,14 @@ class Watch:
 
 def waiting(source: socket.socket) -> tuple[list[bytes], bool]:
     """The datagrams that wait, no more than one can take at once, and whether some were lost."""
-    found, size, lost = [], 0, False
+    datagrams, size, lost = [], 0, False
     while size < AT_ONCE:
         try:
-            found.append(source.recv(1 << 16))
-            size += len(found[-1])
+            datagrams.append(source.recv(1 << 16))
+            size += len(datagrams[-1])
         except BlockingIOError:
             break
         except OSError:
             # (ENOBUFS: there was no room; what still waits can be read)
             lost, size = True, size + (1 << 12)
-    return found, lost
+    return datagrams, lost

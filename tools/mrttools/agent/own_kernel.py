@@ -35,7 +35,7 @@ class OwnKernel(Linux):
     def addresses(self) -> object:
         return netlink.addresses()
 
-    def daemon_routes(self, wanted: frozenset[str]) -> frozenset[str]:
+    def daemon_routes(self, prefixes: frozenset[str]) -> frozenset[str]:
         """The prefixes of those wanted to which the daemon has routes in the main table."""
-        found = netlink.routes(self.number, wanted)
-        return owners.routes_in([each for each in found if "table" not in each], "the kernel")
+        routes = netlink.routes(self.number, prefixes)
+        return owners.routes_in([route for route in routes if "table" not in route], "the kernel")

@@ -17,10 +17,10 @@ class Refused:
 
     def learn(self, fault: Refusal) -> bool:
         """Takes the next hop of the line at which a batch failed; whether there was one that was not known."""
-        found = FAILED.search(str(fault))
-        if not found or not 0 < int(found[1]) <= len(fault.lines):
+        line_number = FAILED.search(str(fault))
+        if not line_number or not 0 < int(line_number[1]) <= len(fault.lines):
             return False
-        line = fault.lines[int(found[1]) - 1]
+        line = fault.lines[int(line_number[1]) - 1]
         hop = HOP.search(f"{line} ")
         if not hop or hop[1] in self.hops or " replace " not in line:
             return False

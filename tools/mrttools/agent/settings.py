@@ -70,37 +70,37 @@ class Settings:
 
     def wanted(self, devices: Iterable[str]) -> dict[str, str]:
         """The values that there are to be."""
-        found = {"ip_forward": "1"}
+        values = {"ip_forward": "1"}
         area = {f"conf/{device}" for device in devices}
-        every = [os.path.relpath(each, self.root) for each in glob.glob(os.path.join(self.root, "conf", "*"))]
+        every = [os.path.relpath(folder, self.root) for folder in glob.glob(os.path.join(self.root, "conf", "*"))]
         for name, value in SHARED.items():
             # (what `all` was before counts for the others as long as it is changed)
             all_before = self.was(f"conf/all/{name}", value) or "0"
-            for each in every:
-                if each == "conf/all" or each in area:
-                    found[f"{each}/{name}"] = value
+            for folder in every:
+                if folder == "conf/all" or folder in area:
+                    values[f"{folder}/{name}"] = value
                     continue
-                own = self.was(f"{each}/{name}", value, all_before)
+                own = self.was(f"{folder}/{name}", value, all_before)
                 if own is not None and int(own) < int(all_before):
-                    found[f"{each}/{name}"] = all_before
-        return found | {f"{each}/{name}": value for each in area & set(every) for name, value in OWN.items()}
+                    values[f"{folder}/{name}"] = all_before
+        return values | {f"{folder}/{name}": value for folder in area & set(every) for name, value in OWN.items()}
 
     def apply(self, devices: Iterable[str]) -> list[str]:
         """Sets them, and puts back those of interfaces that are not of the area any more; what was changed."""
-        wanted, changed = self.wanted(devices), []
-        for name, value in wanted.items():
+        values, changed = self.wanted(devices), []
+        for name, value in values.items():
             now = self.read(name)
             if now is not None and now != value:
                 changed.append(name)
                 self.before.setdefault(name, now)
-        for name in [name for name in self.before if name not in wanted]:
+        for name in [name for name in self.before if name not in values]:
             changed.append(name)
         if changed:
             # (the values before stand in the file before they are gone)
             files.replace(self.kept, json.dumps(self.before | {"boot": boot()}).encode("ascii"), lasting=False)
         # (`all` comes last, and first where it comes back: no other interface is without its own meanwhile)
         for name in sorted(changed, key=is_all):
-            self.put(name, wanted[name] if name in wanted else self.before.pop(name))
+            self.put(name, values[name] if name in values else self.before.pop(name))
         return changed
 
     def put(self, name: str, value: str) -> None:

@@ -128,11 +128,11 @@ class HeardLsas:
         too, for packets that waited while an interface went down."""
         self.sort(look)
         self.own |= {(device, address.to_bytes(4, "big")) for address, device in own.items()}
-        senders = {(each.device, each.address.to_bytes(4, "big")): each.router for each in look.neighbors}
+        senders = {(one.device, one.address.to_bytes(4, "big")): one.router for one in look.neighbors}
         taken = 0
-        for each in waiting:
-            self.take_packet(each, look, senders)
-            taken += len(each.data)
+        for packet in waiting:
+            self.take_packet(packet, look, senders)
+            taken += len(packet.data)
             if taken >= AT_ONCE:
                 break
         there, lacks = [], []
@@ -147,32 +147,32 @@ class HeardLsas:
 
     # packets
 
-    def take_packet(self, each: PacketCopy, look: DaemonView, senders: dict[tuple[str, bytes], int]) -> None:
+    def take_packet(self, packet: PacketCopy, look: DaemonView, senders: dict[tuple[str, bytes], int]) -> None:
         """Takes the LSAs of a packet that the daemon takes too."""
         if self.fragments.count >= PARTS:
             self.fragments = Fragments()
         # What came before the filter may be anything.
-        if not capture.is_protocol(each.data, updates.PROTOCOL) or each.data[8] not in HOPS:
+        if not capture.is_protocol(packet.data, updates.PROTOCOL) or packet.data[8] not in HOPS:
             return
         try:
-            part = capture.datagram_of(each.data)
-            sender = self.sender(each, part, senders)
+            part = capture.datagram_of(packet.data)
+            sender = self.sender(packet, part, senders)
             payload = None if sender is None else self.fragments.put(part)
-            packet = payload and updates.packet_of(payload)
-            if packet and (packet.kind, packet.area, packet.router) == (updates.UPDATE, self.area, sender):
-                for lsa in updates.records_of(packet):
-                    if not each.out or lsa.router == self.router:
+            update = payload and updates.packet_of(payload)
+            if update and (update.kind, update.area, update.router) == (updates.UPDATE, self.area, sender):
+                for lsa in updates.records_of(update):
+                    if not packet.out or lsa.router == self.router:
                         self.hear(lsa, look)
         except (BadDatagram, BadPacket):
             pass
 
-    def sender(self, each: PacketCopy, part: Datagram, senders: dict[tuple[str, bytes], int]) -> int | None:
+    def sender(self, packet: PacketCopy, part: Datagram, senders: dict[tuple[str, bytes], int]) -> int | None:
         """The router that has sent a packet, where that is a neighbor or the router itself. What only goes through the
         router may be from anywhere, and so may be what goes out to one address, whoever it says that has sent it."""
-        if each.out:
-            return self.router if part.target in TO_ALL and (each.device, part.source) in self.own else None
-        if part.target in TO_ALL or (each.device, part.target) in self.own:
-            return senders.get((each.device, part.source))
+        if packet.out:
+            return self.router if part.target in TO_ALL and (packet.device, part.source) in self.own else None
+        if part.target in TO_ALL or (packet.device, part.target) in self.own:
+            return senders.get((packet.device, part.source))
         return None
 
     # LSAs
@@ -188,7 +188,7 @@ class HeardLsas:
         if not look.has(lsa) and (lsa.sequence, lsa.checksum) <= (signed(sequence), checksum):
             return False
         texts = self.listed.get(lsa.key, []) if look.has(lsa) else self.others.get((lsa.key, instance_of(lsa)), [])
-        return len(texts) < 2 and all(lsa.text != each.text for each in texts)
+        return len(texts) < 2 and all(lsa.text != other.text for other in texts)
 
     def place(self, lsa: Lsa, look: DaemonView) -> None:
         """Puts a wanted LSA among those that are listed, or the others, of which those that came first go where there is
@@ -200,7 +200,7 @@ class HeardLsas:
         self.size += len(lsa.record)
         while len(self.others) > COUNT or self.size > ROOM:
             gone = self.others.pop(next(iter(self.others)))
-            self.size -= sum(len(each.record) for each in gone)
+            self.size -= sum(len(record.record) for record in gone)
 
     def sort(self, look: DaemonView) -> None:
         """Puts what was heard where it belongs by what the daemon lists now."""

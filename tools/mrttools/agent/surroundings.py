@@ -24,7 +24,7 @@ class Router(batch.Kernel, Protocol):
     def addresses(self) -> object:
         """What `ip -j -4 address show up` says."""
 
-    def daemon_routes(self, wanted: frozenset[str]) -> frozenset[str]:
+    def daemon_routes(self, prefixes: frozenset[str]) -> frozenset[str]:
         """The prefixes of those wanted to which the daemon has routes in the main table."""
 
     def news(self) -> News:

@@ -79,20 +79,20 @@ class Proxied:
 
     def met_on(self, color: int) -> dict[bytes, bytes]:
         """The nodes from which a packet of the router goes on on a color, each with the one that it goes to."""
-        found: dict[bytes, bytes] = {}
+        next_of: dict[bytes, bytes] = {}
         at = self.ways.router.text.encode()
-        while at not in found and (word := self.word(at, color)) != ATTACHED:
-            found[at] = word.split(b"/")[0]
-            at = found[at]
-        return found
+        while at not in next_of and (word := self.word(at, color)) != ATTACHED:
+            next_of[at] = word.split(b"/")[0]
+            at = next_of[at]
+        return next_of
 
     def meets(self, color: int, element: Element) -> bool:
         """Whether the packet goes over a link or to a node."""
-        found = self.met[color]
+        next_of = self.met[color]
         if isinstance(element, Node):
-            return element.text.encode() in found.values()
+            return element.text.encode() in next_of.values()
         for node, far in ((element.a, element.b), (element.b, element.a)):
-            if found.get(node.text.encode()) == far.text.encode():
+            if next_of.get(node.text.encode()) == far.text.encode():
                 step = self.step(node, color)
                 if step is not None and self.bond(node, step) == element:
                     return True
@@ -148,21 +148,22 @@ class Prefixes:
 
     def entries(self) -> list[Entry]:
         """What is installed, prefix by prefix."""
-        wanted = {prefix: owners for prefix, owners in sorted(self.owners.items()) if self.is_wanted(prefix, owners)}
-        pairs = {prefix: pair for prefix, owners in wanted.items() if (pair := self.pair_of(owners))}
+        every = sorted(self.owners.items())
+        owners_of_prefix = {prefix: owners for prefix, owners in every if self.is_wanted(prefix, owners)}
+        pairs = {prefix: pair for prefix, owners in owners_of_prefix.items() if (pair := self.pair_of(owners))}
         proxied = self.proxied(sorted(set(pairs.values())))
-        found = []
-        for prefix, owners in wanted.items():
+        entries = []
+        for prefix, owners in owners_of_prefix.items():
             try:
                 if prefix in pairs and pairs[prefix] not in proxied:
                     raise LeftOut("mrt proxy took too long")
-                entry, said = self.entry(prefix, owners, proxied[pairs[prefix]] if prefix in pairs else None)
+                entry, how = self.entry(prefix, owners, proxied[pairs[prefix]] if prefix in pairs else None)
                 entry.look_at(self.daemon.interfaces)
-                found.append(entry)
-                self.told[prefix.text] = said
+                entries.append(entry)
+                self.told[prefix.text] = how
             except (LeftOut, Unfit) as why:
                 self.left[prefix.text] = str(why)
-        return found
+        return entries
 
     def is_wanted(self, prefix: Prefix, owners: Owners) -> bool:
         """Whether a prefix is one of those that are asked for, and may have something. What may not is told."""
@@ -219,8 +220,8 @@ class Prefixes:
         if nearest == owner:
             return entry_of(prefix.text, route), f"by {owner.text}"
         near = self.route(nearest)
-        told = f"by {owner.text} on colors, without a repair, as {nearest.text} is nearer"
-        return Entry(prefix.text, near and near.primary, None, [], list(route.rows), (owner.text,)), told
+        how = f"by {owner.text} on colors, without a repair, as {nearest.text} is nearer"
+        return Entry(prefix.text, near and near.primary, None, [], list(route.rows), (owner.text,)), how
 
     def of_two(self, prefix: Prefix, nearest: Node, proxied: Proxied) -> Entry:
         """By the rows for a prefix of two routers. Where the router itself has it, a repair is for its own port to
@@ -241,7 +242,7 @@ class Prefixes:
         """The links and nodes of the primary's hop to a router: the link, its far node and, after a LAN, both
         again."""
         line, ways = self.lines[to], self.ways
-        found: list[Element] = [ways.by_data[ways.router, line.primary_far, line.primary_data], line.primary_far]
+        elements: list[Element] = [ways.by_data[ways.router, line.primary_far, line.primary_data], line.primary_far]
         if to in ways.after:
-            found += [ways.bond_to(line.primary_far, ways.after[to]), ways.after[to]]
-        return found
+            elements += [ways.bond_to(line.primary_far, ways.after[to]), ways.after[to]]
+        return elements

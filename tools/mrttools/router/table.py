@@ -47,21 +47,27 @@ def generation_of(certificate: bytes, dscp: tuple[int, ...]) -> int:
     return int(digest_of(certificate), 16) % (len(dscp) // 2)
 
 
-def interfaces_of(said: object, source: str) -> Interfaces:
+def interfaces_of(answer: object, source: str) -> Interfaces:
     """The names of the interfaces, by what `ip -j -4 address` said."""
     try:
-        if not isinstance(said, list):
+        if not isinstance(answer, list):
             raise TypeError
         # (of an interface that is left out, as it is down, nothing is said but that there is one)
-        found = [(each["ifname"], one) for each in said if each for one in each["addr_info"] if "local" in one]
-        names = {lsas.address(one["local"]): str(device) for device, one in found}
+        addresses = [
+            (interface["ifname"], address)
+            for interface in answer
+            if interface
+            for address in interface["addr_info"]
+            if "local" in address
+        ]
+        names = {lsas.address(address["local"]): str(device) for device, address in addresses}
         networks = {
             # (of a link of two with no network of its own, the far end)
-            lsas.address(one["local"]): IPv4Network(
-                f"{one.get('address', one['local'])}/{one['prefixlen']}", strict=False
+            lsas.address(address["local"]): IPv4Network(
+                f"{address.get('address', address['local'])}/{address['prefixlen']}", strict=False
             )
-            for _, one in found
-            if "prefixlen" in one
+            for _, address in addresses
+            if "prefixlen" in address
         }
     except (ValueError, KeyError, TypeError, AttributeError) as fault:
         raise ToolFault(f"{source}: it is not what `ip -j -4 address` says", READ_FAULT) from fault
@@ -76,18 +82,18 @@ def lines_of(ways: Ways, whole: Prefixes, entries: list[Entry]) -> list[str]:
         lines.append("what the daemon has routes to is not known: --routes FILE of `ip -j -4 route`")
     lines += [f"left out: the interface name {name!r}" for name in whole.daemon.interfaces.odd]
     if whole.every:
-        lines += [f"{prefix}: {said}" for prefix, said in whole.told.items()]
+        lines += [f"{prefix}: {how}" for prefix, how in whole.told.items()]
     return lines + [f"{prefix}: left out, {why}" for prefix, why in whole.left.items()]
 
 
-def table_of(ways: Ways, daemon: Daemon, wanted: TableOptions) -> Table:
-    whole = Prefixes(ways, daemon, wanted.prefixes)
+def table_of(ways: Ways, daemon: Daemon, options: TableOptions) -> Table:
+    whole = Prefixes(ways, daemon, options.prefixes)
     entries = whole.entries()
-    told = lines_of(ways, whole, entries)
-    if not wanted.repairs:
+    lines = lines_of(ways, whole, entries)
+    if not options.repairs:
         entries = [entry._replace(repairs=[], rows=[]) for entry in entries]
-    generation = generation_of(ways.certified, wanted.dscp)
+    generation = generation_of(ways.certified, options.dscp)
     interfaces = daemon.interfaces
-    routes = [r for entry in entries for r in kernel.routes_of(entry, interfaces, wanted.daemon, generation)]
-    nft = kernel.marking(wanted.dscp, interfaces.of(ways.own_addresses()))
-    return Table(generation, entries, routes + kernel.last_routes(), nft, told, whole.left)
+    routes = [r for entry in entries for r in kernel.routes_of(entry, interfaces, options.daemon, generation)]
+    nft = kernel.marking(options.dscp, interfaces.of(ways.own_addresses()))
+    return Table(generation, entries, routes + kernel.last_routes(), nft, lines, whole.left)
