@@ -17,7 +17,7 @@ from unittest import mock
 from mrttools import files, signals
 from mrttools.agent import batch, commands, exposure, file_watch, lock, loop, status
 from mrttools.agent.settings import Settings
-from mrttools.exits import ToolFault
+from mrttools.exits import REFUSED, ToolFault
 from mrttools.router import table
 from tests.making import MRT, TOOLS
 from tests.spaces import lacks
@@ -233,14 +233,25 @@ class Limits(unittest.TestCase):
                 stdout=log,
                 stderr=log,
             ) as agent:
-                self.assertEqual(told.recv(99), b"READY=1")
-                self.assertEqual([told.recv(99) for _ in range(20)], [b"WATCHDOG=1"] * 20)
-                agent.terminate()
-                while (said := told.recv(99)) == b"WATCHDOG=1":
-                    pass
-                self.assertEqual(said, b"STOPPING=1")
-                # (a table that goes takes its time, and that is told as well)
-                self.assertEqual((told.recv(99), agent.wait(60)), (b"WATCHDOG=1", 143))
+                try:
+                    self.assertEqual(told.recv(99), b"READY=1")
+                    self.assertEqual([told.recv(99) for _ in range(20)], [b"WATCHDOG=1"] * 20)
+                    self.refuses(agent.pid, os.path.join(folder, "files"), "another agent has its files here")
+                    self.refuses(agent.pid, os.path.join(folder, "others"), "another agent keeps the routes")
+                    agent.terminate()
+                    while (said := told.recv(99)) == b"WATCHDOG=1":
+                        pass
+                    self.assertEqual(said, b"STOPPING=1")
+                    # (a table that goes takes its time, and that is told as well)
+                    self.assertEqual((told.recv(99), agent.wait(60)), (b"WATCHDOG=1", 143))
+                finally:
+                    agent.kill()
+
+    def refuses(self, agent: int, folder: str, why: str) -> None:
+        """A second agent in the network namespace of the first one does not start."""
+        words = ["nsenter", "--net", "--target", str(agent), f"{TOOLS}/agent", "--mrt", MRT, "bird", "-", "10.255.0.2"]
+        done = subprocess.run([*words, folder], capture_output=True, text=True, timeout=60, check=False)
+        self.assertEqual((done.returncode, why in done.stderr), (REFUSED, True), done.stderr)
 
     def test_the_unit(self) -> None:
         """Its watchdog is more patient than all that the agent waits for in one step."""
