@@ -76,7 +76,7 @@ filter_through_by p q x xs true false is is' through rest = let never = through 
 filter_through_by p q x xs false true is is' through rest = rw is rest
 filter_through_by p q x xs false false is is' through rest = rest
 
-filter_through : {X : Type 0} (p q : X → Bool) → ((x : X) → p x ≡ true → q x ≡ true) → (xs : List X) → filter p xs ≡ filter p (filter q xs)
+pub filter_through : {X : Type 0} (p q : X → Bool) → ((x : X) → p x ≡ true → q x ≡ true) → (xs : List X) → filter p xs ≡ filter p (filter q xs)
 filter_through p q through [] = refl
 filter_through p q through (x ∷ xs) = filter_through_by p q x xs (p x) (q x) refl refl (through x) (filter_through p q through xs)
 

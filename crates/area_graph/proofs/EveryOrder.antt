@@ -1,17 +1,18 @@
--- Newest records that are the same instances have one area; so the area of settled records is the same in every order of the records.
-use Rattle.std.proofs.Common.{◌≡◌, ◌∙◌, ◌≤◌, ◌&&◌, false, List, [], ◌∷◌, Some, map, inl, inr, refl, sym, ap, subst, arith}
+-- Newest records of which the live ones are the same have one area; so the area of settled records is the same in every order of the records.
+use Rattle.std.proofs.Common.{◌≡◌, ◌∙◌, ◌≤◌, ◌&&◌, true, false, List, [], ◌∷◌, Some, map, inl, inr, refl, sym, ap, subst, arith}
 use Rattle.std.specs.List.{AllByRecursion}
-use Rattle.std.proofs.lemmas.Bool.{cases_Bool}
+use Rattle.std.proofs.lemmas.Bool.{cases_Bool, not-true, not_from_false}
 use Rattle.std.proofs.lemmas.Option.{same_Some}
-use Rattle.mrt_graph.proofs.Members.{Has, all_filter_map, all_has, contains_from_has, has_filter, has_from_contains, has_map, is_from, none_pass}
-use Rattle.mrt_graph.proofs.Tallies.{one_if, tally, tally_map, tally_none}
+use Rattle.mrt_graph.proofs.Members.{Has, all_filter_map, all_has, contains_from_has, filter_has, has_filter, has_from_contains, has_map, is_from, none_pass}
+use Rattle.mrt_graph.proofs.Tallies.{one_if, tally, tally_filtered, tally_map, tally_none}
+use Rattle.ospf_lsa.specs.MaxAge.{is_at_max_age}
 use Rattle.ospf_lsa.specs.declared.lsa.Lsa.{Lsa}
 use Rattle.lsdb.specs.declared.key.Key.{Key}
 use Rattle.lsdb.specs.Entries.{Entry, entry_of, entries_in}
 use Rattle.lsdb.specs.Installing.{IsKept}
 use Rattle.lsdb.specs.Instances.{HoldTheSameInstances}
 use Rattle.lsdb.specs.Keys.{key_of, same_key, is_of, keys_in}
-use Rattle.lsdb.specs.Newest.{is_newest, newest_of, IsSettled}
+use Rattle.lsdb.specs.Newest.{is_newest, newest_of, same_but_age, IsSettled}
 use Rattle.lsdb.specs.Orders.{newest_in, timeless, AreReordered, HoldTheSame}
 use Rattle.lsdb.proofs.Agreements.{reordered_same}
 use Rattle.lsdb.proofs.Arrivals.{AreDistinct, keys_distinct}
@@ -20,7 +21,10 @@ use Rattle.lsdb.proofs.Stores.{key_is}
 use Rattle.lsdb.proofs.SameInstances.{settled_instances}
 use Rattle.lsdb.proofs.Timeless.{timeless_is}
 use Rattle.area_graph.specs.AreaOf.{area_of}
-use Rattle.area_graph.proofs.Speaking.{Alike, SayAll, alike, same_area}
+use Rattle.area_graph.specs.LiveLsas.{HoldTheSameLive}
+use Rattle.area_graph.specs.Nodes.{live}
+use Rattle.area_graph.proofs.ByNumber.{filter_through}
+use Rattle.area_graph.proofs.Speaking.{Alike, AreNewest, SayAll, alike, area_by, is_live, same_area, speakers_among}
 
 -- a newest instance of a key is one of the records
 chosen_by : (lsas : List Lsa) (key : Key) (entry : Entry) (instances : List Lsa) → newest_of lsas key ≡ instances → entry_of instances ≡ Some entry → Has lsas entry.lsa
@@ -65,15 +69,29 @@ kept_like x y same kept =
     let there : IsKept (timeless y) = subst IsKept same moved in
     record { type = there.type; body = there.body; own_id = there.own_id; metrics = there.metrics }
 
--- newest records that say the same have the same area
-area_by_saying : (lsas others : List Lsa) → AllByRecursion IsKept lsas → SayAll (newest_in lsas) (newest_in others) → SayAll (newest_in others) (newest_in lsas)
-    → area_of (newest_in lsas) ≡ area_of (newest_in others)
+-- the live ones of newest records are newest ones
+live_newest : (lsas : List Lsa) → ((lsa : Lsa) → Has (live (newest_in lsas)) lsa → IsKept lsa) → AreNewest (live (newest_in lsas))
+live_newest lsas kept = record {
+  kept = kept;
+  once = λ key. omega (arith, chosen_once lsas key, tally_filtered (is_of key) is_live (newest_in lsas));
+}
+
+-- the area is that of the live ones
+live_area : (lsas : List Lsa) → area_of (live lsas) ≡ area_of lsas
+live_area lsas = ap (λ (ls : List Lsa). area_by (speakers_among ls)) (sym (filter_through is_live is_live (λ lsa passes. passes) lsas))
+
+-- newest records whose live ones say the same have the same area
+area_by_saying : (lsas others : List Lsa) → AllByRecursion IsKept lsas → SayAll (live (newest_in lsas)) (live (newest_in others))
+    → SayAll (live (newest_in others)) (live (newest_in lsas)) → area_of (newest_in lsas) ≡ area_of (newest_in others)
 area_by_saying lsas others kept there back =
-    let kept_one : (lsa : Lsa) → Has (newest_in lsas) lsa → IsKept lsa = λ lsa has. all_has IsKept lsas lsa kept (chosen lsas lsa has) in
-    let kept_other : (lsa : Lsa) → Has (newest_in others) lsa → IsKept lsa = λ lsa has.
-    let origin = alike (newest_in others) (newest_in lsas) lsa back has in
+    let kept_one : (lsa : Lsa) → Has (live (newest_in lsas)) lsa → IsKept lsa = λ lsa has.
+    all_has IsKept lsas lsa kept (chosen lsas lsa (has_filter is_live (newest_in lsas) lsa has).0) in
+    let kept_other : (lsa : Lsa) → Has (live (newest_in others)) lsa → IsKept lsa = λ lsa has.
+    let origin = alike (live (newest_in others)) (live (newest_in lsas)) lsa back has in
     kept_like origin.other lsa origin.same (kept_one origin.other origin.there) in
-    same_area (newest_in lsas) (newest_in others) (record { kept = kept_one; once = chosen_once lsas }) (record { kept = kept_other; once = chosen_once others }) there back
+    sym (live_area (newest_in lsas))
+    ∙ same_area (live (newest_in lsas)) (live (newest_in others)) (live_newest lsas kept_one) (live_newest others kept_other) there back
+    ∙ live_area (newest_in others)
 
 -- where each LSA of a list has its like in another, the other says all that the list says
 say_alike : (one other : List Lsa) → ((lsa : Lsa) → Has one lsa → Alike other lsa) → SayAll one other
@@ -82,20 +100,54 @@ say_alike one other each = λ said has.
     let like = each from.origin from.there in
     subst (Has (map timeless other)) (like.same ∙ from.is) (has_map timeless other like.other like.there)
 
--- newest records that are the same instances have the same area
-pub same_instances : (lsas others : List Lsa) → AllByRecursion IsKept lsas → HoldTheSameInstances (newest_in lsas) (newest_in others) → area_of (newest_in lsas) ≡ area_of (newest_in others)
-same_instances lsas others kept hold =
+-- live LSAs that differ in nothing but place and age say the same
+live_alike : (lsas others : List Lsa) (lsa other : Lsa) → Has (live lsas) lsa → Has (live others) other → same_but_age lsa other ≡ true
+    → timeless lsa ≡ timeless other
+live_alike lsas others lsa other has too same =
+    timeless_is lsa other same
+    (not-true (is_at_max_age lsa) (has_filter is_live lsas lsa has).1 ∙ sym (not-true (is_at_max_age other) (has_filter is_live others other too).1))
+
+-- newest records of which the live ones are the same but for place and age have the same area
+pub same_live : (lsas others : List Lsa) → AllByRecursion IsKept lsas → HoldTheSameLive (newest_in lsas) (newest_in others)
+    → area_of (newest_in lsas) ≡ area_of (newest_in others)
+same_live lsas others kept hold =
     area_by_saying lsas others kept
-    (say_alike (newest_in lsas) (newest_in others) (λ lsa has.
-    let like = hold.there lsa (contains_from_has (newest_in lsas) lsa has) in
-    record { other = like.0; there = has_from_contains (newest_in others) like.0 like.1; same = sym (timeless_is lsa like.0 like.2.alike like.2.max_age) }))
-    (say_alike (newest_in others) (newest_in lsas) (λ lsa has.
-    let like = hold.back lsa (contains_from_has (newest_in others) lsa has) in
-    record { other = like.0; there = has_from_contains (newest_in lsas) like.0 like.1; same = timeless_is like.0 lsa like.2.alike like.2.max_age }))
+    (say_alike (live (newest_in lsas)) (live (newest_in others)) (λ lsa has.
+    let like = hold.there lsa (contains_from_has (live (newest_in lsas)) lsa has) in
+    let there = has_from_contains (live (newest_in others)) like.0 like.1 in
+    record { other = like.0; there = there; same = sym (live_alike (newest_in lsas) (newest_in others) lsa like.0 has there like.2) }))
+    (say_alike (live (newest_in others)) (live (newest_in lsas)) (λ lsa has.
+    let like = hold.back lsa (contains_from_has (live (newest_in others)) lsa has) in
+    let there = has_from_contains (live (newest_in lsas)) like.0 like.1 in
+    record { other = like.0; there = there; same = live_alike (newest_in lsas) (newest_in others) like.0 lsa there has like.2 }))
+
+-- lists that hold the same instances hold the same live ones
+pub live_instances : (lsas others : List Lsa) → HoldTheSameInstances lsas others → HoldTheSameLive lsas others
+live_instances lsas others hold = record {
+  there = λ lsa has.
+      let kept = has_filter is_live lsas lsa (has_from_contains (live lsas) lsa has) in
+      let like = hold.there lsa (contains_from_has lsas lsa kept.0) in
+      let alive : is_at_max_age like.0 ≡ false = sym like.2.max_age ∙ not-true (is_at_max_age lsa) kept.1 in (
+        like.0,
+        contains_from_has (live others) like.0
+            (filter_has is_live others like.0 (has_from_contains others like.0 like.1) (not_from_false (is_at_max_age like.0) alive)),
+        like.2.alike,
+      );
+  back = λ lsa has.
+      let kept = has_filter is_live others lsa (has_from_contains (live others) lsa has) in
+      let like = hold.back lsa (contains_from_has others lsa kept.0) in
+      let alive : is_at_max_age like.0 ≡ false = like.2.max_age ∙ not-true (is_at_max_age lsa) kept.1 in (
+        like.0,
+        contains_from_has (live lsas) like.0
+            (filter_has is_live lsas like.0 (has_from_contains lsas like.0 like.1) (not_from_false (is_at_max_age like.0) alive)),
+        like.2.alike,
+      );
+}
 
 -- and so settled records that hold the same LSAs
 pub same_records : (lsas others : List Lsa) → AllByRecursion IsKept lsas → IsSettled lsas → HoldTheSame lsas others → area_of (newest_in lsas) ≡ area_of (newest_in others)
-same_records lsas others kept settled same = same_instances lsas others kept (settled_instances lsas others same settled)
+same_records lsas others kept settled same =
+    same_live lsas others kept (live_instances (newest_in lsas) (newest_in others) (settled_instances lsas others same settled))
 
 pub same_in_every_order : (lsas others : List Lsa) → AllByRecursion IsKept lsas → IsSettled lsas → AreReordered lsas others → area_of (newest_in lsas) ≡ area_of (newest_in others)
 same_in_every_order lsas others kept settled reordered = same_records lsas others kept settled (reordered_same lsas others reordered)

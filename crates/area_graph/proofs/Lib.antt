@@ -24,3 +24,4 @@ pub mod Paired
 pub mod ByNumber
 pub mod ListedByNumber
 pub mod Built
+pub mod IdsFit

@@ -11,6 +11,7 @@ use Rattle.std.proofs.lemmas.Cmp.{on_total}
 use Rattle.mrt_graph.specs.NodeOrder.{node_id_cmp}
 use Rattle.mrt_graph.specs.declared.node_id.NodeId.{NodeId}
 use Rattle.mrt_graph.specs.SameGraph.{same_id}
+use Rattle.mrt_graph.specs.InOrder.{in_order}
 use Rattle.mrt_graph.proofs.InOrder.{Contains-in_order, Rises, before_ranks, in_order_rises, is_before, not_before_itself}
 use Rattle.mrt_graph.proofs.Members.{Has, all_from_has, all_has, all_map, contains_from_has, filter_has, has_filter, has_from_contains, has_map, is_from, none_pass, pass_none}
 use Rattle.mrt_graph.proofs.Tallies.{one_if, tally, tally_filtered, tally_some}
@@ -59,7 +60,7 @@ by_node = on node_of node_id_cmp
 nodes_total : IsTotalOrder by_node
 nodes_total = on_total node_of node_id_total
 
-abbrev is_live : Lsa → Bool
+abbrev pub is_live : Lsa → Bool
 is_live lsa = not (is_at_max_age lsa)
 
 abbrev among : List Lsa → List Lsa
@@ -203,8 +204,12 @@ same_speakers one other newest newest' there back =
     one_climb by_node nodes_total (map timeless (speakers one)) (map timeless (speakers other)) (climbs_timeless (speakers one) (speakers_climb one newest))
     (climbs_timeless (speakers other) (speakers_climb other newest')) (speakers_say one other there back) (speakers_say other one back there)
 
+-- those that speak among live ones
+abbrev pub speakers_among : List Lsa → List Lsa
+speakers_among lsas = in_order by_node (filter (speaks lsas) lsas)
+
 -- the area of LSAs that speak
-abbrev area_by : List Lsa → AreaParts
+abbrev pub area_by : List Lsa → AreaParts
 area_by speaking = area_with (map node_of speaking) (arcs_among (entries_in speaking))
 
 nodes_timeless : (xs : List Lsa) → map node_of (map timeless xs) ≡ map node_of xs

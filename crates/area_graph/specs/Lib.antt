@@ -1,4 +1,5 @@
 pub mod Nodes
+pub mod LiveLsas
 pub mod Speaking
 pub mod Entries
 pub mod NumberedEntries

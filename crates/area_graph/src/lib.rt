@@ -20,8 +20,10 @@ mod starts;
 
 pub use area::Area;
 pub use area_error::AreaError;
-pub use area_law::{bonds_of_the_newest_records_fit, the_newest_records_give_an_area};
+pub use area_law::{
+    bonds_of_the_newest_records_fit, ids_of_the_newest_records_fit, the_newest_records_give_an_area,
+};
 pub use area_types::{Arc, Bond};
 pub use build::build_area;
-pub use laws::{the_same_instances_give_the_same_area, the_same_records_give_the_same_area};
+pub use laws::{the_same_live_lsas_give_the_same_area, the_same_records_give_the_same_area};
 pub use numbers::{ArcNo, BondNo, Spot};

@@ -1,5 +1,6 @@
 mod Nears
 mod OneFile
 mod Whole
+mod Fitting
 mod OneGraph
 mod StillStream

@@ -1,11 +1,13 @@
--- Each event has an answer.
-use Rattle.std.proofs.Common.{◌≡◌, ◌≢◌, ◌⊎◌, ◌<◌, ◌∙◌, ℕ, List, Option, Some, None, length, slice_get, inl, inr, refl, sym}
-use Rattle.fabric.specs.Answers.{Answered, HasEnded, IsAnswer, IsStepAnswer, NoPacket}
+-- Each event has an answer, which can be told.
+use Rattle.std.proofs.Common.{◌≡◌, ◌≢◌, ◌⊎◌, ◌<◌, ◌∙◌, ℕ, Bool, true, false, List, Option, Some, None, length, slice_get, inl, inr, refl, sym, subst}
+use Rattle.std.specs.Prelude.{nat_lt}
+use Rattle.fabric.specs.Answers.{Answered, HasEnded, IsAnswer, IsStepAnswer, NoPacket, fail_answer, inject_answer}
 use Rattle.fabric.specs.Course.{steps_of}
 use Rattle.fabric.specs.FabricParts.{ArePartsKept, AreRowsFor, FabricParts}
 use Rattle.fabric.specs.FabricState.{Answer, FabricState, start}
 use Rattle.fabric.specs.Handling.{IsHandled, IsHopOrNone}
 use Rattle.fabric.specs.KeptState.{IsKeptPacket}
+use Rattle.fabric.specs.OutcomeText.{IsTellable}
 use Rattle.fabric.specs.PacketHop.{over_arc}
 use Rattle.fabric.specs.Runs.{IsRun}
 use Rattle.fabric.specs.Served.{AreRowsOn}
@@ -21,7 +23,7 @@ use Rattle.fabric.specs.declared.packet.State.{State}
 use Rattle.fabric.specs.declared.packet.State.TheVariants as states
 use Rattle.fabric.proofs.EnterOrNot.{element_is, may_is}
 use Rattle.fabric.proofs.OneHop.{one_over, two_over}
-use Rattle.fabric.proofs.PacketChains.{left_now}
+use Rattle.fabric.proofs.PacketChains.{left_now, outcome_tellable}
 use Rattle.fabric.proofs.RunLives.{IsAt, Living, Unmade, run_lives}
 use Rattle.fabric.proofs.SomeHop.{some_color_hop, some_repair}
 use Rattle.primary_alt.specs.Primaries.{Direct, IsPrimary, Itself, NoWalk, Over}
@@ -81,3 +83,34 @@ some_answer parts are entries primaries room events answers end on run (Step p) 
     go : IsAt parts p end (steps_of p events answers) → (answer : Answer) × IsStepAnswer parts end.failure (slice_get end.packets p) answer
     go (Unmade none count) = rw none (_, NoPacket)
     go (Living q is has_rows lives) = rw is (answer_of q has_rows lives.kept)
+
+-- the node in an answer, if there is one, is a node of the area
+pub answer_told : (parts : FabricParts) → ArePartsKept parts → (room : ℕ) (events : List Event) (answers : List Answer) (end : FabricState)
+    → AreRowsOn parts events → IsRun parts (start room) events answers end
+    → (event : Event) (answer : Answer) → IsAnswer parts end event answer → IsTellable parts.area.ids answer
+answer_told parts are room events answers end on run (Inject at to entry) answer is =
+    subst (IsTellable parts.area.ids) (sym is.is) (entered is.may (nat_lt (length end.packets) end.room) (length end.packets))
+  where
+    entered : (may has_room : Bool) (number : ℕ) → IsTellable parts.area.ids (inject_answer may has_room number)
+    entered false has_room number = tt
+    entered true false number = tt
+    entered true true number = tt
+answer_told parts are room events answers end on run (Fail failed) answer is = subst (IsTellable parts.area.ids) (sym is.is) (failing is.has end.failure)
+  where
+    failing : (has : Bool) (failure : Option Failure) → IsTellable parts.area.ids (fail_answer has failure)
+    failing false failure = tt
+    failing true (Some before) = tt
+    failing true None = tt
+answer_told parts are room events answers end on run (Step p) answer is = go (run_lives parts are room events answers end on run p)
+  where
+    of : (q : Packet) → AreRowsFor parts q.to → IsKeptPacket parts q → (a : Answer) → IsStepAnswer parts end.failure (Some q) a
+        → IsTellable parts.area.ids a
+    of q rows kept a (HasEnded _ ended) = tt
+    of q rows kept a (Answered _ outcome going handled) = outcome_tellable parts are end.failure q rows kept going outcome handled
+
+    none_of : (a : Answer) → IsStepAnswer parts end.failure None a → IsTellable parts.area.ids a
+    none_of a NoPacket = tt
+
+    go : IsAt parts p end (steps_of p events answers) → IsTellable parts.area.ids answer
+    go (Unmade none count) = none_of answer (rw none at is)
+    go (Living q there has_rows lives) = of q has_rows lives.kept answer (rw there at is)

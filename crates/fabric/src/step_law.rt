@@ -2,7 +2,7 @@
 
 ghost use Rattle.std.specs.Prelude.{◌≡◌, ◌≢◌, ℕ, Err, List, Some, slice_get};
 ghost use Rattle.fabric.specs.{Answers.IsAnswer, FabricParts.ArePartsKept, FabricParts.FabricParts, Runs.FabricStep, Runs.IsRun};
-ghost use Rattle.fabric.specs.{Served.AreRowsOn, declared.event.Event.Event, declared.event.Failure.Failure, declared.event.Refused.Refused};
+ghost use Rattle.fabric.specs.{OutcomeText.IsTellable, Served.AreRowsOn, declared.event.Event.Event, declared.event.Failure.Failure, declared.event.Refused.Refused};
 ghost use Rattle.fabric.specs.declared.packet.Packet.{Packet};
 ghost use Rattle.fabric_script.specs.declared.entry.Entry.{Entry};
 ghost use Rattle.fabric.specs.FabricState.{Answer, FabricState, start};
@@ -10,13 +10,18 @@ ghost use Rattle.fabric.specs.declared.event.Event.TheVariants as events;
 
 use primary_alt::each_router_has_its_primaries;
 
-/// Laws: in each state that a run from the start leads to, each event has an answer, and only one; so a run has one list
-/// of answers, and leads to one state.
+/// Laws: in each state that a run from the start leads to, each event has an answer, and only one, and its node, if there
+/// is one, is of the area; so a run has one list of answers, and leads to one state.
 pub fn one_answer_each()
     ensures some { (parts : FabricParts) → ArePartsKept parts
         → (room : ℕ) (events : List Event) (answers : List Answer) (end : FabricState)
         → AreRowsOn parts events → IsRun parts (start room) events answers end
         → (event : Event) → (answer : Answer) × IsAnswer parts end event answer }
+    ensures told { (parts : FabricParts) → ArePartsKept parts
+        → (room : ℕ) (events : List Event) (answers : List Answer) (end : FabricState)
+        → AreRowsOn parts events → IsRun parts (start room) events answers end
+        → (event : Event) (answer : Answer) → IsAnswer parts end event answer
+        → IsTellable parts.area.ids answer }
     ensures only_one { (parts : FabricParts) → ArePartsKept parts
         → (state : FabricState) (event : Event) (answer other : Answer)
         → IsAnswer parts state event answer → IsAnswer parts state event other → answer ≡ other }

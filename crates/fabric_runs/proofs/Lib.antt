@@ -6,5 +6,6 @@ pub mod OneText
 pub mod Placed
 pub mod RunsOn
 pub mod ServedEvents
+pub mod SomeText
 pub mod StepsTold
 pub mod TraceTold

@@ -12,6 +12,7 @@ pub mod Bringing
 pub mod Converging
 pub mod RunsAsLists
 pub mod MayBeFlooded
+pub mod DeliveredFit
 pub mod Stored
 pub mod SameLsas
 pub mod Copies

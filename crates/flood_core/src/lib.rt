@@ -34,4 +34,4 @@ pub use run_law::{
 };
 pub use shared_lsdb::SharedLsdb;
 pub use update::Update;
-pub use update_law::bytes_are_updates_or_have_a_fault;
+pub use update_law::{bytes_are_updates_or_have_a_fault, what_is_read_may_be_flooded};

@@ -1,8 +1,8 @@
 //! Laws over runs of deliveries. They hold of the definitions alone; the functions do nothing.
 
-ghost use Rattle.std.specs.Prelude.{◌≡◌, ◌<◌, ◌↔◌, ℕ, List, [], None, Some, Contains, IsPermutation, map};
+ghost use Rattle.std.specs.Prelude.{◌≡◌, ◌<◌, ◌^◌, ◌↔◌, ℕ, List, [], None, Some, Contains, IsPermutation, map};
 ghost use Rattle.std.specs.{List.AllByRecursion, List.IsDistinct, Option.IsSomeAnd};
-ghost use Rattle.ospf_lsa.specs.declared.lsa.Lsa.{Lsa};
+ghost use Rattle.ospf_lsa.specs.{Lsas.FitsBody, declared.lsa.Lsa.Lsa};
 ghost use Rattle.lsdb.specs.{Conflicts.least_conflict, Entries.Database, Installing.IsKept, Installs.all_installed, Installs.AreBehind, Keys.key_of};
 ghost use Rattle.lsdb.specs.Newest.{IsSettled};
 ghost use Rattle.lsdb.specs.Orders.{newest_in, timeless, without_place, HoldTheSame};
@@ -13,7 +13,7 @@ ghost use Rattle.flood_core.specs.Runs.{AreNewestOfTheSame, Delivery, IsFlooded,
 /// Laws: after any deliveries a router's database, its entries and the greatest place in it, is that of installing, one
 /// after another, the LSAs of types 1 and 2 of all packets that were delivered to it, with arrival numbers that rise. So
 /// what it gives as newest are the first newest instances of these, and it has no conflict exactly where the newest
-/// instances of each key agree.
+/// instances of each key agree. What holds of the numbers of the file's LSAs holds of these.
 pub fn a_database_is_that_of_what_was_delivered()
     ensures database { (updates : List Update) (count : ℕ) (deliveries : List Delivery) (router : ℕ) → router < count
         → database_of (after_deliveries (started updates count) deliveries) router
@@ -32,6 +32,12 @@ pub fn a_database_is_that_of_what_was_delivered()
     ensures kept { (updates : List Update) (count : ℕ) (deliveries : List Delivery) (router : ℕ)
         → AllByRecursion MayFlood updates
         → AllByRecursion IsKept (delivered_to updates count deliveries router) }
+    ensures bodies { (updates : List Update) (count : ℕ) (deliveries : List Delivery) (router : ℕ)
+        → AllByRecursion (λ lsa. FitsBody lsa.body) (lsas_of updates)
+        → AllByRecursion (λ lsa. FitsBody lsa.body) (delivered_to updates count deliveries router) }
+    ensures ids { (updates : List Update) (count : ℕ) (deliveries : List Delivery) (router : ℕ)
+        → AllByRecursion (λ lsa. lsa.id < 2 ^ 32) (lsas_of updates)
+        → AllByRecursion (λ lsa. lsa.id < 2 ^ 32) (delivered_to updates count deliveries router) }
 {}
 
 /// Laws: each LSA of a packet is one of the file, and each LSA of a database is one of the file but for its place.

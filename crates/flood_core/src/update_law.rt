@@ -1,10 +1,10 @@
-//! Bytes and Link State Update packets. It holds of the definitions alone; the function does nothing.
+//! Bytes and Link State Update packets. The laws hold of the definitions alone; the functions do nothing.
 
-ghost use Rattle.std.specs.Prelude.{◌≡◌, ◌⊎◌, ℕ, List, []};
+ghost use Rattle.std.specs.Prelude.{◌≡◌, ◌⊎◌, ◌<◌, ◌^◌, ℕ, List, []};
 ghost use Rattle.std.specs.List.{AllByRecursion};
-ghost use Rattle.ospf_lsa.specs.Lsas.{IsByte};
+ghost use Rattle.ospf_lsa.specs.Lsas.{FitsBody, IsByte};
 ghost use Rattle.flood_core.specs.{declared.error.UpdateKind.UpdateKind, declared.update.Update.Update, Updates.AreUpdates};
-ghost use Rattle.flood_core.specs.UpdateOutcome.{IsFirstFault};
+ghost use Rattle.flood_core.specs.{Receiving.MayFlood, Runs.lsas_of, UpdateOutcome.IsFirstFault};
 
 /// Any bytes are packets without a fault, one after another, or have a first packet with a fault; never both, and each
 /// in one way.
@@ -19,4 +19,14 @@ pub fn bytes_are_updates_or_have_a_fault()
     ensures one_fault { (bytes : List ℕ) (at place : ℕ) (kind other : UpdateKind)
         → IsFirstFault bytes at kind → IsFirstFault bytes place other
         → (at ≡ place) × (kind ≡ other) }
+{}
+
+/// Laws: packets that bytes are may be flooded, and the numbers of their LSAs fit their fields.
+pub fn what_is_read_may_be_flooded()
+    ensures may { (bytes : List ℕ) (updates : List Update) → AllByRecursion IsByte bytes
+        → AreUpdates 0 bytes updates [] → AllByRecursion MayFlood updates }
+    ensures bodies { (bytes : List ℕ) (updates : List Update) → AreUpdates 0 bytes updates []
+        → AllByRecursion (λ lsa. FitsBody lsa.body) (lsas_of updates) }
+    ensures ids { (bytes : List ℕ) (updates : List Update) → AreUpdates 0 bytes updates []
+        → AllByRecursion (λ lsa. lsa.id < 2 ^ 32) (lsas_of updates) }
 {}

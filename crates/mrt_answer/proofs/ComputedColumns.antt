@@ -25,7 +25,7 @@ module _ (laws : AcceptedLaws) (graph : Topology) (root : ℕ) (within : root < 
       let accepted = laws.accept graph root cert.0 kept within cert.1 in
       record {
         file = cert.0;
-        certificate = record { kept = kept; computed = cert.1; accepted = accepted; sound = laws.sound graph root cert.0 accepted };
+        certificate = record { computed = cert.1; accepted = accepted; sound = laws.sound graph root cert.0 accepted };
         of_columns = subst (λ (r : ℕ). IsCertOf graph r cert.0) (sym at) cert.1;
       }
 

@@ -17,4 +17,5 @@ pub mod TextSteps
 pub mod TextsHeld
 pub mod ToldAlike
 pub mod Upgrades
+pub mod VerdictComes
 pub mod WantedNodes

@@ -1,5 +1,5 @@
 -- At most one thing comes of each form: a text, or an exit.
-use Rattle.std.proofs.Common.{◌≡◌, ◌∙◌, ◌⊎◌, ◌<◌, ◌+◌, ◌==◌, ℕ, Bool, true, false, List, [], ◌∷◌, Ok, Err, length, refl, sym, ap, subst, inl, inr}
+use Rattle.std.proofs.Common.{◌≡◌, ◌∙◌, ◌⊎◌, ◌<◌, ◌+◌, ◌==◌, ℕ, Bool, true, false, List, [], ◌∷◌, Option, Ok, Err, length, refl, sym, ap, subst, inl, inr}
 use Rattle.std.specs.List.{AllByRecursion}
 use Rattle.std.specs.List.Sorted.{IsStrictlySortedBy}
 use Rattle.std.proofs.lemmas.Bool.{eqb-true, or_cases}
@@ -7,7 +7,9 @@ use Rattle.std.proofs.lemmas.Option.{slice_get_within}
 use Rattle.area_graph.specs.AreaInvariant.{IsArea}
 use Rattle.area_graph.specs.AreaOf.{area_of as area_of_lsas}
 use Rattle.area_graph.specs.AreaSize.{IsTooLarge}
+use Rattle.area_graph.specs.Fits.{Fits}
 use Rattle.area_graph.specs.Parts.{AreaParts}
+use Rattle.area_graph.specs.Ranges.{FitsBond}
 use Rattle.cert_format.specs.CertText.{cert_text}
 use Rattle.fabric.specs.FabricParts.{ArePartsKept, FabricParts}
 use Rattle.fabric.specs.Served.{AreRowsOn}
@@ -34,6 +36,7 @@ use Rattle.mrt_graph.specs.Topology.{Topology}
 use Rattle.mrt_graph.specs.declared.cert.CertFile.{CertFile}
 use Rattle.mrt_graph.specs.declared.node_id.NodeId.{NodeId}
 use Rattle.mrt_graph.proofs.NodeIds.{one_place}
+use Rattle.mrt_island.specs.IslandOf.{IsIsland}
 use Rattle.mrt_island.specs.Policy.{Policy}
 use Rattle.mrt_island.specs.declared.island.Island.{Island}
 use Rattle.mrt_island.specs.declared.setting.Setting.{Setting}
@@ -42,7 +45,7 @@ use Rattle.mrt_survey.specs.SurveyText.{IsSurveyText}
 use Rattle.order_repair.specs.OrderText.{IsTextFrom}
 use Rattle.ospf_lsa.specs.AreaLsas.{is_area_lsa}
 use Rattle.ospf_lsa.specs.LsaText.{lsa_length, lsas_text}
-use Rattle.ospf_lsa.specs.Lsas.{AreLsas, IsLsa}
+use Rattle.ospf_lsa.specs.Lsas.{AreLsas, FitsBody, IsLsa}
 use Rattle.ospf_lsa.specs.declared.lsa.Lsa.{Lsa}
 use Rattle.mrt_exit.specs.Steps.{IsOne, Step, such, ◌▸◌}
 use Rattle.mrt_exit.specs.declared.exit.Exit.{Exit}
@@ -52,7 +55,7 @@ use Rattle.mrt_words.specs.FileBytes.{FileBytes}
 use Rattle.mrt_words.specs.Form.{Task}
 use Rattle.mrt_words.specs.declared.task.RouterTask.TheVariants.{Certify, Table, Trace, Lfa, Order, Proxy}
 use Rattle.mrt_words.specs.declared.task.Task.TheVariants.{Check, Fabric, Upgrade, OfRouter}
-use Rattle.mrt_answer.specs.Texts.{ArePartsIn, IsComputed, IsComputedFile, IsOrderOf, IsScriptIn, IsTableOf, IsTraceIn, IsUpgrade, accepted_line, judged, proxied}
+use Rattle.mrt_answer.specs.Texts.{ArePartsIn, IsComputed, IsComputedFile, IsScriptIn, IsTableOf, IsTraceIn, IsUpgrade, accepted_line, judged, proxied}
 use Rattle.mrt_answer.specs.Forms.{certified, checked, delivered, flooded, loop_free, loop_free_in, of_task, ordered, ordered_in, over, proxied_for, proxied_in, scripted, table_in, tabled, traced, upgraded_to}
 use Rattle.mrt_answer.specs.Input.{Input, area, policy}
 use Rattle.mrt_answer.specs.Islands.{area_of, island_in, island_of, own_place, place_of}
@@ -90,6 +93,11 @@ pub record AreaLaws : Type 0 where
   pub area : (lsas : List Lsa) → AllByRecursion IsKept lsas
       → (IsTooLarge (length (area_of_lsas (newest_in lsas)).ids) (length (area_of_lsas (newest_in lsas)).arcs) → ⊥)
       → IsArea (area_of_lsas (newest_in lsas))
+  pub bonds : (lsas : List Lsa) → AllByRecursion (λ lsa. FitsBody lsa.body) lsas → AllByRecursion FitsBond (area_of_lsas (newest_in lsas)).bonds
+  pub graph : (policy : Policy) (area : AreaParts) (router : ℕ) (g : Topology) (root : ℕ) (link_of : List (Option ℕ)) → IsArea area
+      → AllByRecursion FitsBond area.bonds → IsIsland policy area router g root link_of → IsTopology g
+  pub fits : (policy : Policy) (area : AreaParts) (router : ℕ) (g : Topology) (root : ℕ) (link_of : List (Option ℕ)) → IsArea area
+      → IsIsland policy area router g root link_of → Fits area g link_of
 
 -- the laws of the layers below on texts
 pub record TextLaws : Type 0 where
@@ -137,6 +145,16 @@ all_stand laws at (lsa ∷ rest) are = go (is_area_lsa lsa) refl (all_stand laws
     go true e stand = rw e (laws.stands lsa are.1 (entered lsa e), stand)
     go false e stand = rw e stand
 
+-- and their numbers fit
+all_fit : (at : ℕ) (lsas : List Lsa) → AreLsas at lsas → AllByRecursion (λ lsa. FitsBody lsa.body) (entering lsas)
+all_fit at [] are = tt
+all_fit at (lsa ∷ rest) are = go (is_area_lsa lsa) refl (all_fit (at + lsa_length lsa) rest are.2)
+  where
+    go : (b : Bool) → is_area_lsa lsa ≡ b → AllByRecursion (λ l. FitsBody l.body) (entering rest)
+        → AllByRecursion (λ l. FitsBody l.body) (entering (lsa ∷ rest))
+    go true e fit = rw e (are.1.body, fit)
+    go false e fit = rw e fit
+
 -- the newest LSAs of a database give an area
 pub is_area : AreaLaws → (bytes : List ℕ) (newest : List Lsa) → IsDatabase bytes newest
     → (IsTooLarge (length (area_of_lsas newest).ids) (length (area_of_lsas newest).arcs) → ⊥) → IsArea (area_of_lsas newest)
@@ -154,18 +172,31 @@ area_kept laws database profile input (newest, is, (settings, said, same)) of is
     subst IsArea (sym is_area_of.0) (is_area laws database input.newest held
     (subst (λ (a : AreaParts). IsTooLarge (length a.ids) (length a.arcs) → ⊥) is_area_of.0 is_area_of.1))
 
+-- and the numbers of its bonds fit
+pub bonds_kept : AreaLaws → (database profile : List ℕ) (input : Input) → input_of database profile (Ok input) → AllByRecursion FitsBond (area input).bonds
+bonds_kept laws database profile input (newest, is, (settings, said, same)) =
+    let held : IsDatabase database input.newest = subst (λ (i : Input). IsDatabase database i.newest) (sym same) is in
+    subst (λ (lsas : List Lsa). AllByRecursion FitsBond (area_of_lsas lsas).bonds) (sym held.newest_ones)
+    (laws.bonds (entering held.lsas) (all_fit 0 held.lsas held.held.each))
+
 -- so the area is kept, where a router has an island in it
 pub area_is_kept : (input : Input) → ((of : AreaParts) → area_of input.newest (Ok of) → IsArea of) → (router : ℕ) (island : Island)
     → island_in input router (Ok island) → IsArea (area input)
 area_is_kept input kept router island (of, is, under) = subst IsArea is.0 (kept of is)
 
 -- what the steps of packets read fits together
-pub parts_fit : (area : AreaParts) → IsArea area → (island : Island) (parts : FabricParts) → ArePartsIn area island parts → ArePartsKept parts
-parts_fit area kept island parts are = record {
-  area_kept = subst IsArea (sym are.area_is) kept;
-  island_kept = subst IsTopology (sym are.island_is) are.certificate.kept;
-  fits = are.fits;
-}
+pub parts_fit : AreaLaws → (policy : Policy) (area : AreaParts) → IsArea area → AllByRecursion FitsBond area.bonds → (number : ℕ) (island : Island)
+    → island_of policy area number (Ok island) → (parts : FabricParts) → ArePartsIn area island parts → ArePartsKept parts
+parts_fit laws policy area kept fit number island is parts are =
+    let graph = laws.graph policy area number island.graph island.root island.link_of kept fit is in
+    let fits = laws.fits policy area number island.graph island.root island.link_of kept is in
+    record {
+      area_kept = subst IsArea (sym are.area_is) kept;
+      island_kept = subst IsTopology (sym are.island_is) graph;
+      fits = subst (λ (of : AreaParts). Fits of parts.island parts.link_of) (sym are.area_is)
+          (subst (λ (g : Topology). Fits area g parts.link_of) (sym are.island_is)
+          (subst (λ (links : List (Option ℕ)). Fits area island.graph links) (sym are.links_are) fits));
+    }
 
 -- and there are rows for all destinations
 pub rows_for_all : (area : AreaParts) (island : Island) (parts : FabricParts) → ArePartsIn area island parts → (events : List Event)
@@ -252,16 +283,16 @@ module _ (laws : Laws) where
       no island e one two = two
 
   -- the certificate that is computed for an island is one
-  one_file : (policy : Policy) (area : AreaParts) (number : ℕ) (island : Island) → island_of policy area number (Ok island)
+  one_file : (policy : Policy) (area : AreaParts) (number : ℕ) (island : Island) → IsTopology island.graph → island_of policy area number (Ok island)
       → (file other : CertFile) → IsComputedFile island.graph island.root file → IsComputedFile island.graph island.root other
       → file ≡ other
-  one_file policy area number island is file other one two =
-      laws.certificates island.graph island.root file other two.kept
+  one_file policy area number island graph is file other one two =
+      laws.certificates island.graph island.root file other graph
       (root_within policy area number island.graph island.root island.link_of is) one.computed two.computed
 
   -- ---- where no file has a fault
 
-  module _ (input : Input) (kept : (of : AreaParts) → area_of input.newest (Ok of) → IsArea of) where
+  module _ (input : Input) (kept : (of : AreaParts) → area_of input.newest (Ok of) → IsArea of) (fit : AllByRecursion FitsBond (area input).bonds) where
     one_island_in : (number : ℕ) → IsOne (island_in input number)
     one_island_in number =
         one_then_one (area_of input.newest) _ (one_area_of input.newest)
@@ -276,6 +307,11 @@ module _ (laws : Laws) where
         one (area_is_kept input kept number island both) island
         (subst (λ (of : AreaParts). island_of (policy input) of number (Ok island)) both.1.0 both.2))
 
+    -- the graph of an island is one
+    its_graph : IsArea (area input) → (number : ℕ) (island : Island) → island_of (policy input) (area input) number (Ok island) → IsTopology island.graph
+    its_graph of_kept number island is =
+        laws.areas.graph (policy input) (area input) number island.graph island.root island.link_of of_kept fit is
+
     -- the nodes of an island are in order
     in_order : IsArea (area input) → (router : ℕ) (island : Island) → island_of (policy input) (area input) router (Ok island)
         → IsStrictlySortedBy node_id_cmp island.graph.ids
@@ -284,7 +320,7 @@ module _ (laws : Laws) where
     one_certified : (router : ℕ) → IsOne (certified input router)
     one_certified router = in_it router (λ island. such (IsComputed island.graph island.root)) (λ of_kept island is. one_such (IsComputed island.graph island.root) (λ text other one two.
         one.spelled.spelled
-        ∙ ap (λ (f : CertFile). cert_text f) (one_file (policy input) (area input) router island is one.file two.file one.certificate two.certificate)
+        ∙ ap (λ (f : CertFile). cert_text f) (one_file (policy input) (area input) router island (its_graph of_kept router island is) is one.file two.file one.certificate two.certificate)
         ∙ sym two.spelled.spelled))
 
     one_tabled : (router : ℕ) → IsOne (tabled input router)
@@ -293,15 +329,16 @@ module _ (laws : Laws) where
         (λ source. own_place (area input).ids router ▸ λ spot. such (IsTableOf (area input) island source spot)) (λ source at.
         at_own_place (area input).ids of_kept.ids_ascend router (λ spot. such (IsTableOf (area input) island source spot)) (λ spot too.
         one_such (IsTableOf (area input) island source spot)
-        (one_table laws.tables (area input) of_kept island source spot (one_file (policy input) (area input) router island is)))))
+        (one_table laws.tables (area input) of_kept island (its_graph of_kept router island is) source spot
+        (one_file (policy input) (area input) router island (its_graph of_kept router island is) is)))))
 
     one_ordered : (router : ℕ) → IsOne (ordered input router)
     one_ordered router = in_it router (λ island. ordered_in island.graph island.root router) (λ of_kept island is.
-        at_own_place island.graph.ids (in_order of_kept router island is) router (λ source. such (IsOrderOf island.graph island.root source)) (λ source at.
-        one_such (IsOrderOf island.graph island.root source) (λ text other one two.
-        laws.texts.order island.graph island.root source text other two.0
+        at_own_place island.graph.ids (in_order of_kept router island is) router (λ source. such (IsTextFrom island.graph island.root source)) (λ source at.
+        one_such (IsTextFrom island.graph island.root source) (λ text other one two.
+        laws.texts.order island.graph island.root source text other (its_graph of_kept router island is)
         (root_within (policy input) (area input) router island.graph island.root island.link_of is)
-        (slice_get_within island.graph.ids source (router_node router) at) one.1 two.1)))
+        (slice_get_within island.graph.ids source (router_node router) at) one two)))
 
     one_loop_free : (router : ℕ) → IsOne (loop_free input router)
     one_loop_free router =
@@ -314,7 +351,8 @@ module _ (laws : Laws) where
         at_place island.graph.ids (in_order of_kept router island is) first
         (λ a. place_of island.graph.ids second ▸ λ b. proxied island.graph island.root a b) (λ a at_a.
         at_place island.graph.ids (in_order of_kept router island is) second (λ b. proxied island.graph island.root a b) (λ b at_b.
-        one_proxied_of laws.texts.proxies island.graph island.root a b (one_file (policy input) (area input) router island is))))
+        one_proxied_of laws.texts.proxies island.graph island.root a b (its_graph of_kept router island is)
+        (one_file (policy input) (area input) router island (its_graph of_kept router island is) is))))
 
     -- the parts that packets read are one, and so is a text over them
     one_over_parts : IsArea (area input) → (number : ℕ) (island : Island) → island_of (policy input) (area input) number (Ok island)
@@ -322,14 +360,14 @@ module _ (laws : Laws) where
         → ((parts : FabricParts) → ArePartsKept parts → (text other : List ℕ) → IsText parts text → IsText parts other → text ≡ other)
         → IsOne (such (λ text. (parts : FabricParts) × ArePartsIn (area input) island parts × IsText parts text))
     one_over_parts of_kept number island is IsText one = one_such _ (λ text other first second.
-        let files = one_file (policy input) (area input) number island is first.1.file second.1.file first.1.certificate second.1.certificate in
+        let files = one_file (policy input) (area input) number island (its_graph of_kept number island is) is first.1.file second.1.file first.1.certificate second.1.certificate in
         let parts : first.0 ≡ second.0 = λ i. record {
           area = (first.1.area_is ∙ sym second.1.area_is) i;
           island = (first.1.island_is ∙ sym second.1.island_is) i;
           rows = (first.1.rows_are ∙ ap (λ (f : CertFile). row_of f.cert) files ∙ sym second.1.rows_are) i;
           link_of = (first.1.links_are ∙ sym second.1.links_are) i;
         } in
-        one second.0 (parts_fit (area input) of_kept island second.0 second.1) text other
+        one second.0 (parts_fit laws.areas (policy input) (area input) of_kept fit number island is second.0 second.1) text other
         (subst (λ (p : FabricParts). IsText p text) parts first.2) second.2)
 
     one_traced : (trace : PacketTrace) → IsOne (traced input trace)
@@ -360,7 +398,7 @@ module _ (laws : Laws) where
     one_summed_up number = in_it 1 (λ island. such (IsSummedUp number island.graph island.root)) (λ of_kept island is. one_such (IsSummedUp number island.graph island.root) (λ text other one two.
         laws.texts.survey number island.graph island.root two.file.cert text other
         (subst (λ (f : CertFile). IsSurveyText number island.graph island.root f.cert text)
-        (one_file (policy input) (area input) 1 island is one.file two.file one.certificate two.certificate) one.spelled) two.spelled))
+        (one_file (policy input) (area input) 1 island (its_graph of_kept 1 island is) is one.file two.file one.certificate two.certificate) one.spelled) two.spelled))
 
     one_task : (task : Task) (last : List ℕ) → IsOne (of_task task input last)
     one_task (Check certificate) last =
@@ -381,7 +419,8 @@ module _ (laws : Laws) where
   pub one_over : (task : Task) (bytes : FileBytes) → IsOne (over task bytes)
   one_over task bytes =
       one_then_one (input_of bytes.first bytes.profile) (λ input. of_task task input bytes.last) (one_input_of laws.databases laws.profiles bytes.first bytes.profile)
-      (λ input given. one_task input (area_kept laws.areas bytes.first bytes.profile input given) task bytes.last)
+      (λ input given. one_task input (area_kept laws.areas bytes.first bytes.profile input given) (bonds_kept laws.areas bytes.first bytes.profile input given)
+      task bytes.last)
 
   pub one_flooded : (bytes : FileBytes) → IsOne (flooded bytes)
   one_flooded bytes =
@@ -399,5 +438,6 @@ module _ (laws : Laws) where
       → (text other : List ℕ) → IsSurveyed number nodes text → IsSurveyed number nodes other → text ≡ other
   one_survey {number} {nodes} given text other one two =
       one_value (summed_up_in number (made_input number nodes))
-      (one_summed_up (made_input number nodes) (area_kept laws.areas (lsas_text (made_lsas number nodes)) [] (made_input number nodes) given) number)
+      (one_summed_up (made_input number nodes) (area_kept laws.areas (lsas_text (made_lsas number nodes)) [] (made_input number nodes) given)
+      (bonds_kept laws.areas (lsas_text (made_lsas number nodes)) [] (made_input number nodes) given) number)
       text other (one.island, one.island_is, one.survey) (two.island, two.island_is, two.survey)

@@ -4,7 +4,9 @@ use Rattle.std.specs.Prelude.{Contains}
 use Rattle.std.specs.List.{AllByRecursion}
 use Rattle.area_graph.specs.AreaInvariant.{IsArea}
 use Rattle.area_graph.specs.AreaOf.{area_of as area_of_lsas}
+use Rattle.area_graph.specs.LiveLsas.{HoldTheSameLive}
 use Rattle.area_graph.specs.Parts.{AreaParts}
+use Rattle.area_graph.specs.Ranges.{FitsBond}
 use Rattle.cert_format.specs.CertText.{cert_text}
 use Rattle.lsdb.specs.Database.{IsDatabase, entering}
 use Rattle.lsdb.specs.Installing.{IsKept}
@@ -30,7 +32,7 @@ use Rattle.mrt_answer.specs.Reading.{input_of}
 use Rattle.mrt_answer.specs.Texts.{IsComputed, IsComputedFile}
 use Rattle.mrt_answer.proofs.CertifiedPasses.{EachRouterLaw}
 use Rattle.mrt_answer.proofs.Islands.{root_within}
-use Rattle.mrt_answer.proofs.OneAnswer.{AreaLaws, all_stand, area_kept}
+use Rattle.mrt_answer.proofs.OneAnswer.{AreaLaws, all_stand, area_kept, bonds_kept}
 use Rattle.mrt_answer.proofs.OneReading.{DatabaseLaws, ProfileLaws, one_input_of}
 use Rattle.mrt_answer.proofs.OneTable.{CertificateLaw, IslandLaw}
 
@@ -39,8 +41,9 @@ pub record NetworkLaws : Type 0 where
   pub databases : DatabaseLaws
   pub profiles : ProfileLaws
   pub areas : AreaLaws
-  pub same : (lsas others : List Lsa) → AllByRecursion IsKept lsas → HoldTheSameInstances (newest_in lsas) (newest_in others)
+  pub same : (lsas others : List Lsa) → AllByRecursion IsKept lsas → HoldTheSameLive (newest_in lsas) (newest_in others)
       → area_of_lsas (newest_in lsas) ≡ area_of_lsas (newest_in others)
+  pub live : (lsas others : List Lsa) → HoldTheSameInstances lsas others → HoldTheSameLive lsas others
   pub differ : (lsas others : List Lsa) → HoldTheSameButAge lsas others → HoldTheSameInstances lsas others ⊎ DifferInMaxAge lsas others
   pub islands : IslandLaw
   pub each : EachRouterLaw
@@ -85,14 +88,20 @@ module _ (laws : NetworkLaws) where
       λ i. record { graph = same.0 i; root = same.1 i; link_of = same.2 i }
 
   -- and that one certificate
-  same_file : (input : Input) (router : ℕ) (island : Island) → island_in input router (Ok island) → (file second : CertFile)
+  same_file : (input : Input) → KeepsArea input → AllByRecursion FitsBond (area input).bonds → (router : ℕ) (island : Island)
+      → island_in input router (Ok island) → (file second : CertFile)
       → IsComputedFile island.graph island.root file → IsComputedFile island.graph island.root second → file ≡ second
-  same_file input router island (of, is, its) file second one two =
-      laws.certificates island.graph island.root file second two.kept
+  same_file input kept fit router island (of, is, its) file second one two =
+      laws.certificates island.graph island.root file second
+      (laws.areas.graph (policy input) of router island.graph island.root island.link_of (kept of is)
+      (subst (λ (a : AreaParts). AllByRecursion FitsBond a.bonds) (sym is.0) fit) its)
       (root_within (policy input) of router island.graph island.root island.link_of its) one.computed two.computed
 
   kept_of : (bytes : FileBytes) (input : Input) → input_of bytes.first bytes.profile (Ok input) → KeepsArea input
   kept_of bytes input held = area_kept laws.areas bytes.first bytes.profile input held
+
+  fit_of : (bytes : FileBytes) (input : Input) → input_of bytes.first bytes.profile (Ok input) → AllByRecursion FitsBond (area input).bonds
+  fit_of bytes input held = bonds_kept laws.areas bytes.first bytes.profile input held
 
   same_input : (bytes : FileBytes) (input read : Input) → input_of bytes.first bytes.profile (Ok input) → input_of bytes.first bytes.profile (Ok read)
       → read ≡ input
@@ -126,9 +135,9 @@ module _ (laws : NetworkLaws) where
   one_area one other network =
       let mine = held_database one.first one.profile network.input network.held in
       let theirs = held_database other.first other.profile network.other_input network.other_held in
-      let same : HoldTheSameInstances (newest_in (entering mine.lsas)) (newest_in (entering theirs.lsas)) =
-      subst (λ (lsas : List Lsa). HoldTheSameInstances lsas (newest_in (entering theirs.lsas))) mine.newest_ones
-      (subst (λ (lsas : List Lsa). HoldTheSameInstances network.input.newest lsas) theirs.newest_ones network.databases) in
+      let same : HoldTheSameLive (newest_in (entering mine.lsas)) (newest_in (entering theirs.lsas)) =
+      subst (λ (lsas : List Lsa). HoldTheSameLive lsas (newest_in (entering theirs.lsas))) mine.newest_ones
+      (subst (λ (lsas : List Lsa). HoldTheSameLive network.input.newest lsas) theirs.newest_ones network.databases) in
       ap area_of_lsas mine.newest_ones
       ∙ laws.same (entering mine.lsas) (entering theirs.lsas) (all_stand laws.areas 0 mine.lsas mine.held.each) same
       ∙ sym (ap area_of_lsas theirs.newest_ones)
@@ -174,7 +183,7 @@ module _ (laws : NetworkLaws) where
       let theirs = certified_by other network.other_input network.other_held second both.island (one_island one other network router second both) others too in
       mine.spelled.spelled
       ∙ ap (λ (f : CertFile). cert_text f)
-      (same_file network.input router both.island both.its mine.file theirs.file mine.certificate theirs.certificate)
+      (same_file network.input (kept_of one network.input network.held) (fit_of one network.input network.held) router both.island both.its mine.file theirs.file mine.certificate theirs.certificate)
       ∙ sym theirs.spelled.spelled
 
   pub table_by : (one other : FileBytes) (network : AreOfOneNetwork one other) (router second : ℕ)
@@ -190,7 +199,7 @@ module _ (laws : NetworkLaws) where
         spot_is = theirs.2.1;
         table = theirs.2.2;
         by = subst (λ (f : CertFile). IsSpellingOf text f)
-            (same_file network.input router both.island both.its mine.file theirs.2.2.file mine.certificate theirs.2.2.certificate)
+            (same_file network.input (kept_of one network.input network.held) (fit_of one network.input network.held) router both.island both.its mine.file theirs.2.2.file mine.certificate theirs.2.2.certificate)
             mine.spelled;
       }
 
@@ -205,7 +214,7 @@ module _ (laws : NetworkLaws) where
           held = network.held;
           other_input = network.other_input;
           other_held = network.other_held;
-          databases = same;
+          databases = laws.live network.input.newest network.other_input.newest same;
           profiles = network.profiles;
         } in
         inl (same_certificate one other agreeing router second both text others said too)

@@ -26,14 +26,14 @@ pub accepted_for : (graph : Topology) (root : ℕ) (file : CertFile) → IsCompu
 accepted_for graph root file computed =
     record { root = root; version = file.version; number = file.root; accepted = computed.accepted }
 
-pub one_proxied_of : ProxyLaws → (graph : Topology) (root a b : ℕ)
+pub one_proxied_of : ProxyLaws → (graph : Topology) (root a b : ℕ) → IsTopology graph
     → ((file other : CertFile) → IsComputedFile graph root file → IsComputedFile graph root other → file ≡ other)
     → IsOne (proxied graph root a b)
-one_proxied_of laws graph root a b one_file = one_value_or_exit (proxied graph root a b) values ends no
+one_proxied_of laws graph root a b kept one_file = one_value_or_exit (proxied graph root a b) values ends no
   where
     values : (text other : List ℕ) → proxied graph root a b (Ok text) → proxied graph root a b (Ok other) → text ≡ other
     values text other one two =
-        laws.text graph root two.file.cert a b text other two.certificate.kept (accepted_for graph root two.file two.certificate)
+        laws.text graph root two.file.cert a b text other kept (accepted_for graph root two.file two.certificate)
         (subst (λ (f : CertFile). IsProxyText graph root f.cert a b text)
         (one_file one.file two.file one.certificate two.certificate) one.spelled) two.spelled
 
@@ -44,7 +44,7 @@ one_proxied_of laws graph root a b one_file = one_value_or_exit (proxied graph r
 
     no : (text : List ℕ) (e : Exit) → proxied graph root a b (Ok text) → proxied graph root a b (Err e) → ⊥
     no text NoCommonBlock one two =
-        laws.related graph root two.0.cert a b text two.1.kept (accepted_for graph root two.0 two.1)
+        laws.related graph root two.0.cert a b text kept (accepted_for graph root two.0 two.1)
         (subst (λ (f : CertFile). IsProxyText graph root f.cert a b text) (one_file one.file two.0 one.certificate two.1)
         one.spelled) two.2
     no text e one two = two

@@ -44,13 +44,13 @@ one_list laws area s entries others one two =
     (two.each t _ (slice_get-get_or others t None (omega (arith, within, one.one_each, two.one_each)))))
 
 -- where the certificate of an island is one, so is a router's table
-pub one_table : TableLaws → (area : AreaParts) → IsArea area → (island : Island) (source spot : ℕ)
+pub one_table : TableLaws → (area : AreaParts) → IsArea area → (island : Island) → IsTopology island.graph → (source spot : ℕ)
     → ((file other : CertFile) → IsComputedFile island.graph island.root file → IsComputedFile island.graph island.root other → file ≡ other)
     → (text other : List ℕ) → IsTableOf area island source spot text → IsTableOf area island source spot other → text ≡ other
-one_table laws area area_kept island source spot one_file text other one two =
+one_table laws area area_kept island kept source spot one_file text other one two =
     let file = one_file one.file two.file one.certificate two.certificate in
     let primaries = one_list laws area spot one.primaries two.primaries one.primaries_are two.primaries_are in
     laws.table (table_parts area island.graph island.link_of two.file.cert source two.primaries) island.root text other area_kept
-    two.certificate.kept
+    kept
     (subst (λ (p : TableParts). IsTableText p island.root text)
     (λ i. table_parts area island.graph island.link_of (file i).cert source (primaries i)) one.spelled) two.spelled

@@ -59,7 +59,6 @@ module _ {net : AreaAndIsland} {spots : List ℕ} {tables : Tables} (made : AreT
     area_is = refl;
     island_is = refl;
     links_are = made.links;
-    fits = made.routed.fits;
     file = made.file;
     certificate = made.certificate;
     rows_are = refl;

@@ -15,11 +15,12 @@ use Rattle.mrt_exit.specs.Steps.{Step, such, ◌▸◌}
 use Rattle.mrt_graph.specs.Topology.{Topology}
 use Rattle.mrt_graph.specs.declared.cert.CertFile.{CertFile}
 use Rattle.mrt_words.specs.FileBytes.{FileBytes}
+use Rattle.order_repair.specs.OrderText.{IsTextFrom}
 use Rattle.mrt_words.specs.Form.{Task}
 use Rattle.mrt_words.specs.declared.task.RouterTask.{RouterTask}
 use Rattle.mrt_words.specs.declared.task.RouterTask.TheVariants.{Certify, Table, Trace, Lfa, Order, Proxy}
 use Rattle.mrt_words.specs.declared.task.Task.TheVariants.{Check, Fabric, Upgrade, OfRouter}
-use Rattle.mrt_answer.specs.Texts.{IsComputed, IsOrderOf, IsScriptIn, IsTableOf, IsTraceIn, IsUpgrade, accepted_line, judged, proxied}
+use Rattle.mrt_answer.specs.Texts.{IsComputed, IsScriptIn, IsTableOf, IsTraceIn, IsUpgrade, accepted_line, judged, proxied}
 use Rattle.area_graph.specs.Parts.{AreaParts}
 use Rattle.mrt_island.specs.declared.island.Island.{Island}
 use Rattle.mrt_answer.specs.Input.{Input, area}
@@ -57,7 +58,7 @@ loop_free input router = area_of input.newest ▸ λ area. loop_free_in area rou
 
 -- the repairs by order of a router of a graph, and of one in its island
 abbrev pub ordered_in : Topology → ℕ → ℕ → Step (List ℕ)
-ordered_in graph root router = own_place graph.ids router ▸ λ source. such (IsOrderOf graph root source)
+ordered_in graph root router = own_place graph.ids router ▸ λ source. such (IsTextFrom graph root source)
 
 abbrev pub ordered : Input → ℕ → Step (List ℕ)
 ordered input router = island_in input router ▸ λ island. ordered_in island.graph island.root router

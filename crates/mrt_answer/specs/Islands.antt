@@ -15,14 +15,14 @@ use Rattle.mrt_island.specs.declared.island.Island.{Island}
 use Rattle.ospf_lsa.specs.declared.lsa.Lsa.{Lsa}
 use Rattle.mrt_answer.specs.Input.{Input, policy}
 
--- so many are told as a number of 32 bits, the greatest one where they are more
-abbrev pub told : ℕ → ℕ
-told count = min count (2 ^ 32 - 1)
+-- so many as a number of 32 bits, the greatest one where they are more
+abbrev pub in_32_bits : ℕ → ℕ
+in_32_bits count = min count (2 ^ 32 - 1)
 
 -- what is too large of an area, and how many there are: its nodes, or where these are within their limit its arcs
 abbrev pub IsLargeArea : AreaParts → What → ℕ → Type 0
-IsLargeArea area whats.AreaNodes size = (4096 < length area.ids) × (size ≡ told (length area.ids))
-IsLargeArea area whats.AreaArcs size = (length area.ids ≤ 4096) × (32768 < length area.arcs) × (size ≡ told (length area.arcs))
+IsLargeArea area whats.AreaNodes size = (4096 < length area.ids) × (size ≡ in_32_bits (length area.ids))
+IsLargeArea area whats.AreaArcs size = (length area.ids ≤ 4096) × (32768 < length area.arcs) × (size ≡ in_32_bits (length area.arcs))
 IsLargeArea area _ size = ⊥
 
 -- a router is none of these nodes

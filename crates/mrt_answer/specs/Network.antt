@@ -1,7 +1,8 @@
 -- Two routers of one network, each with a database of its own.
 use Rattle.std.specs.Prelude.{◌≡◌, ℕ, List, Ok, Contains}
 use Rattle.area_graph.specs.Parts.{AreaParts}
-use Rattle.lsdb.specs.Instances.{HoldTheSameButAge, HoldTheSameInstances}
+use Rattle.area_graph.specs.LiveLsas.{HoldTheSameLive}
+use Rattle.lsdb.specs.Instances.{HoldTheSameButAge}
 use Rattle.mrt_graph.specs.NodeIds.{router as router_node}
 use Rattle.mrt_island.specs.declared.island.Island.{Island}
 use Rattle.mrt_words.specs.CertSpelling.{IsSpellingOf}
@@ -22,9 +23,10 @@ pub record AreReadByTwo (Stand : List Lsa → List Lsa → Type 0) (one other : 
   pub databases : Stand input.newest other_input.newest
   pub profiles : one.profile ≡ other.profile
 
--- the two are routers of one network: their databases hold the same newest instances, each at an age of its own
+-- the two are routers of one network: their databases hold the same newest instances, each at an age of its own, but for those at
+-- MaxAge, which either may have dropped
 abbrev pub AreOfOneNetwork : FileBytes → FileBytes → Type 0
-AreOfOneNetwork one other = AreReadByTwo HoldTheSameInstances one other
+AreOfOneNetwork one other = AreReadByTwo HoldTheSameLive one other
 
 -- the same, but an LSA may be at MaxAge in one of the databases and not in the other
 abbrev pub AreOfOneNetworkButMaxAge : FileBytes → FileBytes → Type 0

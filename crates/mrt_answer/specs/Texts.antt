@@ -3,7 +3,6 @@ use Rattle.std.specs.Prelude.{ℕ, List, length, ◌++◌, Ok, Err, codes, decim
 use Rattle.mrt_graph.specs.declared.cert.CertFile.{CertFile}
 use Rattle.mrt_graph.specs.Accepted.{Accepted}
 use Rattle.mrt_graph.specs.Certificate.{row_of}
-use Rattle.mrt_graph.specs.GraphInvariant.{IsTopology}
 use Rattle.mrt_graph.specs.Sound.{Sound}
 use Rattle.mrt_graph.specs.Topology.{Topology}
 use Rattle.mrt_rows.specs.CertOf.{IsCertOf}
@@ -18,18 +17,15 @@ use Rattle.mrt_report.specs.TableText.{IsTableText}
 use Rattle.primary_alt.specs.declared.shortest.Primary.{Primary}
 use Rattle.primary_alt.specs.Primaries.{ArePrimaries}
 use Rattle.mrt_island.specs.declared.island.Island.{Island}
-use Rattle.area_graph.specs.Fits.{Fits}
 use Rattle.fabric.specs.FabricParts.{FabricParts}
 use Rattle.fabric_script.specs.declared.script.Script.{Script}
 use Rattle.fabric_script.specs.declared.trace.Trace.{Trace}
 use Rattle.fabric_runs.specs.RunTexts.{IsScriptText, IsTraceText}
-use Rattle.order_repair.specs.OrderText.{IsTextFrom}
 use Rattle.mrt_graph.specs.Related.{are_unrelated}
 use Rattle.proxy_rows.specs.ProxyText.{IsProxyText}
 
 -- the file is the certificate that is computed for a graph and its root: it is accepted, so that its rows are sound
 pub record IsComputedFile (graph : Topology) (root : ℕ) (file : CertFile) : Type 0 where
-  pub kept : IsTopology graph
   pub computed : IsCertOf graph root file
   pub accepted : Accepted graph root file
   pub sound : Sound graph.links (length graph.ids) (row_of file.cert)
@@ -76,7 +72,6 @@ pub record ArePartsIn (area : AreaParts) (island : Island) (parts : FabricParts)
   pub area_is : parts.area ≡ area
   pub island_is : parts.island ≡ island.graph
   pub links_are : parts.link_of ≡ island.link_of
-  pub fits : Fits parts.area parts.island parts.link_of
   pub file : CertFile
   pub certificate : IsComputedFile island.graph island.root file
   pub rows_are : parts.rows ≡ row_of file.cert
@@ -88,10 +83,6 @@ IsTraceIn area island trace text = (parts : FabricParts) × ArePartsIn area isla
 -- the text is that of a script
 abbrev pub IsScriptIn : AreaParts → Island → Script → List ℕ → Type 0
 IsScriptIn area island script text = (parts : FabricParts) × ArePartsIn area island parts × IsScriptText parts script text
-
--- the text is that on the repairs by order of a router of a graph, from the graph's root
-abbrev pub IsOrderOf : Topology → ℕ → ℕ → List ℕ → Type 0
-IsOrderOf graph root source text = IsTopology graph × IsTextFrom graph root source text
 
 -- the text is that on a prefix that two nodes of a graph are attached to, by the certificate that is computed for it and a
 -- root

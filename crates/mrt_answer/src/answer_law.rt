@@ -12,7 +12,7 @@ ghost use Rattle.mrt_island.specs.declared.island.Island.{Island};
 ghost use Rattle.area_graph.specs.Parts.{AreaParts};
 
 use crate::survey_law::made_networks_are_taken;
-use area_graph::the_newest_records_give_an_area;
+use area_graph::{bonds_of_the_newest_records_fit, the_newest_records_give_an_area};
 use cert_format::one_spelling;
 use fabric_runs::one_text_each;
 use fabric_script::lines_are_a_script_or_have_a_fault;
@@ -29,7 +29,7 @@ use lsdb::{
 use mrt_graph::accepted_or_one_first_fault;
 use mrt_island::{
     a_router_has_one_island, an_island_is_that_of_each_router_in_it,
-    lines_are_settings_or_have_a_fault,
+    lines_are_settings_or_have_a_fault, what_an_island_keeps,
 };
 use mrt_report::one_table_each;
 use mrt_rows::one_certificate;
@@ -54,6 +54,8 @@ pub fn one_answer_comes()
     one_spelling();
     an_lsa_without_a_fault_may_be_installed();
     the_newest_records_give_an_area();
+    bonds_of_the_newest_records_fit();
+    what_an_island_keeps();
     a_router_has_one_island();
     accepted_or_one_first_fault();
     one_certificate();
@@ -85,6 +87,8 @@ pub fn what_is_certified_passes()
 {
     an_lsa_without_a_fault_may_be_installed();
     the_newest_records_give_an_area();
+    bonds_of_the_newest_records_fit();
+    what_an_island_keeps();
     an_island_is_that_of_each_router_in_it();
     one_spelling();
 }
@@ -100,6 +104,8 @@ pub fn what_steps_read_fits_together()
 {
     an_lsa_without_a_fault_may_be_installed();
     the_newest_records_give_an_area();
+    bonds_of_the_newest_records_fit();
+    what_an_island_keeps();
 }
 
 /// A law: in the text of packets, a profile and a script of deliveries, no line that compares two routers to which the

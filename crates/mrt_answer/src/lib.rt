@@ -23,6 +23,7 @@ mod text;
 mod trace;
 mod upgrade;
 mod verdict;
+mod verdict_law;
 
 pub use answer::answer_of_files;
 pub use answer_law::{
@@ -44,3 +45,4 @@ pub use survey_law::made_networks_are_taken;
 pub use table::{Parts, row_by_column};
 pub use text::Text;
 pub use verdict::judge;
+pub use verdict_law::a_verdict_comes;

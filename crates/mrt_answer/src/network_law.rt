@@ -8,20 +8,23 @@ ghost use Rattle.mrt_words.specs.declared.task.Task.TheVariants.{OfRouter};
 ghost use Rattle.mrt_answer.specs.{Forms.over, Input.area, Islands.island_in};
 ghost use Rattle.mrt_answer.specs.Network.{AreInOneIsland, AreOfOneNetwork, AreOfOneNetworkButMaxAge, IsTableBy};
 
-use area_graph::{the_newest_records_give_an_area, the_same_instances_give_the_same_area};
+use area_graph::{
+    bonds_of_the_newest_records_fit, the_newest_records_give_an_area,
+    the_same_live_lsas_give_the_same_area,
+};
 use lsdb::{
     an_lsa_without_a_fault_may_be_installed, instances_differ_in_max_age_alone,
     refuses_exactly_where_not_settled, tells_the_first_conflict,
 };
 use mrt_island::{
     a_router_has_one_island, an_island_is_that_of_each_router_in_it,
-    lines_are_settings_or_have_a_fault,
+    lines_are_settings_or_have_a_fault, what_an_island_keeps,
 };
 use mrt_rows::one_certificate;
 use ospf_lsa::bytes_are_lsas_or_have_a_fault;
 
-/// Laws, of two routers of one island of a network: each has read its own database, in whatever order its LSAs stand and whatever
-/// their ages are, but those at MaxAge the same ones, and one profile. They have one area and one island; the certificate that
+/// Laws, of two routers of one island of a network: each has read its own database, in whatever order its LSAs stand, whatever their
+/// ages are and whatever it holds at MaxAge, but the others the same ones, and one profile. They have one area and one island; the certificate that
 /// `certify` gives the one is, byte for byte, the one that it gives the other; and the table of either is of it.
 ///
 /// Where an LSA may be at MaxAge in one database and not in the other, that alone makes two certificates.
@@ -56,7 +59,9 @@ pub fn routers_of_a_network_compute_one_certificate()
     an_lsa_without_a_fault_may_be_installed();
     lines_are_settings_or_have_a_fault();
     the_newest_records_give_an_area();
-    the_same_instances_give_the_same_area();
+    bonds_of_the_newest_records_fit();
+    what_an_island_keeps();
+    the_same_live_lsas_give_the_same_area();
     instances_differ_in_max_age_alone();
     a_router_has_one_island();
     an_island_is_that_of_each_router_in_it();

@@ -2,7 +2,8 @@
 
 ghost use Rattle.std.specs.Prelude.{◌<◌, IfOk, Contains, length};
 ghost use Rattle.mrt_graph.specs.NodeIds.{router as router_node};
-ghost use Rattle.mrt_answer.specs.{Forms.ordered, Forms.ordered_in, Texts.IsOrderOf, TextBytes.IsTextAnswer};
+ghost use Rattle.order_repair.specs.OrderText.{IsTextFrom};
+ghost use Rattle.mrt_answer.specs.{Forms.ordered, Forms.ordered_in, TextBytes.IsTextAnswer};
 
 use crate::finding::own_node;
 use crate::given::Given;
@@ -36,7 +37,7 @@ fn order_in(alloc: Global, graph: &Graph, root: NodeNo, router: u32) -> Result<T
 fn order_of(alloc: Global, graph: &Graph, root: NodeNo, source: NodeNo) -> Result<Vec<u8>, NoMemory>
     requires root { root < length graph.now.ids }
     requires source { source < length graph.now.ids }
-    ensures { IfOk result (λ text. IsOrderOf graph.now root source text.items) }
+    ensures { IfOk result (λ text. IsTextFrom graph.now root source text.items) }
 {
     let directed = directions(alloc, graph, root)?;
     order_text(alloc, graph, root, &directed, source)

@@ -19,6 +19,7 @@ use Rattle.mrt_cmd.specs.Run.{IsHealthyForText, WritesNothing}
 use Rattle.mrt_cmd.proofs.Exactly.{ComesOnce, exactly as exactly_one, exactly_missing, none_missing, refusal_comes, text_comes}
 use Rattle.mrt_cmd.proofs.FormSays.{form_says, of_some, only_verdict}
 use Rattle.mrt_cmd.proofs.Held.{given_held, refused_held}
+use Rattle.mrt_cmd.proofs.WordsOfForm.{none_spelled, words_are}
 use Rattle.mrt_cmd.proofs.WrittenPasses.{no_form}
 
 -- a refusal of the form of the words says why they give no text
@@ -35,9 +36,9 @@ module _ (words : List (List ℕ)) (shelf : ShelfInCall) (form : Form) (is : Som
       (of_some (form_of words) (λ f. MayFail shelf.held (files_of f) word) form (sym is) said.0, said.1)
   refused_words exits.NoMemory said = subst (λ (it : Option Form). IsSome it) is refl
   refused_words (exits.No rule a b) (inl refused) =
-      let of : IsRefused shelf.held words (exits.No rule a b) = inr (form, sym is, refused) in
+      let of : IsRefused shelf.held words (exits.No rule a b) = inr (form, words_are words form (sym is), refused) in
       (of, only_verdict shelf.held words rule a b of)
-  refused_words exit (inl refused) = inr (form, sym is, refused)
+  refused_words exit (inl refused) = inr (form, words_are words form (sym is), refused)
   refused_words exit (inr memory) = absurd cc
 
   pub refused_over_words : {T : Type 0} (result : Result T Exit) → IfErr result IsDueHere → IfErr result (HasNoText words shelf)
@@ -50,7 +51,7 @@ HasReason words shelf exit =
     ⊎ ((word : ℕ) × (exit ≡ exits.ReadFault word) × FailsAt shelf.held words word) ⊎ IsRefused shelf.held words exit
 
 stopped_by : (words : List (List ℕ)) (shelf : ShelfInCall) (exit : Exit) → HasNoText words shelf exit → HasReason words shelf exit
-stopped_by words shelf exits.Usage said = inr (inr (inl said.0))
+stopped_by words shelf exits.Usage said = inr (inr (inl (none_spelled words said.0)))
 stopped_by words shelf (exits.ReadFault word) said = inr (inl (word, refl, said.0))
 stopped_by words shelf (exits.No rule a b) said = inr (inr said.0)
 stopped_by words shelf exits.NoMemory said = inl (refl, said)
@@ -68,7 +69,7 @@ none_is_usage words shelf exit (inr (inr (inl usage))) none = is_usage exit usag
     is_usage : (exit : Exit) → read_as_form words (Err exit) → exit ≡ exits.Usage
     is_usage exits.Usage usage = refl
     is_usage exit usage = absurd usage
-none_is_usage words shelf exit (inr (inr (inr (form, is, refused)))) none = absurd cc
+none_is_usage words shelf exit (inr (inr (inr (form, are, refused)))) none = absurd (none_spelled words none form are)
 
 cause_of : (words : List (List ℕ)) (shelf : ShelfInCall) (out : SinkInCall) (exit : Exit) → HasNoText words shelf exit
     → out.untouched → HasCause words shelf out exit
@@ -170,7 +171,7 @@ told_of err exit silent line = line (λ is. cc)
 
 -- words that give a text are a form
 text_has_form : (held : Option Files) (words : List (List ℕ)) (text : List ℕ) → GivesText held words text → IsNone (form_of words) → ⊥
-text_has_form held words text (form, is, given) none = absurd cc
+text_has_form held words text (form, are, given) none = none_spelled words none form are
 
 -- where the words give a text
 pub written : (once : ComesOnce) (words : List (List ℕ)) (shelf : ShelfInCall) (out err : SinkInCall) (exit : Exit)

@@ -13,6 +13,7 @@ use Rattle.mrt_words.specs.declared.form.Form.TheVariants.{OfFiles, Survey, Floo
 use Rattle.mrt_words.specs.Form.{form_of}
 use Rattle.mrt_cmd.specs.Run.{WritesNothing}
 use Rattle.mrt_cmd.proofs.FormSays.{of_some}
+use Rattle.mrt_cmd.proofs.WordsOfForm.{read_as, words_are}
 
 -- one exit comes of the words at most
 abbrev pub ComesOnce : Type 0
@@ -59,7 +60,7 @@ misses_of : (files : Files) (words : List (List ℕ)) (word : ℕ) → IsRefused
     → MissesAt (Some files) words word
 misses_of files words word (inl usage) = absurd usage
 misses_of files words word (inr (form, is, refused)) =
-    of_some (form_of words) (λ it. IsFirstMissing (Some files) (files_of it) word) form is (first_missing files form word refused)
+    of_some (form_of words) (λ it. IsFirstMissing (Some files) (files_of it) word) form (read_as words form is) (first_missing files form word refused)
 
 missing_refused : (files : Files) (words : List (List ℕ)) (word : ℕ) → MissesAt (Some files) words word
     → IsRefused (Some files) words (exits.ReadFault word)
@@ -68,7 +69,7 @@ missing_refused files words word missing = go (form_of words) refl missing
     go : (o : Option Form) → form_of words ≡ o → IsSomeAnd o (λ it. IsFirstMissing (Some files) (files_of it) word)
         → IsRefused (Some files) words (exits.ReadFault word)
     go None is missing = absurd missing
-    go (Some form) is missing = inr (form, is, comes_missing files form word missing)
+    go (Some form) is missing = inr (form, words_are words form is, comes_missing files form word missing)
 
 pub exactly_missing : (held : Option Files) (words : List (List ℕ)) (result : Exit) → ComesOnce
     → Comes held words result ⊎ (result ≡ exits.NoMemory) → IsSome held

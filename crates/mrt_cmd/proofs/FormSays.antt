@@ -13,6 +13,7 @@ use Rattle.mrt_words.specs.declared.form.Form.TheVariants.{OfFiles, Survey, Floo
 use Rattle.mrt_words.specs.Form.{AsksVerdict, form_of}
 use Rattle.mrt_answer.proofs.TaskSays.{MaySay, flooded_says, over_says}
 use Rattle.mrt_cmd.specs.Comes.{IsRefused, of_form, reading}
+use Rattle.mrt_cmd.proofs.WordsOfForm.{read_as}
 
 -- what holds of the form of the words
 pub of_some : (o : Option Form) (P : Form → Type 0) (form : Form) → o ≡ Some form → P form → IsSomeAnd o P
@@ -61,4 +62,4 @@ pub only_verdict : (held : Option Files) (words : List (List ℕ)) (rule a b : �
     → IsSomeAnd (form_of words) AsksVerdict
 only_verdict held words rule a b (inl usage) = absurd usage
 only_verdict held words rule a b (inr (form, is, refused)) =
-    of_some (form_of words) AsksVerdict form is (form_says held form (exits.No rule a b) refused)
+    of_some (form_of words) AsksVerdict form (read_as words form is) (form_says held form (exits.No rule a b) refused)

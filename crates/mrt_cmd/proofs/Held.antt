@@ -19,6 +19,7 @@ use Rattle.mrt_words.specs.declared.form.Form.TheVariants.{OfFiles, Survey, Floo
 use Rattle.mrt_words.specs.declared.task.Task.TheVariants.{Check, Fabric, Upgrade, OfRouter}
 use Rattle.mrt_words.specs.Form.{Task, form_of}
 use Rattle.mrt_cmd.proofs.FormSays.{unread_says_one}
+use Rattle.mrt_cmd.proofs.WordsOfForm.{read_as}
 
 -- files that were read are held
 read_held : (files : Files) (names : Names) (bytes : FileBytes) → AreRead (Some files) names bytes
@@ -97,7 +98,7 @@ pub given_held : (held : Option Files) (words : List (List ℕ)) (text : List �
     → IsSome held → NamesHeld held words
 given_held None words text given told = absurd cc
 given_held (Some files) words text (form, is, given) told =
-    names_held (Some files) words form is (text_held files form text given)
+    names_held (Some files) words form (read_as words form is) (text_held files form text given)
 
 -- of words that are refused
 pub refused_held : (held : Option Files) (words : List (List ℕ)) (exit : Exit) → IsRefused held words exit
@@ -109,4 +110,4 @@ refused_held (Some files) words exit (inl usage) told of = absurd (not_usage exi
     not_usage exits.Usage usage of = of
     not_usage exit usage of = usage
 refused_held (Some files) words exit (inr (form, is, refused)) told of =
-    names_held (Some files) words form is (refused_form files form exit of refused)
+    names_held (Some files) words form (read_as words form is) (refused_form files form exit of refused)

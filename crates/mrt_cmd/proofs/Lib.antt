@@ -8,4 +8,5 @@ pub mod OfWords
 pub mod OneExit
 pub mod SurveyExits
 pub mod ToldAlike
+pub mod WordsOfForm
 pub mod WrittenPasses

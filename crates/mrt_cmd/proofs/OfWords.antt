@@ -14,19 +14,20 @@ use Rattle.mrt_answer.specs.declared.text.Text.{Text}
 use Rattle.mrt_answer.specs.TextBytes.{HasText}
 use Rattle.mrt_answer.proofs.TextsHeld.{answer_has_also}
 use Rattle.mrt_cmd.specs.Comes.{Comes, GivesText, NamesHeld, of_form}
+use Rattle.mrt_cmd.proofs.WordsOfForm.{words_are}
 
 module _ (held : Option Files) (words : List (List ℕ)) (form : Form) (is : Some form ≡ form_of words) where
   pub text_of_words : (answer : Result Text Exit) → IfOk answer (HasText (λ text. of_form held form (Ok text)))
       → IfOk answer (HasText (GivesText held words))
   text_of_words answer given =
-      answer_has_also (λ text. of_form held form (Ok text)) (GivesText held words) (λ text of. (form, sym is, of)) answer given
+      answer_has_also (λ text. of_form held form (Ok text)) (GivesText held words) (λ text of. (form, words_are words form (sym is), of)) answer given
 
   pub comes_of_words : {T : Type 0} (answer : Result T Exit) → IfErr answer (IsDue (λ exit. of_form held form (Err exit)))
       → IfErr answer (λ exit. Comes held words exit ⊎ (exit ≡ exits.NoMemory))
   comes_of_words answer said = if_err answer (IsDue (λ exit. of_form held form (Err exit))) _ go said
     where
       go : (exit : Exit) → IsDue (λ due. of_form held form (Err due)) exit → Comes held words exit ⊎ (exit ≡ exits.NoMemory)
-      go exit (inl refused) = inl (Err exit, inr (form, sym is, refused), refl)
+      go exit (inl refused) = inl (Err exit, inr (form, words_are words form (sym is), refused), refl)
       go exit (inr memory) = inr memory
 
   pub there_of_words : NamesHeld held words → AreThere held (files_of form)

@@ -15,6 +15,7 @@ use Rattle.mrt_answer.specs.Surveyed.{IsSurveyed}
 use Rattle.mrt_answer.proofs.OneReading.{held_once}
 use Rattle.mrt_cmd.specs.Comes.{Comes, exit_of, of_form, of_words, read_as_form, reading}
 use Rattle.mrt_cmd.proofs.FromFiles.{one_reading}
+use Rattle.mrt_cmd.proofs.WordsOfForm.{read_as}
 
 -- the laws of the layer below on answers
 pub record AnswerLaws : Type 0 where
@@ -24,7 +25,7 @@ pub record AnswerLaws : Type 0 where
       → IsSurveyed number nodes other → text ≡ other
 
 one_form : (words : List (List ℕ)) → IsOne (read_as_form words)
-one_form words = one_value_or_exit (read_as_form words) (λ form other one two. held_once form other (form_of words) one two) ends no
+one_form words = one_value_or_exit (read_as_form words) (λ form other one two. held_once form other (form_of words) (read_as words form one) (read_as words other two)) ends no
   where
     ends : (e d : Exit) → read_as_form words (Err e) → read_as_form words (Err d) → e ≡ d
     ends exits.Usage exits.Usage one two = refl
@@ -32,7 +33,7 @@ one_form words = one_value_or_exit (read_as_form words) (λ form other one two. 
     ends e d one two = absurd one
 
     no : (form : Form) (e : Exit) → read_as_form words (Ok form) → read_as_form words (Err e) → ⊥
-    no form exits.Usage is none = absurd cc
+    no form exits.Usage is none = none form is
     no form e is none = none
 
 module _ (laws : AnswerLaws) (files : Files) where

@@ -13,6 +13,7 @@ use Rattle.mrt_answer.specs.Forms.{flooded}
 use Rattle.mrt_cmd.specs.Comes.{GivesText, of_form}
 use Rattle.mrt_cmd.specs.Headline.{FloodsAlike}
 use Rattle.mrt_cmd.proofs.FromFiles.{files_once}
+use Rattle.mrt_cmd.proofs.WordsOfForm.{read_as}
 
 -- the law of the layer below on the text of such bytes
 abbrev pub AlikeLaw : Type 0
@@ -24,7 +25,7 @@ module _ (law : AlikeLaw) (files : Files) (words : List (List ℕ)) (text : List
     (given : GivesText (Some files) words text) (alike : FloodsAlike files words) where
   given_form : of_form (Some files) (Flood alike.form) (Ok text)
   given_form = subst (λ (form : Form). of_form (Some files) form (Ok text))
-      (same_Some given.0 (Flood alike.form) (sym given.1 ∙ alike.words_are)) given.2
+      (same_Some given.0 (Flood alike.form) (sym (read_as words given.0 given.1) ∙ read_as words (Flood alike.form) alike.words_are)) given.2
 
   pub told_alike : IsToldAlike (Says alike.held.settings) alike.held.updates alike.held.script alike.compares text
   told_alike =

@@ -20,6 +20,7 @@ use Rattle.mrt_words.specs.declared.task.Task.TheVariants.{Check, Upgrade, OfRou
 use Rattle.mrt_words.specs.Form.{Task, form_of, profile_name}
 use Rattle.mrt_cmd.specs.Headline.{ChecksWritten, IsPassed, profile_held}
 use Rattle.mrt_cmd.specs.Run.{WritesNothing}
+use Rattle.mrt_cmd.proofs.WordsOfForm.{read_as, words_are}
 
 -- a form over files of these words
 abbrev form_with : List ℕ → List ℕ → Task → FileForm
@@ -92,7 +93,8 @@ written_passes laws files words w =
     let certify : IsCertifyForm (Some w.written.files) w.written.database w.written.profile w.written.text =
     certify_form (Some w.written.files) w.written.database w.written.profile w.written.text
     (nat_lt 0 (length w.written.database) && nat_lt 0 (length w.written.profile)) (address_in w.written.router)
-    w.written.gave.0 w.written.gave.1 w.written.gave.2 in
+    w.written.gave.0
+    (read_as (codes "certify" ∷ w.written.database ∷ w.written.profile ∷ w.written.router ∷ []) w.written.gave.0 w.written.gave.1) w.written.gave.2 in
     let bytes : FileBytes = certify.gives.0 in
     let read : AreRead (Some w.written.files) (task_names (form_with w.written.database w.written.profile (OfRouter (Certify certify.router)))) bytes =
     certify.gives.1 in
@@ -108,7 +110,8 @@ written_passes laws files words w =
             accepted.0,
             (
               OfFiles (form_with w.database w.profile (Check w.certificate)),
-              check_form words w.command w.database w.profile w.certificate asks w.words_are w.named,
+              words_are words (OfFiles (form_with w.database w.profile (Check w.certificate)))
+                  (check_form words w.command w.database w.profile w.certificate asks w.words_are w.named),
               (
                 with_last bytes w.written.text,
                 record { first_read = first_read; profile_read = profile_read; last_read = (w.held, short) },
@@ -120,7 +123,8 @@ written_passes laws files words w =
         w.written.text,
         (
           OfFiles (form_with w.database w.profile (Upgrade w.certificate)),
-          upgrade_form words w.command w.database w.profile w.certificate asks w.words_are w.named,
+          words_are words (OfFiles (form_with w.database w.profile (Upgrade w.certificate)))
+              (upgrade_form words w.command w.database w.profile w.certificate asks w.words_are w.named),
           (
             with_last bytes w.written.text,
             record { first_read = first_read; profile_read = profile_read; last_read = (w.held, short) },

@@ -1,5 +1,5 @@
 -- What comes of the words over the files that they name, where memory suffices and no device fails.
-use Rattle.std.specs.Prelude.{◌≡◌, ℕ, List, Option, Result, Ok, Err, Some, IfSome, IsNone}
+use Rattle.std.specs.Prelude.{◌≡◌, ℕ, List, Option, Result, Ok, Err, IfSome}
 use Rattle.std.specs.Option.{IsSomeAnd}
 use Rattle.mrt_io.specs.Holding.{Files}
 use Rattle.mrt_exit.specs.Steps.{Step, such, ◌▸◌}
@@ -10,13 +10,14 @@ use Rattle.mrt_words.specs.Files.{Names, files_in, files_of, flood_names, task_n
 use Rattle.mrt_words.specs.declared.form.Form.{Form}
 use Rattle.mrt_words.specs.declared.form.Form.TheVariants.{OfFiles, Survey, Flood}
 use Rattle.mrt_words.specs.Form.{form_of}
+use Rattle.mrt_words.specs.Spellings.{AreWordsOf}
 use Rattle.mrt_answer.specs.Forms.{flooded, over}
 use Rattle.mrt_answer.specs.Surveyed.{IsSurveyed}
 
--- the form that the words are, or the usage
+-- the form that the words spell, or the usage, where they spell none
 abbrev pub read_as_form : List (List ℕ) → Step Form
-read_as_form words (Ok form) = form_of words ≡ Some form
-read_as_form words (Err Usage) = IsNone (form_of words)
+read_as_form words (Ok form) = AreWordsOf form words
+read_as_form words (Err Usage) = (form : Form) → AreWordsOf form words → ⊥
 read_as_form words (Err _) = ⊥
 
 -- the bytes of the files of these names, or what comes of reading them, where not all of them are read

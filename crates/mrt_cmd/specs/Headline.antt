@@ -11,7 +11,8 @@ use Rattle.mrt_words.specs.Files.{flood_names}
 use Rattle.mrt_answer.specs.Reading.{HoldsFlood}
 use Rattle.mrt_words.specs.declared.form.FloodForm.{FloodForm}
 use Rattle.mrt_words.specs.declared.form.Form.TheVariants.{Flood}
-use Rattle.mrt_words.specs.Form.{form_of, profile_name}
+use Rattle.mrt_words.specs.Form.{profile_name}
+use Rattle.mrt_words.specs.Spellings.{AreWordsOf}
 
 -- what a word for a profile stands for: no bytes where it names none, else those that are held
 abbrev pub profile_held : Files → List ℕ → Option (List ℕ)
@@ -53,7 +54,7 @@ IsPassed _ = ⊥
 -- before brought the same LSAs, or after which flooding is done
 pub record FloodsAlike (files : Files) (words : List (List ℕ)) : Type 0 where
   pub form : FloodForm
-  pub words_are : form_of words ≡ Some (Flood form)
+  pub words_are : AreWordsOf (Flood form) words
   pub bytes : FileBytes
   pub read : AreRead (Some files) (flood_names form) bytes
   pub held : HoldsFlood bytes

@@ -5,7 +5,7 @@ mod program;
 mod run_law;
 
 pub use mrt_answer::{
-    made_networks_are_taken, routers_of_a_network_compute_one_certificate,
+    a_verdict_comes, made_networks_are_taken, routers_of_a_network_compute_one_certificate,
     what_steps_read_fits_together,
 };
 pub use mrt_exit::{DbKind, Exit, Line, What};

@@ -1,3 +1,4 @@
 pub mod Asked
 pub mod Gaining
+pub mod Known
 pub mod Places

@@ -175,6 +175,10 @@ impl From<OpenError> for ShelfError {
 }
 
 impl From<NoMemory> for ShelfError {
+    ghost use Rattle.mrt_io.specs.declared.device.ShelfError.TheVariants.{NoMemory as no_memory};
+
+    ghost from_gives = { λ _ error. error ≡ no_memory };
+
     fn from(_: NoMemory) -> ShelfError {
         ShelfError::NoMemory
     }

@@ -1,5 +1,6 @@
-ghost use Rattle.std.specs.Prelude.{◌≡◌, ◌≤◌, ◌<◌, ◌^◌, IfOk, length, vec_len};
-ghost use Rattle.mrt_io.specs.Memory.{counted as fault_counted};
+ghost use Rattle.std.specs.Prelude.{◌≡◌, ◌≢◌, ◌≤◌, ◌<◌, ◌^◌, IfErr, IfOk, IfSome, IsErrOf, length, vec_len};
+ghost use Rattle.std.specs.Io.KnownBytes.{ReadConsumes};
+ghost use Rattle.mrt_io.specs.{Left.IsReadOn, Memory.counted as fault_counted};
 
 use crate::device::{OpenError, Shelf, ShelfError, ShelfFailed};
 use crate::piece::zeros;
@@ -12,8 +13,9 @@ use std::{fs, io, str};
 /// How many bytes one call of the system asks for at most.
 const PIECE: usize = 65536;
 
-/// The machine's files. A name is a path, and what it holds is not told; it counts as never healthy. So no clause says
-/// what is read: tests do.
+/// The machine's files. A name is a path, and what it holds is not told, since no contract of the library says which bytes
+/// the file of a path has; it counts as never healthy. What is read of a file that was opened is what that file tells of
+/// itself (`read_all`, `read_some`); that of the machine tells nothing, so tests say what is read.
 #[derive(Drop)]
 pub struct FileShelf<'a, R: Files> {
     rt: &'a R,
@@ -108,11 +110,13 @@ fn open_file<R: Files>(rt: &R, name: &Word) -> Result<R::File, OpenError> {
     })
 }
 
-/// Reads the next bytes of a file into the front of a piece, and answers how many.
+/// Reads the next bytes of a file into the front of a piece, and answers how many. Where the file tells what it has left, these
+/// are its first bytes, and none only where none is left.
 fn read_some<F: Read>(file: &mut F, piece: &mut [u8]) -> Result<u32, ShelfFailed>
     requires { length piece.old < 2 ^ 32 }
     ensures length { length piece.new ≡ length piece.old }
     ensures within { IfOk result (λ count. count ≤ length piece.old) }
+    ensures bytes { ReadConsumes (F.remaining file.old) (F.remaining file.new) result piece.new }
 {
     for _ in 0..u64::MAX {
         match file.read(piece) {
@@ -124,7 +128,7 @@ fn read_some<F: Read>(file: &mut F, piece: &mut [u8]) -> Result<u32, ShelfFailed
     Err(ShelfFailed)
 }
 
-/// The bytes of a file, of which at most one more than the limit are read.
+/// The bytes of the file of this name, which has at most `limit`.
 fn read_file<R: Files>(
     rt: &R,
     alloc: Global,
@@ -134,15 +138,23 @@ fn read_file<R: Files>(
     ensures { IfOk result (λ file. vec_len file ≤ limit) }
 {
     let mut file = open_file(rt, name)?;
+    read_all(&mut file, alloc, limit)
+}
+
+/// All bytes that a file has left, of which at most one more than the limit are read. Where the file tells what it has left,
+/// these are all of that, and there are more than the limit where it is said to be too long.
+fn read_all<F: Read>(file: &mut F, alloc: Global, limit: u32) -> Result<Vec<u8>, ShelfError>
+    ensures within { IfOk result (λ bytes. vec_len bytes ≤ limit) }
+    ensures all { IfOk result (λ bytes. IfSome (F.remaining file.old) (λ left. bytes.items ≡ left)) }
+    ensures too_long { IsErrOf result ShelfError.TooLong
+        → IfSome (F.remaining file.old) (λ left. limit < length left) }
+{
     let mut bytes = Vec::new(alloc);
     let mut piece = zeros(alloc, PIECE)?;
     for _ in 0..u64::MAX {
         let wanted = (limit as usize + 1 - bytes.len()).min(PIECE);
-        match file.read(&mut piece[..wanted]) {
-            Ok(0) => return Ok(bytes),
-            Ok(count) => bytes.extend_from_slice(&piece[..count])?,
-            Err(error) if error.kind() == ErrorKind::Interrupted => {}
-            Err(error) => return Err(cause_of(&error)),
+        if !read_on(file, &mut bytes, &mut piece[..wanted])? {
+            return Ok(bytes);
         }
         if bytes.len() > limit as usize {
             return Err(ShelfError::TooLong);
@@ -151,8 +163,29 @@ fn read_file<R: Files>(
     Err(ShelfError::Failed)
 }
 
+/// Reads into a piece, puts what was read at the end of the bytes, and answers whether more may be left.
+fn read_on<F: Read>(file: &mut F, bytes: &mut Vec<u8>, piece: &mut [u8]) -> Result<bool, ShelfError>
+    requires some { 0 < length piece.old }
+    ensures length { length piece.new ≡ length piece.old }
+    ensures on { IfOk result
+        (IsReadOn (F.remaining file.old) (F.remaining file.new) (length piece.old) bytes.old.items bytes.new.items) }
+    ensures error { IfErr result (λ error. error ≢ ShelfError.TooLong) }
+{
+    match file.read(piece) {
+        Ok(0) => Ok(false),
+        Ok(count) => {
+            bytes.extend_from_slice(&piece[..count])?;
+            Ok(true)
+        }
+        Err(error) if error.kind() == ErrorKind::Interrupted => Ok(true),
+        Err(error) => Err(cause_of(&error)),
+    }
+}
+
 /// Want of memory is no fault of the files.
-fn cause_of(error: &io::Error) -> ShelfError {
+fn cause_of(error: &io::Error) -> ShelfError
+    ensures { result ≢ ShelfError.TooLong }
+{
     if error.kind() == ErrorKind::OutOfMemory {
         ShelfError::NoMemory
     } else {

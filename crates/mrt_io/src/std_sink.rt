@@ -1,10 +1,12 @@
 ghost use Rattle.std.specs.Prelude.{◌≤◌, ◌<◌, ◌^◌, IfOk, length};
+ghost use Rattle.std.specs.Io.KnownBytes.{WriteAppends};
 
 use crate::device::{PutFailed, Sink};
 use std::io::{ErrorKind, Write};
 
 /// A stream of the machine, as standard output or standard error. What was written to it is not told, and it counts as
-/// never healthy. So no clause says what is written: tests do.
+/// never healthy. What a stream tells of itself grows by just what is taken (`write_some`); those of the machine tell
+/// nothing, so tests say what is written.
 #[derive(Drop)]
 pub struct StdSink<W: Write + Drop> {
     writer: W,
@@ -42,11 +44,13 @@ impl<W: Write + Drop> Sink for StdSink<W> {
     }
 }
 
-/// Writes the first bytes of a piece, and answers how many. A stream that takes nothing of it has failed.
+/// Writes the first bytes of a piece, and answers how many. A stream that takes nothing of it has failed. What the stream
+/// tells that it holds grows by just these bytes.
 fn write_some<W: Write>(writer: &mut W, piece: &[u8]) -> Result<u32, PutFailed>
     requires { length piece.now < 2 ^ 32 }
     ensures within { IfOk result (λ taken. taken ≤ length piece.now) }
     ensures some { IfOk result (λ taken. 0 < length piece.now → 1 ≤ taken) }
+    ensures contents { WriteAppends (W.contents writer.old) (W.contents writer.new) result piece.now }
 {
     for _ in 0..u64::MAX {
         match writer.write(piece) {

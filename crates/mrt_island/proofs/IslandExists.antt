@@ -2,30 +2,22 @@
 use Rattle.std.proofs.Common.{◌≡◌, ◌⊎◌, ◌↔◌, ◌∙◌, ◌<◌, ◌≤◌, ◌+◌, ◌==◌, ℕ, zero, suc, Bool, true, false, List, [], ◌∷◌, Option, Some, None, get_or, length, map, slice_get, inl, inr, refl, sym, ap, subst, arith}
 use Rattle.std.specs.Prelude.{Contains, slice_index_or}
 use Rattle.std.specs.List.{list_any, range_with_len}
-use Rattle.std.specs.Cmp.{IsTotalOrder}
 use Rattle.std.proofs.lemmas.Bool.{cases_Bool, cases_eq, cases_lt, eq-eqb, eqb-true}
-use Rattle.std.proofs.lemmas.Cmp.{nat_cmp_total, on_total, then_total}
 use Rattle.std.proofs.lemmas.List.{get_or_past}
 use Rattle.std.proofs.lemmas.List.FromFn.{get_or-map-range_with_len, get_or-range_with_len, length-map-range_with_len, length-range_with_len}
-use Rattle.std.proofs.lemmas.Option.{get_or_from_slice_get, same_Some, slice_get-get_or, slice_get_within}
-use Rattle.mrt_graph.specs.EndsOfLinks.{ends_at, pair_of}
-use Rattle.mrt_graph.specs.InOrder.{in_order}
-use Rattle.mrt_graph.specs.InterfaceOrder.{interface_cmp}
+use Rattle.std.proofs.lemmas.Option.{same_Some, slice_get-get_or, slice_get_within}
 use Rattle.mrt_graph.specs.Leads.{far_node}
-use Rattle.mrt_graph.specs.NewGraph.{AreInOrder, IsGraphOf}
 use Rattle.mrt_graph.specs.NodeIds.{router as router_node}
 use Rattle.mrt_graph.specs.Reachable.{Reachable}
 use Rattle.mrt_graph.specs.Search.{IsMarked}
 use Rattle.mrt_graph.specs.Topology.{Topology}
-use Rattle.mrt_graph.specs.declared.link.End.{End}
-use Rattle.mrt_graph.specs.declared.link.LinkIn.{LinkIn}
 use Rattle.mrt_graph.specs.declared.node_id.Kind.{Kind}
 use Rattle.mrt_graph.specs.declared.node_id.Kind.TheVariants as kinds
 use Rattle.mrt_graph.specs.declared.node_id.NodeId.{NodeId}
-use Rattle.mrt_graph.proofs.InOrder.{in_order_moves, in_order_sorted}
 use Rattle.mrt_graph.proofs.ListPlaces.{place_of}
 use Rattle.mrt_graph.proofs.ListTests.{all_at, there}
 use Rattle.mrt_graph.proofs.Members.{Has, contains_from_has, has_at}
+use Rattle.mrt_graph.proofs.OneGraph.{graph_exists}
 use Rattle.mrt_graph.proofs.Settled.{reachable_onward, settled_is_reachable}
 use Rattle.area_graph.specs.AreaInvariant.{IsArea, IsBond}
 use Rattle.area_graph.specs.Parts.{AreaParts}
@@ -382,39 +374,7 @@ root_exists policy ids has = elim (first_of policy ids (length ids) (omega arith
   | inr none ↦ absurd (none has.place has.id (slice_get_within ids has.place has.id has.there) has.there has.router)
 ]
 
--- ---- its graph
-
-interface_total : IsTotalOrder interface_cmp
-interface_total =
-    then_total (then_total (on_total (λ end. end.metric) nat_cmp_total) (on_total (λ end. end.to) nat_cmp_total)) (on_total (λ end. end.link) nat_cmp_total)
-
-abbrev ends_in_order : List LinkIn → ℕ → List End
-ends_in_order links n = in_order interface_cmp (ends_at n 0 links)
-
-graph_exists : (ids : List NodeId) (links : List LinkIn) → (graph : Topology) × IsGraphOf ids links graph
-graph_exists ids links = (
-  record { ids = ids; links = map pair_of links; ends = map (ends_in_order links) (range_with_len 0 (length ids)) },
-  record {
-    same_ids = refl;
-    same_links = refl;
-    end_lists = record {
-      a_list_each = length-map-range_with_len (ends_in_order links) 0 (length ids);
-      ends = λ n ends at.
-          let upper : n < length ids = omega (
-            arith,
-            slice_get_within (map (ends_in_order links) (range_with_len 0 (length ids))) n ends at,
-            length-map-range_with_len (ends_in_order links) 0 (length ids),
-          ) in
-          let same : ends_in_order links n ≡ ends =
-          sym (get_or-map-range_with_len (ends_in_order links) 0 (length ids) n n [] upper (omega arith))
-          ∙ get_or_from_slice_get (map (ends_in_order links) (range_with_len 0 (length ids))) n ends [] at in
-          subst (AreInOrder (ends_at n 0 links)) same (record {
-            same = in_order_moves interface_cmp (ends_at n 0 links);
-            ascending = in_order_sorted interface_cmp interface_total (ends_at n 0 links);
-          });
-    };
-  },
-)
+-- ---- its island
 
 pub island_exists : (policy : Policy) (area : AreaParts) (router : ℕ) → IsArea area → Contains area.ids (router_node router)
     → policy.supports router ≡ true

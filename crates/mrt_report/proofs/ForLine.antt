@@ -50,7 +50,7 @@ row_there links rows color s t on = go (rows s t) on
     go None some = cc
     go (Some row) some = refl
 
-found_there : {X : Type 0} (o : Option X) → IsSome o → (x : X) × (o ≡ Some x)
+pub found_there : {X : Type 0} (o : Option X) → IsSome o → (x : X) × (o ≡ Some x)
 found_there None some = cc
 found_there (Some x) some = (x, refl)
 
@@ -71,7 +71,7 @@ end_found g s e ends kept list touches =
     ]
 
 -- an entry for another node of the island is a primary
-primary_there : (area : AreaParts) (island : Topology) (link_of : List (Option ℕ)) → IsArea area → IsTopology island → Fits area island link_of
+pub primary_there : (area : AreaParts) (island : Topology) (link_of : List (Option ℕ)) → IsArea area → IsTopology island → Fits area island link_of
     → (source to spot : ℕ) (primaries : List (Option Primary)) (entry : Option Primary) → source < length island.ids → to < length island.ids → source ≢ to
     → AreItsPrimaries area island source primaries → IsSpotOf area island spot to → slice_get primaries spot ≡ Some entry → IsSome entry
 primary_there area island link_of area_kept island_kept fits source to spot primaries entry own_within within other own at is =

@@ -7,4 +7,5 @@ pub mod IslandWalks
 pub mod OneLine
 pub mod OneTable
 pub mod SecondRepairs
+pub mod SomeTable
 pub mod Telling

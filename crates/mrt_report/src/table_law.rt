@@ -1,10 +1,10 @@
 //! What holds of the tables of each router.
 
-ghost use Rattle.std.specs.Prelude.{◌≡◌, ◌++◌, ℕ, List, length};
+ghost use Rattle.std.specs.Prelude.{◌≡◌, ◌≢◌, ◌<◌, ◌++◌, ℕ, List, IsSome, length};
 ghost use Rattle.std.specs.List.{AllZip, concat};
-ghost use Rattle.area_graph.specs.AreaInvariant.{IsArea};
-ghost use Rattle.mrt_graph.specs.GraphInvariant.{IsTopology};
-ghost use Rattle.mrt_report.specs.{ByColumn.IsLineByColumn, TableParts.TableParts};
+ghost use Rattle.area_graph.specs.{AreaInvariant.IsArea, Fits.Fits};
+ghost use Rattle.mrt_graph.specs.{Certificate.row_of, GraphInvariant.IsTopology, Hop.color_hop, declared.cert.Color.Color};
+ghost use Rattle.mrt_report.specs.{ByColumn.IsLineByColumn, TableParts.AreItsPrimaries, TableParts.TableParts};
 ghost use Rattle.mrt_report.specs.TableText.{IsHead, IsTableText, others};
 
 use primary_alt::one_alternate_each;
@@ -18,9 +18,16 @@ pub fn lines_make_the_table()
         → IsTableText parts root (head ++ concat lines) }
 {}
 
-/// A law: a router has one table at most.
+/// Laws: a router has one table at most; where what it is made from belongs together, and from each node both colors lead on to
+/// each other one, it has one.
 pub fn one_table_each()
-    ensures { (parts : TableParts) (root : ℕ) (text other : List ℕ) → IsArea parts.area
+    ensures some { (parts : TableParts) (root : ℕ) → IsArea parts.area → IsTopology parts.island
+        → Fits parts.area parts.island parts.link_of
+        → ((color : Color) (s t : ℕ) → s < length parts.island.ids → t < length parts.island.ids → s ≢ t
+        → IsSome (color_hop parts.island.links (row_of parts.cert) color t s))
+        → AreItsPrimaries parts.area parts.island parts.source parts.primaries → root < length parts.island.ids
+        → (text : List ℕ) × IsTableText parts root text }
+    ensures one { (parts : TableParts) (root : ℕ) (text other : List ℕ) → IsArea parts.area
         → IsTopology parts.island → IsTableText parts root text → IsTableText parts root other
         → text ≡ other }
 {

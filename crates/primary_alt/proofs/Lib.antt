@@ -28,4 +28,5 @@ pub mod RouterFacts
 pub mod RoutesGiven
 pub mod RowRelaxed
 pub mod RowsInto
+pub mod SomeAlternate
 pub mod TurnedWalks

@@ -28,9 +28,11 @@ pub fn no_alternate_for_ends_and_what_separates()
         → (answer ≡ None) ↔ ((¬ IsNeitherEnd x s t) ⊎ Separates links x s t) }
 {}
 
-/// A law: for each failure there is one alternate at most, a color or none.
+/// Laws: for each failure there is exactly one alternate, a color or none.
 pub fn one_alternate_each()
-    ensures { (links : List Link) (n : ℕ) (rows : Rows) (s t : ℕ) (failed : Option Element)
+    ensures some { (links : List Link) (n : ℕ) (rows : Rows) (s t : ℕ) (failed : Option Element)
+        → (answer : Option Color) × IsAlternate links n rows s t failed answer }
+    ensures one { (links : List Link) (n : ℕ) (rows : Rows) (s t : ℕ) (failed : Option Element)
         (answer other : Option Color) → IsAlternate links n rows s t failed answer
         → IsAlternate links n rows s t failed other → answer ≡ other }
 {}

@@ -1,3 +1,4 @@
+use Rattle.flood_core.proofs.DeliveredFit.{bodies_delivered, ids_delivered}
 use Rattle.flood_core.proofs.RunsAsLists.{database_law, entries_law, newest_law, settled_law, numbers_law, kept_law}
 use Rattle.flood_core.proofs.run_law.a_database_is_that_of_what_was_delivered.Goals as goal
 
@@ -9,4 +10,6 @@ returns c = record {
   settled = settled_law;
   numbers = numbers_law;
   kept = kept_law;
+  bodies = bodies_delivered;
+  ids = ids_delivered;
 }

@@ -35,6 +35,9 @@ laws c = record {
   areas = record {
     stands = c.an_lsa_without_a_fault_may_be_installed.ensures;
     area = c.the_newest_records_give_an_area.ensures;
+    bonds = c.bonds_of_the_newest_records_fit.ensures;
+    graph = c.what_an_island_keeps.ensures.graph;
+    fits = c.what_an_island_keeps.ensures.fits;
   };
   islands = c.a_router_has_one_island.ensures.one;
   certificates = c.one_certificate.ensures.one;

@@ -6,6 +6,9 @@ areas : goal.After-one_spelling → AreaLaws
 areas c = record {
   stands = c.an_lsa_without_a_fault_may_be_installed.ensures;
   area = c.the_newest_records_give_an_area.ensures;
+  bonds = c.bonds_of_the_newest_records_fit.ensures;
+  graph = c.what_an_island_keeps.ensures.graph;
+  fits = c.what_an_island_keeps.ensures.fits;
 }
 
 pub returns-clause-check : goal.returns-clause-check

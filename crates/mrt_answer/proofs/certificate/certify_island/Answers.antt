@@ -15,7 +15,6 @@ returns c =
     let computed : IsComputed island.graph island.root (cert_text file) = record {
       file = file;
       certificate = record {
-        kept = c.in_ok-new.ensures.kept;
         computed = some.1;
         accepted = accepted;
         sound = c.accepted_implies_sound.ensures island.graph island.root file accepted;

@@ -19,8 +19,12 @@ laws c = record {
   areas = record {
     stands = c.an_lsa_without_a_fault_may_be_installed.ensures;
     area = c.the_newest_records_give_an_area.ensures;
+    bonds = c.bonds_of_the_newest_records_fit.ensures;
+    graph = c.what_an_island_keeps.ensures.graph;
+    fits = c.what_an_island_keeps.ensures.fits;
   };
-  same = c.the_same_instances_give_the_same_area.ensures;
+  same = c.the_same_live_lsas_give_the_same_area.ensures.same;
+  live = c.the_same_live_lsas_give_the_same_area.ensures.instances;
   differ = c.instances_differ_in_max_age_alone.ensures;
   islands = c.a_router_has_one_island.ensures.one;
   each = c.an_island_is_that_of_each_router_in_it.ensures;

@@ -1,10 +1,7 @@
-use Rattle.mrt_words.proofs.HandedOn.{if_ok}
 use Rattle.mrt_answer.proofs.order.order_of.Goals as goal
 
 pub returns : goal.returns
-returns c =
-    if_ok c.order_text.result _ _ (c.order_text.ensures.of_graph c.in_ok-directed.ensures.made)
-    (λ text spelled. (c.directions.ensures.kept, spelled))
+returns c = c.order_text.ensures.of_graph c.in_ok-directed.ensures.made
 
 pub directions-requires : goal.directions-requires
 directions-requires c = c.requires.root

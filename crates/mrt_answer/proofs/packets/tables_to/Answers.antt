@@ -25,7 +25,7 @@ returns c =
     let parts : FabricParts = parts_with net.area net.island.graph (rows_in c.in_ok-rows.rows) routes in
     let kept : ArePartsKept parts = record {
       area_kept = c.count-count.ensures.kept;
-      island_kept = own.certificate.kept;
+      island_kept = c.node_count.ensures.kept;
       fits = c.in_ok-routes.ensures.made.fits;
     } in
     record {

@@ -15,7 +15,6 @@ returns c =
     let file = file_of root.0 c.in_ok-cert.cert in
     let accepted = c.in_ok-cert.ensures.accepted root.0 root.1 in
     let certificate : IsComputedFile c.args.graph.now c.args.root file = record {
-      kept = c.in_ok-cert.ensures.kept;
       computed = c.in_ok-cert.ensures.cert root.0 root.1;
       accepted = accepted;
       sound = c.accepted_implies_sound.ensures c.args.graph.now c.args.root file accepted;

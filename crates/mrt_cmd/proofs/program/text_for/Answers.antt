@@ -5,6 +5,7 @@ use Rattle.mrt_exit.specs.declared.exit.Exit.TheVariants.{Usage}
 use Rattle.mrt_cmd.specs.Causes.{shelf_over}
 use Rattle.mrt_cmd.proofs.Causes.{refused_over_words}
 use Rattle.mrt_cmd.proofs.OfWords.{comes_of_words, survey_of_words, text_of_words, there_of_words}
+use Rattle.mrt_cmd.proofs.WordsOfForm.{none_spelled}
 use Rattle.mrt_cmd.proofs.program.text_for.Goals as goal
 
 -- A refusal of the form says why the words give no text.
@@ -55,4 +56,4 @@ returns-in-Some-clause-unchanged g c = c.text_of.ensures.reads.unchanged
 -- Words of no form come to the usage.
 pub returns-in-None-clause-comes : goal.returns-in-None-clause-comes
 returns-in-None-clause-comes g c = λ spared.
-    inl (Err Usage, inl (subst (λ (o : Option Form). IsNone o) c.in-None.ensures.form refl), refl)
+    inl (Err Usage, inl (none_spelled c.args.words.now (subst (λ (o : Option Form). IsNone o) c.in-None.ensures.form refl)), refl)
