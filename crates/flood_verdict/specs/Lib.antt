@@ -1,3 +1,4 @@
 pub mod Says
 pub mod Found
 pub mod Alike
+pub mod OfLsas

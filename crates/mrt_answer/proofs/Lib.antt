@@ -1,3 +1,4 @@
+pub mod AnswersCome
 pub mod CertifiedPasses
 pub mod ComputedColumns
 pub mod Databases
@@ -8,6 +9,7 @@ pub mod OneNetwork
 pub mod OneProxy
 pub mod OneReading
 pub mod OneTable
+pub mod OthersCome
 pub mod OwnPlaces
 pub mod PacketsServed
 pub mod ProxyBetween
@@ -17,5 +19,4 @@ pub mod TextSteps
 pub mod TextsHeld
 pub mod ToldAlike
 pub mod Upgrades
-pub mod VerdictComes
 pub mod WantedNodes

@@ -11,7 +11,7 @@ use Rattle.area_graph.specs.Fits.{Fits}
 use Rattle.area_graph.specs.Parts.{AreaParts}
 use Rattle.area_graph.specs.Ranges.{FitsBond}
 use Rattle.cert_format.specs.CertText.{cert_text}
-use Rattle.fabric.specs.FabricParts.{ArePartsKept, FabricParts}
+use Rattle.fabric.specs.FabricParts.{ArePartsKept, AreRowsFor, FabricParts}
 use Rattle.fabric.specs.Served.{AreRowsOn}
 use Rattle.fabric.specs.declared.event.Event.{Event}
 use Rattle.fabric_runs.specs.RunTexts.{IsScriptText, IsTraceText}
@@ -199,14 +199,17 @@ parts_fit laws policy area kept fit number island is parts are =
     }
 
 -- and there are rows for all destinations
-pub rows_for_all : (area : AreaParts) (island : Island) (parts : FabricParts) → ArePartsIn area island parts → (events : List Event)
-    → AreRowsOn parts events
-rows_for_all area island parts are events at to entry among = λ d is. record {
+pub rows_there : (area : AreaParts) (island : Island) (parts : FabricParts) → ArePartsIn area island parts → (t : ℕ) → AreRowsFor parts t
+rows_there area island parts are t = λ d is. record {
   cert = are.file.cert;
   accepted = subst (λ (g : Topology). IsAcceptedFor g are.file.cert) (sym are.island_is)
       (accepted_for island.graph island.root are.file are.certificate);
   same = λ s i. are.rows_are i s d;
 }
+
+pub rows_for_all : (area : AreaParts) (island : Island) (parts : FabricParts) → ArePartsIn area island parts → (events : List Event)
+    → AreRowsOn parts events
+rows_for_all area island parts are events at to entry among = rows_there area island parts are to
 
 -- ---- the area, the island and routers of them
 

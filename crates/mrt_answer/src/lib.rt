@@ -5,6 +5,7 @@ mod answer;
 mod answer_law;
 mod certificate;
 mod columns;
+mod coming_law;
 mod events;
 mod finding;
 mod flood;
@@ -23,7 +24,6 @@ mod text;
 mod trace;
 mod upgrade;
 mod verdict;
-mod verdict_law;
 
 pub use answer::answer_of_files;
 pub use answer_law::{
@@ -32,6 +32,7 @@ pub use answer_law::{
 };
 pub use certificate::{certify, certify_island};
 pub use columns::columns_of;
+pub use coming_law::an_answer_comes;
 pub use finding::{node_of, own_node, own_spot};
 pub use flood::answer_of_flood;
 pub use given::Given;
@@ -45,4 +46,3 @@ pub use survey_law::made_networks_are_taken;
 pub use table::{Parts, row_by_column};
 pub use text::Text;
 pub use verdict::judge;
-pub use verdict_law::a_verdict_comes;

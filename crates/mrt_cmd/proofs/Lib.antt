@@ -6,6 +6,7 @@ pub mod FromFiles
 pub mod Held
 pub mod OfWords
 pub mod OneExit
+pub mod SomeExit
 pub mod SurveyExits
 pub mod ToldAlike
 pub mod WordsOfForm

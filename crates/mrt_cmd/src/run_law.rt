@@ -1,6 +1,7 @@
 //! What holds of the words and of what the shelf holds.
 
-ghost use Rattle.std.specs.Prelude.{◌≡◌, ℕ, List, Option, Some};
+ghost use Rattle.std.specs.Prelude.{◌≡◌, ◌<◌, ◌^◌, ℕ, List, Option, Result, Some};
+ghost use Rattle.std.specs.List.{AllByRecursion};
 ghost use Rattle.std.specs.Option.{IsSomeAnd};
 ghost use Rattle.mrt_io.specs.Holding.{Files};
 ghost use Rattle.mrt_exit.specs.{Steps.IsOne, declared.exit.Exit.Exit};
@@ -9,7 +10,9 @@ ghost use Rattle.mrt_words.specs.Form.{AsksVerdict, form_of};
 ghost use Rattle.flood_verdict.specs.{Alike.IsToldAlike, Says.Says};
 ghost use Rattle.mrt_cmd.specs.Headline.{ChecksWritten, FloodsAlike};
 
-use mrt_answer::{alike_deliveries_are_told_alike, one_answer_comes, what_is_certified_passes};
+use mrt_answer::{
+    alike_deliveries_are_told_alike, an_answer_comes, one_answer_comes, what_is_certified_passes,
+};
 
 /// Laws: over a shelf that tells what it holds, at most one answer comes of the words, a text or an exit and never both, and so one
 /// exit.
@@ -19,6 +22,16 @@ pub fn one_exit_comes()
         → Comes (Some files) words exit → Comes (Some files) words other → exit ≡ other }
 {
     one_answer_comes();
+}
+
+/// Laws: over a shelf that tells what it holds, which are bytes, something comes of any words, a text or an exit, and so an exit.
+pub fn an_exit_comes()
+    ensures answer { (files : Files) → ((name bytes : List ℕ) → files name ≡ Some bytes → AllByRecursion (λ byte. byte < 2 ^ 8) bytes)
+        → (words : List (List ℕ)) → (answer : Result (List ℕ) Exit) × of_words (Some files) words answer }
+    ensures exit { (files : Files) → ((name bytes : List ℕ) → files name ≡ Some bytes → AllByRecursion (λ byte. byte < 2 ^ 8) bytes)
+        → (words : List (List ℕ)) → (exit : Exit) × Comes (Some files) words exit }
+{
+    an_answer_comes();
 }
 
 /// A law, the headline's first half: a certificate that was written passes, whether the words check or upgrade it, over the

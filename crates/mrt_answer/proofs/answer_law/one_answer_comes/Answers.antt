@@ -41,7 +41,7 @@ laws c = record {
   };
   islands = c.a_router_has_one_island.ensures.one;
   certificates = c.one_certificate.ensures.one;
-  tables = record { table = c.one_table_each.ensures; primary = c.one_primary_each.ensures };
+  tables = record { table = c.one_table_each.ensures.one; primary = c.one_primary_each.ensures };
   rules = record { never_both = c.accepted_or_one_first_fault.ensures.never_both; one = c.accepted_or_one_first_fault.ensures.one };
   texts = record {
     script = c.one_text_each.ensures.script;
@@ -53,7 +53,7 @@ laws c = record {
       related = λ g root cert a b text kept accepted given apart.
           c.proxy_rows_or_no_common_block.ensures.never_both g cert a b given.entries kept accepted given.entries_are apart;
     };
-    flood = λ settings. c.one_text_each-4.ensures settings (c.one_verdict_each.ensures settings);
+    flood = λ settings. c.one_text_each-4.ensures settings (c.one_verdict_each.ensures.one settings);
     survey = c.one_survey_each.ensures.one;
   };
 }
