@@ -81,12 +81,15 @@ module _ (laws : SomeLaws) (parts : FabricParts) (kept : ArePartsKept parts) (ro
   event_told room events answers end run event before =
       let answer = laws.some parts kept room events answers end (on events) run event in
       let line = line_there parts.area.ids answer.0 (laws.told parts kept room events answers end (on events) run event answer.0 answer.1) in
-      let new : FabricState = state_after end event answer.0 in
-      (new, before ++ line.0, record {
-        answers = answer.0 ∷ [];
-        run = (new, record { answers = answer.1; after = refl }, refl);
-        lines = (before ++ line.0, ap (option_map (λ text. before ++ text)) line.1, refl);
-      })
+      let new : FabricState = state_after end event answer.0 in (
+        new,
+        before ++ line.0,
+        record {
+          answers = answer.0 ∷ [];
+          run = (new, record { answers = answer.1; after = refl }, refl);
+          lines = (before ++ line.0, ap (option_map (λ text. before ++ text)) line.1, refl);
+        },
+      )
 
   -- and so are events, one after another
   events_told : (room : ℕ) (events : List Event) (answers : List Answer) (end : FabricState) → IsRun parts (start room) events answers end
@@ -106,9 +109,11 @@ module _ (laws : SomeLaws) (parts : FabricParts) (kept : ArePartsKept parts) (ro
   -- steps until the packet has ended: there are fewer than this
   steps_told : (fuel : ℕ) (old mid : FabricState) (count : ℕ) (before between : List ℕ) → HasStepped parts old mid count before between
       → 2 * length parts.area.ids ≤ count + fuel → (after : List ℕ) × IsSteppedOn parts old before after
-  steps_told zero old mid count before between so_far many =
-      (between, stepped parts old mid count before between so_far
-        (ended_at_last laws.going parts kept old mid count before between so_far (omega (arith, many))))
+  steps_told zero old mid count before between so_far many = (
+    between,
+    stepped parts old mid count before between so_far
+        (ended_at_last laws.going parts kept old mid count before between so_far (omega (arith, many))),
+  )
   steps_told (suc fuel) old mid count before between so_far many = elim (ended_or_not mid) [
     | inl ended ↦ (between, stepped parts old mid count before between so_far ended)
     | inr unended ↦

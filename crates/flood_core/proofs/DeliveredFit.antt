@@ -1,5 +1,5 @@
 -- What is read may be flooded, and what holds of its LSAs holds of those that are delivered.
-use Rattle.std.proofs.Common.{◌≡◌, ◌+◌, ◌<◌, ◌^◌, ℕ, zero, suc, List, [], ◌∷◌, drop, map, sym, subst, arith}
+use Rattle.std.proofs.Common.{◌+◌, ◌<◌, ◌^◌, ℕ, zero, suc, List, [], ◌∷◌, drop, map, sym, subst, arith}
 use Rattle.std.specs.List.{AllByRecursion}
 use Rattle.mrt_graph.proofs.Bytes.{IsBytes}
 use Rattle.mrt_graph.proofs.Members.{all_append, all_from_has, all_has, has_filter}

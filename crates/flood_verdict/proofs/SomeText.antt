@@ -57,16 +57,19 @@ module _ (laws : TextLaws) (settings : List Setting) (updates : List Update) (co
   database_there : (before : List Delivery) (router : ℕ) → router < count
       → (database : Database) × (database_of (after before) router ≡ Some database) × IsOfLsas database
   database_there before router within =
-      let is = laws.database updates count before router within in
-      (after_installs empty_database (delivered_to updates count before router), is, record {
-        lsas = delivered_to updates count before router;
-        kept = laws.kept updates count before router may;
-        bodies = laws.bodies updates count before router bodies;
-        ids = laws.ids updates count before router ids;
-        newest = subst (λ (o : Option Database). IsSomeAnd o
-            (λ database. map (λ entry. entry.lsa) database.entries ≡ newest_in (delivered_to updates count before router))) is
-            (laws.newest updates count before router within);
-      })
+      let is = laws.database updates count before router within in (
+        after_installs empty_database (delivered_to updates count before router),
+        is,
+        record {
+          lsas = delivered_to updates count before router;
+          kept = laws.kept updates count before router may;
+          bodies = laws.bodies updates count before router bodies;
+          ids = laws.ids updates count before router ids;
+          newest = subst (λ (o : Option Database). IsSomeAnd o
+              (λ database. map (λ entry. entry.lsa) database.entries ≡ newest_in (delivered_to updates count before router))) is
+              (laws.newest updates count before router within);
+        },
+      )
 
   text_there : (before : List Delivery) (lines : List FloodLine) → AllByRecursion (IsAmong count) lines
       → (text : List ℕ) × IsFloodText (Says settings) (after before) lines text
@@ -74,18 +77,31 @@ module _ (laws : TextLaws) (settings : List Setting) (updates : List Update) (co
   text_there before (Deliver packet router ∷ lines) among =
       let delivery : Delivery = record { packet = packet; router = router } in
       let rest = text_there (before ++ delivery ∷ []) lines among.1 in
-      let front : List ℕ = answer_line (delivered (after before) packet router).0 in
-      (front ++ rest.0, (front, rest.0, refl, refl,
-        subst (λ (state : FloodState). IsFloodText (Says settings) state lines rest.0) (after_on (started updates count) before delivery) rest.1))
+      let front : List ℕ = answer_line (delivered (after before) packet router).0 in (
+        front ++ rest.0,
+        (
+          front,
+          rest.0,
+          refl,
+          refl,
+          subst (λ (state : FloodState). IsFloodText (Says settings) state lines rest.0) (after_on (started updates count) before delivery) rest.1,
+        ),
+      )
   text_there before (Same one other router ∷ lines) among =
       let its = database_there before one among.0.0 in
       let others = database_there before other among.0.1 in
       let verdict = laws.verdict settings its.0 others.0 router its.2 others.2 in
       let rest = text_there before lines among.1 in
-      let front : List ℕ = verdict_line verdict.0 in
-      (front ++ rest.0, (front, rest.0, refl,
-        (verdict.0, record { its = its.0; others = others.0; its_are = its.1; others_are = others.1; told = verdict.1 }, refl),
-        rest.1))
+      let front : List ℕ = verdict_line verdict.0 in (
+        front ++ rest.0,
+        (
+          front,
+          rest.0,
+          refl,
+          (verdict.0, record { its = its.0; others = others.0; its_are = its.1; others_are = others.1; told = verdict.1 }, refl),
+          rest.1,
+        ),
+      )
 
 -- from the beginning
 pub script_text : TextLaws → (settings : List Setting) (updates : List Update) (script : FloodScript) → AllByRecursion MayFlood updates

@@ -1,5 +1,5 @@
 -- Of each task over files there comes an answer, a text or an exit, whatever their bytes are.
-use Rattle.std.proofs.Common.{◌≡◌, ◌≢◌, ◌⊎◌, ◌↔◌, ◌∙◌, ◌+◌, ◌<◌, ◌≤◌, ◌^◌, ℕ, Bool, true, false, List, [], ◌∷◌, Option, Some, None, Result, Ok, Err, length, map, slice_get, refl, sym, ap, subst, inl, inr, arith}
+use Rattle.std.proofs.Common.{◌≡◌, ◌≢◌, ◌⊎◌, ◌↔◌, ◌∙◌, ◌+◌, ◌<◌, ◌^◌, ℕ, Bool, true, false, List, [], ◌∷◌, Option, Some, None, Result, Ok, Err, length, map, slice_get, refl, sym, ap, subst, inl, inr, arith}
 use Rattle.std.specs.Prelude.{Contains, IsSome}
 use Rattle.std.specs.List.{AllByRecursion, range_with_len}
 use Rattle.std.specs.List.Sorted.{IsStrictlySortedBy}
@@ -346,20 +346,22 @@ module _ (laws : ComingLaws) where
   its_primaries of kept spot number at =
       let entries = laws.primaries of kept in
       let own : ℕ → Option Primary = entries.0 spot in
-      let router = router_from of.ids spot (slice_get_within of.ids spot (router_node number) at) (not_network of.ids spot number at) in
-      (map own (range_with_len 0 (length of.ids)), record {
-        one_each = length-map-range_with_len own 0 (length of.ids);
-        each = λ t entry is.
-            let upper : t < length of.ids = omega (
-              arith,
-              slice_get_within (map own (range_with_len 0 (length of.ids))) t entry is,
-              length-map-range_with_len own 0 (length of.ids),
-            ) in
-            let same : own t ≡ entry =
-            sym (get_or-map-range_with_len own 0 (length of.ids) t t None upper (omega arith))
-            ∙ get_or_from_slice_get (map own (range_with_len 0 (length of.ids))) t entry None is in
-            subst (λ (e : Option Primary). IsPrimary of spot t e) same (entries.1 spot t router upper);
-      })
+      let router = router_from of.ids spot (slice_get_within of.ids spot (router_node number) at) (not_network of.ids spot number at) in (
+        map own (range_with_len 0 (length of.ids)),
+        record {
+          one_each = length-map-range_with_len own 0 (length of.ids);
+          each = λ t entry is.
+              let upper : t < length of.ids = omega (
+                arith,
+                slice_get_within (map own (range_with_len 0 (length of.ids))) t entry is,
+                length-map-range_with_len own 0 (length of.ids),
+              ) in
+              let same : own t ≡ entry =
+              sym (get_or-map-range_with_len own 0 (length of.ids) t t None upper (omega arith))
+              ∙ get_or_from_slice_get (map own (range_with_len 0 (length of.ids))) t entry None is in
+              subst (λ (e : Option Primary). IsPrimary of spot t e) same (entries.1 spot t router upper);
+        },
+      )
 
   module _ (input : Input) (kept : (of : AreaParts) → area_of input.newest (Ok of) → IsArea of) (fit : AllByRecursion FitsBond (area input).bonds)
       (wide : AllByRecursion IsWide (area input).ids) where
@@ -389,22 +391,24 @@ module _ (laws : ComingLaws) where
 
     certified_comes : (number : ℕ) → HasAnswer (certified input number)
     certified_comes number = in_island number (λ island. such (IsComputed island.graph island.root)) (λ island held.
-        let file = computed_file island.graph island.root held.graph held.root in
-        (Ok (cert_text file.0), record {
-          file = file.0;
-          certificate = file.1;
-          spelled = record {
-            within = laws.fits_file file.0 (record {
-              graph = island.graph;
-              root = island.root;
-              kept = held.graph;
-              within = held.root;
-              wide = held.wide;
-              certificate = file.1.computed;
-            });
-            spelled = refl;
-          };
-        }))
+        let file = computed_file island.graph island.root held.graph held.root in (
+          Ok (cert_text file.0),
+          record {
+            file = file.0;
+            certificate = file.1;
+            spelled = record {
+              within = laws.fits_file file.0 (record {
+                graph = island.graph;
+                root = island.root;
+                kept = held.graph;
+                within = held.root;
+                wide = held.wide;
+                certificate = file.1.computed;
+              });
+              spelled = refl;
+            };
+          },
+        ))
 
     a_table : (number : ℕ) (island : Island) → InArea (area input) number island → (source spot : ℕ)
         → slice_get island.graph.ids source ≡ Some (router_node number) → slice_get (area input).ids spot ≡ Some (router_node number)

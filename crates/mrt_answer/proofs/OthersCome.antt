@@ -1,5 +1,5 @@
 -- Of a form over packets there comes an answer, and a network that can be made has its survey.
-use Rattle.std.proofs.Common.{◌≡◌, ◌⊎◌, ◌<◌, ◌^◌, ℕ, List, [], Result, Ok, Err, inl, inr}
+use Rattle.std.proofs.Common.{◌⊎◌, ◌<◌, ◌^◌, ℕ, List, [], Result, Ok, Err, inl, inr}
 use Rattle.std.specs.List.{AllByRecursion}
 use Rattle.flood_core.specs.FloodState.{started}
 use Rattle.flood_core.specs.Receiving.{MayFlood}
@@ -95,10 +95,12 @@ survey_comes laws survey number nodes size given no_exit =
         (ids_kept laws database [] input given) 1 island its in
         let file = computed_file laws island.graph island.root held.graph held.root in
         let text = survey number island.graph island.root file.0.cert
-        (record { version = file.0.version; number = file.0.root; accepted = file.1.accepted }) in
-        (text.0, record {
-          size = size;
-          island = island;
-          island_is = its;
-          survey = record { file = file.0; certificate = file.1; spelled = text.1 };
-        })
+        (record { version = file.0.version; number = file.0.root; accepted = file.1.accepted }) in (
+          text.0,
+          record {
+            size = size;
+            island = island;
+            island_is = its;
+            survey = record { file = file.0; certificate = file.1; spelled = text.1 };
+          },
+        )

@@ -89,9 +89,9 @@ module _ (files : Files) where
           | inl profile ↦ elim (last_or_not names.last) [
             | inr refused ↦ (Err refused.0, first.2 ∙ profile.2 ∙ refused.1)
             | inl last ↦ (
-                Ok (record { first = first.0; profile = profile.0; last = last.0 }),
-                record { first_read = first.1; profile_read = profile.1; last_read = last.1 },
-              )
+              Ok (record { first = first.0; profile = profile.0; last = last.0 }),
+              record { first_read = first.1; profile_read = profile.1; last_read = last.1 },
+            )
           ]
         ]
       ]

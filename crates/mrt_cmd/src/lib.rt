@@ -12,5 +12,6 @@ pub use mrt_exit::{DbKind, Exit, Line, What};
 pub use mrt_words::words_spell_one_form;
 pub use program::{run, text_for};
 pub use run_law::{
-    alike_routers_are_told_alike, an_exit_comes, one_exit_comes, only_a_verdict_says_no, what_was_written_passes,
+    alike_routers_are_told_alike, an_exit_comes, one_exit_comes, only_a_verdict_says_no,
+    what_was_written_passes,
 };

@@ -1,7 +1,7 @@
 -- Each router has a table.
-use Rattle.std.proofs.Common.{◌≡◌, ◌≢◌, ◌⊎◌, ◌∙◌, ◌+◌, ◌<◌, ◌≤◌, ◌==◌, ◌++◌, ℕ, zero, suc, Bool, true, not, List, [], ◌∷◌, Option, Some, None, length, slice_get, inl, inr, refl, sym, ap, arith}
-use Rattle.std.specs.Prelude.{Contains, IfSome, IsSome}
-use Rattle.std.specs.List.{AllZip, concat, filter, find, range_with_len}
+use Rattle.std.proofs.Common.{◌≡◌, ◌≢◌, ◌∙◌, ◌+◌, ◌<◌, ◌==◌, ◌++◌, ℕ, zero, suc, not, List, [], ◌∷◌, Option, Some, None, length, inl, inr, refl, sym, ap, arith}
+use Rattle.std.specs.Prelude.{IfSome, IsSome}
+use Rattle.std.specs.List.{AllZip, concat, find, range_with_len}
 use Rattle.std.specs.List.Sorted.{IsStrictlySortedBy}
 use Rattle.std.specs.Option.{option_map}
 use Rattle.std.proofs.lemmas.Bool.{eq-eqb, not-true}
@@ -74,14 +74,16 @@ module _ (alternate : SomeAlternate) (parts : LineParts) (to : ℕ) (kept : AreL
       (omega (arith, slice_get_within parts.area.bonds arc.0.bond is.bond is.there, kept.fits.an_entry_each)) in
       let node = node_element parts.island.ids far.0 kept.island_kept.ids_ascend in
       let over_link = repair link.0 in
-      let over_node = repair node.0 in
-      (record { link = over_link.0; node = over_node.0 }, record {
-        link = link.0;
-        node = node.0;
-        elements_are = record { arc = arc.0; there = arc.1; link_is = link.1; far = far.0; far_is = far.1; node_is = node.1 };
-        link_repair_is = over_link.1;
-        node_repair_is = over_node.1;
-      })
+      let over_node = repair node.0 in (
+        record { link = over_link.0; node = over_node.0 },
+        record {
+          link = link.0;
+          node = node.0;
+          elements_are = record { arc = arc.0; there = arc.1; link_is = link.1; far = far.0; far_is = far.1; node_is = node.1 };
+          link_repair_is = over_link.1;
+          node_repair_is = over_node.1;
+        },
+      )
 
   second_repairs : (second : Option ℕ) → IfSome second (λ number. number < length parts.area.arcs)
       → (repairs : Option ArcRepairs) × AreSecondRepairs parts to second repairs
@@ -105,13 +107,15 @@ module _ (alternate : SomeAlternate) (parts : LineParts) (to : ℕ) (kept : AreL
       all_has (IsEnd (length parts.island.ids) parts.island.links parts.source) ends.0 found.0
       (kept.island_kept.ends_kept parts.source ends.0 ends.1).kept
       (find_has (λ (end : End). end.link == link) ends.0 found.0 found.1).0 in
-      let far = there parts.island.ids found.0.to is.to in
-      (record { far = far.0; link_data = found.0.link_data }, record {
-        end = found.0;
-        end_is = record { ends = ends.0; ends_are = ends.1; is = found.1 };
-        far_is = far.1;
-        data_is = refl;
-      })
+      let far = there parts.island.ids found.0.to is.to in (
+        record { far = far.0; link_data = found.0.link_data },
+        record {
+          end = found.0;
+          end_is = record { ends = ends.0; ends_are = ends.1; is = found.1 };
+          far_is = far.1;
+          data_is = refl;
+        },
+      )
 
   row_made : (primary : Primary) → primary.first < length parts.area.arcs → IfSome primary.second (λ second. second < length parts.area.arcs)
       → (row : TableRow) × IsRow parts to primary row
@@ -124,8 +128,7 @@ module _ (alternate : SomeAlternate) (parts : LineParts) (to : ℕ) (kept : AreL
       let red = link_hop links.0.red (row_touches parts.island.links parts.rows Red parts.source to links.0 links.1 (goes Red)) in
       let hop = arc_hop primary.first first in
       let one = arc_repairs primary.first first in
-      let two = second_repairs primary.second second in
-      (
+      let two = second_repairs primary.second second in (
         record { id = id.0; tag = links.0.tag; blue = blue.0; red = red.0; primary = hop.0; first = one.0; second = two.0 },
         record {
           id_is = id.1;
@@ -165,7 +168,7 @@ other_node count source to has =
 module _ (alternate : SomeAlternate) (parts : TableParts) (root : ℕ) (area_kept : IsArea parts.area) (island_kept : IsTopology parts.island)
     (fits : Fits parts.area parts.island parts.link_of)
     (leads_on : (color : Color) (s t : ℕ) → s < length parts.island.ids → t < length parts.island.ids → s ≢ t
-      → IsSome (color_hop parts.island.links (row_of parts.cert) color t s))
+    → IsSome (color_hop parts.island.links (row_of parts.cert) color t s))
     (own : AreItsPrimaries parts.area parts.island parts.source parts.primaries) where
   within : parts.source < length parts.island.ids
   within = slice_get_within parts.island.ids parts.source own.node.id own.node.in_island
@@ -203,11 +206,13 @@ module _ (alternate : SomeAlternate) (parts : TableParts) (root : ℕ) (area_kep
       let root_id = there parts.island.ids root upper in
       let head : List ℕ = head_line router.0 root_id.0 (length parts.island.ids) (length parts.island.links) in
       let lines = each_has (IsTableLine parts) (others (length parts.island.ids) parts.source) (λ to has.
-      let other = other_node (length parts.island.ids) parts.source to has in line_made to other.0 other.1) in
-      (head ++ concat lines.0, record {
-        head = head;
-        head_is = record { router = router.0; router_is = router.1; root_id = root_id.0; root_is = root_id.1; spelled = refl };
-        lines = lines.0;
-        lines_are = lines.1;
-        spelled = refl;
-      })
+      let other = other_node (length parts.island.ids) parts.source to has in line_made to other.0 other.1) in (
+        head ++ concat lines.0,
+        record {
+          head = head;
+          head_is = record { router = router.0; router_is = router.1; root_id = root_id.0; root_is = root_id.1; spelled = refl };
+          lines = lines.0;
+          lines_are = lines.1;
+          spelled = refl;
+        },
+      )

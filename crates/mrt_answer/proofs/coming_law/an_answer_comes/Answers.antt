@@ -1,6 +1,6 @@
 use Rattle.std.proofs.Common.{arith}
 use Rattle.mrt_answer.proofs.AnswersCome.{ComingLaws, over_comes}
-use Rattle.mrt_answer.proofs.OthersCome.{FloodLaws, flooded_comes, survey_comes}
+use Rattle.mrt_answer.proofs.OthersCome.{flooded_comes, survey_comes}
 use Rattle.mrt_answer.proofs.coming_law.an_answer_comes.Goals as goal
 
 -- the laws of the layers below
