@@ -24,15 +24,15 @@
  *     - MRT_WRITE_FAULT: there is no room for it. *count is how much room it takes; what the buffer holds is not said.
  *     - any other: there is none, and why. *count is 0 (but for mrt_run's and mrt_line's texts), and what else the call
  *       would have given is not said.
- *   `fault`, of a call that has one, is always written: the status again, with its numbers, all 0 on MRT_DONE. mrt_line
- *   spells it. mrt_run has none, and its text is the line; what is said below of statuses that it alone gives is what
- *   mrt_line takes.
+ *   `fault` is always written: the status again, with its numbers, all 0 on MRT_DONE. mrt_line spells it.
  * - `room`, `*count` and lengths are in elements of what the pointer is to: bytes or rows. Numbers are in the
  *   processor's order; an address or a router ID is the number whose highest byte is written first (10.0.0.1 is
  *   0x0a000001). Bytes of LSAs and certificates are in network order, as in files.
  * - Fields and calls are added, never changed: a reserved field is 0 until an interface gives it a meaning, no struct
- *   grows, and a later interface has each call and each value of this one. Interface 1 is fixed with the first release
- *   that has it, and may change before.
+ *   grows, and a later interface has each call and each value of this one. It may have more of them, and higher limits:
+ *   take a status that is not here as a refusal, which mrt_line spells, and a tag or a kind that is not here as one of
+ *   no use to you; and take room from the counts that a call gives where it has to serve a later library. Interface 1
+ *   is fixed with the first release that has it, and may change before.
  * - It runs on x86-64 alone, and needs x86-64-v2 (SSE4.2, POPCNT).
  */
 #ifndef MRT_H
@@ -59,7 +59,8 @@ extern "C" {
 #define MRT_DONE 0u
 /* The certificate is not accepted. kind: the first rule that fails, from 1 to 14; at, other: its least place. */
 #define MRT_NO 1u
-/* The words are none of the forms; of mrt_line: the fault is none. */
+/* The words are none of the forms; what is reserved in an area is not 0; of mrt_line: the fault is none; of a pair: its
+   routers are one. */
 #define MRT_USAGE 2u
 /* A fault in the LSAs. kind: MRT_LSA_ and so on; at: the place of the LSA's first byte; other: of MRT_LSA_CONFLICT that
    of the LSA which it contradicts. */
@@ -81,7 +82,7 @@ extern "C" {
 #define MRT_NO_MEMORY 10u
 /* mrt_run: a fault in a script. at: its line, from 1. */
 #define MRT_BAD_SCRIPT 11u
-/* mrt_run: the certificate gives the two routers of a prefix no common block. */
+/* The certificate gives the two routers of a prefix no common block. */
 #define MRT_NO_COMMON_BLOCK 13u
 /* mrt_run: a fault in Link State Update packets. kind: MRT_UPDATE_ or MRT_LSA_ and so on; at: the place of its first
    byte. */
@@ -132,6 +133,8 @@ extern "C" {
 #define MRT_ROUTER 1u
 /* A transit network; its number is the interface address of its designated router. */
 #define MRT_NETWORK 2u
+/* Of a hop for a prefix: none, as the prefix is attached to the router itself; its number is 0. */
+#define MRT_ATTACHED 3u
 
 /*
  * How a row's two hops were chosen, as in a certificate's file (docs/FORMATS.md).
@@ -167,10 +170,11 @@ struct mrt_file {
 };
 
 /* An area: the bytes of its LSAs, as in a database file, at most 8,388,608, and those of a profile, at most 33,554,432;
-   no bytes are the profile that says nothing. 32 bytes. */
+   no bytes are the profile that says nothing. Where what is reserved is not 0 a call answers MRT_USAGE. 40 bytes. */
 struct mrt_area {
 	struct mrt_bytes lsas;
 	struct mrt_bytes profile;
+	uint64_t reserved;
 };
 
 /* What a call ended with: what each field is stands at the status; the others are 0. 32 bytes. */
@@ -236,6 +240,25 @@ struct mrt_row {
 	uint32_t reserved_3;
 };
 
+/* A prefix that is attached to two routers: their router IDs. 8 bytes. */
+struct mrt_pair {
+	uint32_t first;
+	uint32_t second;
+};
+
+/* What a router installs for a prefix at two routers, a named proxy-node (RFC 7811, 5.9): where it sends on each color.
+   40 bytes. */
+struct mrt_proxy_row {
+	/* MRT_DONE; else there are no hops, which are 0, and why: MRT_USAGE, MRT_NOT_THERE or MRT_NO_COMMON_BLOCK */
+	uint32_t status;
+	/* of MRT_NOT_THERE: which of the two routers its island does not have; else 0 */
+	uint32_t at;
+	struct mrt_hop blue;
+	struct mrt_hop red;
+	uint32_t reserved_1;
+	uint32_t reserved_2;
+};
+
 /*
  * The number of the library's interface, MRT_ABI or later.
  */
@@ -245,8 +268,8 @@ uint32_t mrt_abi(void);
  * Does what the words ask for over these files, as the program: `words` are those after the program's name, and a word
  * that names a file names the first of `files` with this name. On MRT_DONE `text` holds what the program would write to
  * standard output, *count bytes. On MRT_WRITE_FAULT there is no room for it, and *count is how many bytes it has. On
- * any other status the text is the program's one line on standard error: *count is how many bytes it has, at most 512,
- * and `text` holds them, or as many of the first as there is room for.
+ * any other status the text is the program's one line on standard error, which mrt_line spells too: *count is how many
+ * bytes it has, at most 512, and `text` holds them, or as many of the first as there is room for.
  *
  * It takes the time and the memory of the program, less those of a process: the bytes of each file that is named but a
  * certificate, and what the form takes. Where there is no room it takes the time of the form twice or three times.
@@ -255,7 +278,7 @@ uint32_t mrt_abi(void);
  * MRT_NOT_THERE, MRT_READ_FAULT, MRT_WRITE_FAULT, MRT_NO_MEMORY, MRT_BAD_SCRIPT, MRT_NO_COMMON_BLOCK, MRT_BAD_UPDATE.
  */
 uint32_t mrt_run(const struct mrt_bytes *words, size_t word_count, const struct mrt_file *files, size_t file_count,
-		 uint8_t *text, size_t room, size_t *count);
+		 uint8_t *text, size_t room, size_t *count, struct mrt_fault *fault);
 
 /*
  * The program's one line on a fault, with its line feed, *count bytes; none for MRT_DONE. 512 bytes of room serve. It
@@ -267,16 +290,19 @@ uint32_t mrt_run(const struct mrt_bytes *words, size_t word_count, const struct 
 uint32_t mrt_line(const struct mrt_fault *fault, uint8_t *text, size_t room, size_t *count);
 
 /*
- * The island of a router: its root, how many nodes and links it has, and how long its certificate is.
+ * The island of a router: its root, how many nodes and links it has, and how long its certificate is. It makes the
+ * whole certificate to count its bytes, so it takes the time of mrt_certify: who wants the certificate itself calls
+ * that first, which counts too.
  *
- * Statuses: MRT_DONE, MRT_BAD_DATABASE, MRT_BAD_PROFILE, MRT_TOO_LARGE, MRT_NOT_THERE, MRT_NO_MEMORY.
+ * Statuses: MRT_DONE, MRT_USAGE, MRT_BAD_DATABASE, MRT_BAD_PROFILE, MRT_TOO_LARGE, MRT_NOT_THERE, MRT_NO_MEMORY.
  */
 uint32_t mrt_shape(const struct mrt_area *area, uint32_t router, struct mrt_island *island, struct mrt_fault *fault);
 
 /*
  * The certificate of a router's island: the bytes of its file, *count of them, exactly those of `mrt certify`.
  *
- * Statuses: MRT_DONE, MRT_BAD_DATABASE, MRT_BAD_PROFILE, MRT_TOO_LARGE, MRT_NOT_THERE, MRT_WRITE_FAULT, MRT_NO_MEMORY.
+ * Statuses: MRT_DONE, MRT_USAGE, MRT_BAD_DATABASE, MRT_BAD_PROFILE, MRT_TOO_LARGE, MRT_NOT_THERE, MRT_WRITE_FAULT,
+ * MRT_NO_MEMORY.
  */
 uint32_t mrt_certify(const struct mrt_area *area, uint32_t router, uint8_t *certificate, size_t room, size_t *count,
 		     struct mrt_fault *fault);
@@ -286,8 +312,8 @@ uint32_t mrt_certify(const struct mrt_area *area, uint32_t router, uint8_t *cert
  * them. On MRT_DONE the certificate is accepted for the island of its root, so its rows keep what MRT promises; on
  * MRT_NO the fault is the first rule that fails, and its least place.
  *
- * Statuses: MRT_DONE, MRT_NO, MRT_BAD_DATABASE, MRT_BAD_PROFILE, MRT_BAD_CERTIFICATE, MRT_TOO_LARGE, MRT_NOT_THERE (the
- * certificate's root), MRT_NO_MEMORY.
+ * Statuses: MRT_DONE, MRT_NO, MRT_USAGE, MRT_BAD_DATABASE, MRT_BAD_PROFILE, MRT_BAD_CERTIFICATE, MRT_TOO_LARGE,
+ * MRT_NOT_THERE (the certificate's root), MRT_NO_MEMORY.
  */
 uint32_t mrt_check(const struct mrt_area *area, const uint8_t *certificate, size_t size, struct mrt_verdict *verdict,
 		   struct mrt_fault *fault);
@@ -296,7 +322,8 @@ uint32_t mrt_check(const struct mrt_area *area, const uint8_t *certificate, size
  * The table of a router: a row for each other node of its island, by ascending number, at one number the router before
  * the network. *count of them, one less than the island has nodes; 4,095 rows of room serve for each area.
  *
- * Statuses: MRT_DONE, MRT_BAD_DATABASE, MRT_BAD_PROFILE, MRT_TOO_LARGE, MRT_NOT_THERE, MRT_WRITE_FAULT, MRT_NO_MEMORY.
+ * Statuses: MRT_DONE, MRT_USAGE, MRT_BAD_DATABASE, MRT_BAD_PROFILE, MRT_TOO_LARGE, MRT_NOT_THERE, MRT_WRITE_FAULT,
+ * MRT_NO_MEMORY.
  */
 uint32_t mrt_table(const struct mrt_area *area, uint32_t router, struct mrt_row *rows, size_t room, size_t *count,
 		   struct mrt_fault *fault);
@@ -304,11 +331,22 @@ uint32_t mrt_table(const struct mrt_area *area, uint32_t router, struct mrt_row 
 /*
  * The same row for one node, MRT_ROUTER or MRT_NETWORK and its number. It takes the time of one destination.
  *
- * Statuses: MRT_DONE, MRT_BAD_DATABASE, MRT_BAD_PROFILE, MRT_TOO_LARGE, MRT_NOT_THERE, MRT_NO_MEMORY. MRT_NOT_THERE is
- * of the router; else of the node, where its island has no such node or it is the router itself.
+ * Statuses: MRT_DONE, MRT_USAGE, MRT_BAD_DATABASE, MRT_BAD_PROFILE, MRT_TOO_LARGE, MRT_NOT_THERE, MRT_NO_MEMORY.
+ * MRT_NOT_THERE is of the router; else of the node, where its island has no such node or it is the router itself.
  */
 uint32_t mrt_row_for(const struct mrt_area *area, uint32_t router, uint32_t kind, uint32_t number, struct mrt_row *row,
 		     struct mrt_fault *fault);
+
+/*
+ * The rows of a router for prefixes at two routers, one for each pair, in their order; *count is pair_count. The island
+ * and what its certificate's rows come from are made once for all pairs, each of which then takes the time of one
+ * destination. A pair that has no hops has a row that says so, and is no fault of the call.
+ *
+ * Statuses: MRT_DONE, MRT_USAGE, MRT_BAD_DATABASE, MRT_BAD_PROFILE, MRT_TOO_LARGE, MRT_NOT_THERE (the router),
+ * MRT_WRITE_FAULT, MRT_NO_MEMORY.
+ */
+uint32_t mrt_proxy(const struct mrt_area *area, uint32_t router, const struct mrt_pair *pairs, size_t pair_count,
+		   struct mrt_proxy_row *rows, size_t room, size_t *count, struct mrt_fault *fault);
 
 #ifdef __cplusplus
 }

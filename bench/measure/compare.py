@@ -431,7 +431,14 @@ def called(library, case):
         lines = [f"router {spelled(router)} root {spelled(island.root)} nodes {island.nodes} links {island.links}", *map(str, rows)]
         return b"".join(f"{line}\n".encode() for line in lines) if alone == rows[:3] + rows[-3:] else b"one row is another"
 
-    answers = {"check": told(lambda: check(case.cert)), "certify": told(lambda: library.certify(area, router)), "table": told(table)}
+    def proxy():
+        (row,) = library.proxy(area, router, [case.ends])
+        if isinstance(row, mrt.Refused):
+            raise row
+        return f"{spelled(router)} {row}\n".encode()
+
+    answers = {"check": told(lambda: check(case.cert)), "certify": told(lambda: library.certify(area, router)), "table": told(table),
+               "proxy": told(proxy)}
     return answers | ({"check of what was written": told(lambda: check(answers["certify"][1]))} if answers["certify"][0] == 0 else {})
 
 
@@ -439,6 +446,10 @@ def compared(library, case, want):
     """Which answers of the library are to be which others, by name."""
     wanted = dict(zip(COMMANDS, want))
     pairs = [(f"mrt_run of {name}", wanted[name], got) for name, got in zip(COMMANDS, run_by(library, case))]
+    # (the call has the line of one router)
+    status, text, line = wanted["proxy"]
+    own = f"{spelled(case.router)} ".encode()
+    wanted["proxy"] = status, b"".join(it for it in text.splitlines(True) if it.startswith(own)), line
     return pairs + [(f"call of {name}", wanted[name], got) for name, got in called(library, case).items()]
 
 

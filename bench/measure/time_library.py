@@ -18,6 +18,7 @@ from tools.mrttools.library import libmrt as mrt
 
 ROUNDS = 7
 NODES = 4096
+PAIRS = 1000
 # The process that does the same.
 FORMS = {"mrt_table": "table", "mrt_certify": "certify", "mrt_check": "check"}
 
@@ -59,10 +60,14 @@ class Caller:
         """Each call by name."""
         count, to = mrt.ctypes.byref(self.count), mrt.ctypes.byref
         ask = lambda name, *words: lambda: self.library.ask(name, self.area, *words)
-        last = self.library.table(self.area, self.router)[-1].node
+        table = self.library.table(self.area, self.router)
+        ids = [row.node.number for row in table if row.node.kind == mrt.Kind.ROUTER]
+        pairs = (mrt.CPair * PAIRS)(*(tuple(ids[(at * step) % len(ids)] for step in (1, 2)) for at in range(1, PAIRS + 1)))
+        rows, last = (mrt.CProxyRow * PAIRS)(), table[-1].node
         return {
             "mrt_table": ask("mrt_table", self.router, self.rows, mrt.MOST_ROWS, count),
             "mrt_row_for": ask("mrt_row_for", self.router, last.kind, last.number, to(self.row)),
+            f"mrt_proxy of {PAIRS:,} pairs": ask("mrt_proxy", self.router, pairs, PAIRS, rows, PAIRS, count),
             "mrt_shape": ask("mrt_shape", self.router, to(self.island)),
             "mrt_certify": ask("mrt_certify", self.router, self.bytes, self.room, count),
             "mrt_check": ask("mrt_check", self.certificate, len(self.certificate), to(self.verdict)),

@@ -141,7 +141,7 @@ int main(int count, char **words)
 		fprintf(stderr, "usage: mrt-example table DB PROFILE ROUTER, check DB PROFILE CERT\n");
 		return MRT_USAGE;
 	}
-	struct mrt_area area = { contents(words[2]), contents(words[3]) };
+	struct mrt_area area = { .lsas = contents(words[2]), .profile = contents(words[3]) };
 
 	if (is_check)
 		check(&area, words[4]);

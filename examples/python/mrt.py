@@ -59,6 +59,8 @@ class Color(IntEnum):
     NO_COLOR = 3
 
 
+# The kind of a hop for a prefix that is attached to the router itself.
+ATTACHED = 3
 LETTERS = {Color.NO_ELEMENT: "", Color.BLUE: "b", Color.RED: "r", Color.NO_COLOR: "-"}
 
 
@@ -139,6 +141,17 @@ class Row:
         return f"{self.node} {TAGS[self.tag]} {hops} repair {letters}"
 
 
+@dataclass(frozen=True)
+class ProxyRow:
+    """What a router installs for a prefix at two routers: where it sends on each color; None where the prefix is attached to it."""
+
+    blue: Hop | None
+    red: Hop | None
+
+    def __str__(self) -> str:
+        return f"blue {self.blue or 'attached'} red {self.red or 'attached'}"
+
+
 class Refused(Exception):
     """The library has no answer. The text is the program's line on it; the numbers are those of struct mrt_fault."""
 
@@ -160,7 +173,7 @@ class CFile(ctypes.Structure):
 
 
 class CArea(ctypes.Structure):
-    _fields_ = [("lsas", CBytes), ("profile", CBytes)]
+    _fields_ = [("lsas", CBytes), ("profile", CBytes), ("reserved", c_uint64)]
 
 
 class CFault(ctypes.Structure):
@@ -211,6 +224,21 @@ class CRow(ctypes.Structure):
     ]
 
 
+class CPair(ctypes.Structure):
+    _fields_ = [("first", c_uint32), ("second", c_uint32)]
+
+
+class CProxyRow(ctypes.Structure):
+    _fields_ = [
+        ("status", c_uint32),
+        ("at", c_uint32),
+        ("blue", CHop),
+        ("red", CHop),
+        ("reserved_1", c_uint32),
+        ("reserved_2", c_uint32),
+    ]
+
+
 def bytes_of(data: bytes) -> CBytes:
     return CBytes(data, len(data))
 
@@ -246,13 +274,23 @@ POINTER, BUFFER = ctypes.POINTER, ctypes.c_void_p
 SIZE = POINTER(c_size_t)
 CALLS: dict[str, list[Any]] = {
     "mrt_abi": [],
-    "mrt_run": [POINTER(CBytes), c_size_t, POINTER(CFile), c_size_t, BUFFER, c_size_t, SIZE],
+    "mrt_run": [POINTER(CBytes), c_size_t, POINTER(CFile), c_size_t, BUFFER, c_size_t, SIZE, POINTER(CFault)],
     "mrt_line": [POINTER(CFault), BUFFER, c_size_t, SIZE],
     "mrt_shape": [POINTER(CArea), c_uint32, POINTER(CIsland), POINTER(CFault)],
     "mrt_certify": [POINTER(CArea), c_uint32, BUFFER, c_size_t, SIZE, POINTER(CFault)],
     "mrt_check": [POINTER(CArea), c_char_p, c_size_t, POINTER(CVerdict), POINTER(CFault)],
     "mrt_table": [POINTER(CArea), c_uint32, POINTER(CRow), c_size_t, SIZE, POINTER(CFault)],
     "mrt_row_for": [POINTER(CArea), c_uint32, c_uint32, c_uint32, POINTER(CRow), POINTER(CFault)],
+    "mrt_proxy": [
+        POINTER(CArea),
+        c_uint32,
+        POINTER(CPair),
+        c_size_t,
+        POINTER(CProxyRow),
+        c_size_t,
+        SIZE,
+        POINTER(CFault),
+    ],
 }
 
 
@@ -273,13 +311,15 @@ class Library:
         """What the program writes for these words over these files; where there is no room for it, it is asked again."""
         given = (CBytes * len(words))(*map(bytes_of, words))
         there = (CFile * len(files))(*(CFile(bytes_of(name), bytes_of(data)) for name, data in files.items()))
-        count = c_size_t()
-        held, text = pages(max(room, LINE))
-        status = self.calls["mrt_run"](given, len(given), there, len(there), text, len(text), ctypes.byref(count))
-        if status == Status.WRITE_FAULT and count.value > len(text):
+        count, fault = c_size_t(), CFault()
+        held, text = pages(max(room, 1))
+        status = self.calls["mrt_run"](
+            given, len(given), there, len(there), text, len(text), ctypes.byref(count), ctypes.byref(fault)
+        )
+        if status == Status.WRITE_FAULT:
             return self.run(words, files, count.value)
         if status != Status.DONE:
-            raise Refused(Status(status), held[: count.value].decode("ascii").rstrip("\n"))
+            raise self.refused(fault)
         return held[: count.value]
 
     def shape(self, area: Area, router: int) -> Island:
@@ -313,14 +353,28 @@ class Library:
         self.ask("mrt_row_for", area, router, to.kind, to.number, ctypes.byref(row))
         return row_of(row)
 
+    def proxy(self, area: Area, router: int, pairs: Sequence[tuple[int, int]]) -> list[ProxyRow | Refused]:
+        """What a router installs for prefixes at two routers each; for two that give no hops, what refuses them."""
+        given, rows, count = (CPair * len(pairs))(*pairs), (CProxyRow * len(pairs))(), c_size_t()
+        self.ask("mrt_proxy", area, router, given, len(given), rows, len(rows), ctypes.byref(count))
+        return [self.proxy_row(row) for row in rows]
+
+    def proxy_row(self, row: CProxyRow) -> ProxyRow | Refused:
+        if row.status != Status.DONE:
+            return self.refused(CFault(status=row.status, at=row.at))
+        return ProxyRow(*(None if hop.kind == ATTACHED else hop_of(hop) for hop in (row.blue, row.red)))
+
     def ask(self, name: str, area: Area, *words: Any) -> None:
         """Makes a call over an area, and raises what it refuses."""
         fault = CFault()
         status = self.calls[name](
-            ctypes.byref(CArea(bytes_of(area.lsas), bytes_of(area.profile))), *words, ctypes.byref(fault)
+            ctypes.byref(CArea(bytes_of(area.lsas), bytes_of(area.profile), 0)), *words, ctypes.byref(fault)
         )
         if status != Status.DONE:
-            raise Refused(Status(status), self.line(fault), fault.kind, fault.at, fault.other, fault.size)
+            raise self.refused(fault)
+
+    def refused(self, fault: CFault) -> Refused:
+        return Refused(Status(fault.status), self.line(fault), fault.kind, fault.at, fault.other, fault.size)
 
     def line(self, fault: CFault) -> str:
         """The program's line on a fault."""

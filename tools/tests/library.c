@@ -19,10 +19,10 @@
 #define LINES 512
 #define COUNT(list) (sizeof(list) / sizeof *(list))
 
-enum { CALLS = 7, STATUSES = 15, THREADS = 8, ROUNDS = 5, STACK = 64 * 1024 };
+enum { CALLS = 8, STATUSES = 15, THREADS = 8, ROUNDS = 5, STACK = 64 * 1024 };
 
-static const char *const names[CALLS] = { "mrt_run", "mrt_line", "mrt_shape", "mrt_certify", "mrt_check", "mrt_table", "mrt_row_for" };
-enum { RUN, LINE, SHAPE, CERTIFY, CHECK, TABLE, ROW_FOR };
+static const char *const names[CALLS] = { "mrt_run", "mrt_line", "mrt_shape", "mrt_certify", "mrt_check", "mrt_table", "mrt_row_for", "mrt_proxy" };
+enum { RUN, LINE, SHAPE, CERTIFY, CHECK, TABLE, ROW_FOR, PROXY };
 
 /* The memory that the library takes, of a thread: how many blocks there are, how many were asked for, and which request is refused. */
 static __thread long blocks, asked, refused;
@@ -111,6 +111,8 @@ struct task {
 	uint32_t router;
 	struct mrt_bytes certificate;
 	uint32_t kind, number;
+	const struct mrt_pair *pairs;
+	size_t pair_count;
 	struct mrt_fault fault;
 };
 
@@ -128,7 +130,7 @@ struct answer {
 };
 
 /* How many bytes an element has of what a call gives in a buffer, and of what it gives in a struct; 0 where it gives none so. */
-static const size_t elements[CALLS] = { 1, 1, 0, 1, 0, sizeof(struct mrt_row), 0 };
+static const size_t elements[CALLS] = { 1, 1, 0, 1, 0, sizeof(struct mrt_row), 0, sizeof(struct mrt_proxy_row) };
 static const size_t structs[CALLS] = {
 	[SHAPE] = sizeof(struct mrt_island), [CHECK] = sizeof(struct mrt_verdict), [ROW_FOR] = sizeof(struct mrt_row)
 };
@@ -144,7 +146,7 @@ static uint32_t made(const struct task *task, void *buffer, size_t room, size_t 
 			words[word_count] = of(task->words[word_count]);
 			word_count++;
 		}
-		return mrt_run(words, word_count, files, file_count, buffer, room, count);
+		return mrt_run(words, word_count, files, file_count, buffer, room, count, fault);
 	case LINE:
 		return mrt_line(&task->fault, buffer, room, count);
 	case SHAPE:
@@ -155,8 +157,10 @@ static uint32_t made(const struct task *task, void *buffer, size_t room, size_t 
 		return mrt_check(&task->area, task->certificate.data, task->certificate.size, buffer, fault);
 	case TABLE:
 		return mrt_table(&task->area, task->router, buffer, room, count, fault);
-	default:
+	case ROW_FOR:
 		return mrt_row_for(&task->area, task->router, task->kind, task->number, buffer, fault);
+	default:
+		return mrt_proxy(&task->area, task->router, task->pairs, task->pair_count, buffer, room, count, fault);
 	}
 }
 
@@ -173,7 +177,7 @@ static struct answer answer(const struct task *task, size_t room, int byte)
 	it.status = made(task, it.bytes, room, &it.count, &it.fault);
 	TRUE(blocks == before, "a call gives back what it takes");
 	TRUE(it.status < STATUSES, "a status is one of the program's");
-	if (task->call != RUN && task->call != LINE) {
+	if (task->call != LINE) {
 		TRUE(it.fault.status == it.status, "the fault has the status");
 		TRUE(it.fault.reserved == 0, "what is reserved is 0");
 		if (it.status == MRT_DONE)
@@ -212,7 +216,7 @@ static void same(const struct task *task, const struct answer *it, const struct 
 	bool has_text = it->status == MRT_DONE || task->call == RUN;
 
 	TRUE(it->status == wanted->status, "the same arguments give the same status");
-	if (task->call != RUN && task->call != LINE)
+	if (task->call != LINE)
 		TRUE(memcmp(&it->fault, &wanted->fault, sizeof it->fault) == 0, "and the same fault");
 	if (elements[task->call]) {
 		TRUE(it->count == wanted->count, "and the same count");
@@ -244,7 +248,7 @@ static void in_room(const struct task *task, const struct answer *wanted, size_t
 	} else if (wanted->status == MRT_DONE) {
 		TRUE(it.status == MRT_WRITE_FAULT, "there is no room");
 		TRUE(it.count == wanted->count, "how much there has to be is told");
-		if (task->call != RUN && task->call != LINE)
+		if (task->call != LINE)
 			TRUE(it.fault.size == room && !it.fault.kind && !it.fault.at && !it.fault.other, "so is how much there is");
 	} else if (task->call == RUN) {
 		TRUE(it.status == wanted->status && it.count == wanted->count, "a refusal has no need of room");
@@ -279,7 +283,7 @@ static void memory(const struct task *task, const struct answer *wanted)
 			was_refused[task->call] = true;
 			if (task->call == RUN)
 				TRUE(it.count == 15 && memcmp(it.bytes, "mrt: no memory\n", 15) == 0, "want of memory has its line");
-			else
+			if (task->call != LINE)
 				TRUE(!it.fault.kind && !it.fault.at && !it.fault.other && !it.fault.size, "want of memory has no numbers");
 			TRUE(task->call == RUN || !elements[task->call] || it.count == 0, "nothing is there then");
 		} else {
@@ -455,24 +459,29 @@ static void tasks_of_line(void)
 	task(LINE, MRT_USAGE)->fault = (struct mrt_fault){ .status = 4294967295u, .kind = 4294967295u };
 }
 
+/* The first router of lan.lsas. */
+enum { FIRST = 0x0aff0101 };
+
 static void tasks_of_area(void)
 {
 	struct mrt_bytes none = of(""), lsas = files[0].bytes, profile = files[1].bytes, cert = files[2].bytes;
-	struct mrt_area lan = { lsas, profile };
-	const uint32_t first = 0x0aff0101;
+	struct mrt_area lan = { lsas, profile, 0 };
+	const uint32_t first = FIRST;
 	const struct fault_of_area areas[] = {
 		{ MRT_DONE, lan, first },
 		{ MRT_DONE, lan, first + 3 },
-		{ MRT_BAD_DATABASE, { profile, none }, first },
-		{ MRT_BAD_PROFILE, { lsas, lsas }, first },
-		{ MRT_TOO_LARGE, { files[7].bytes, none }, first },
-		{ MRT_TOO_LARGE, { large(4097), none }, 0x0a000000 },
+		{ MRT_USAGE, { lsas, profile, 1 }, first },
+		{ MRT_BAD_DATABASE, { profile, none, 0 }, first },
+		{ MRT_BAD_PROFILE, { lsas, lsas, 0 }, first },
+		{ MRT_TOO_LARGE, { files[7].bytes, none, 0 }, first },
+		{ MRT_TOO_LARGE, { large(4097), none, 0 }, 0x0a000000 },
 		{ MRT_NOT_THERE, lan, 9 },
-		{ MRT_NOT_THERE, { none, none }, first },
+		{ MRT_NOT_THERE, { none, none, 0 }, first },
 	};
+	static const struct mrt_pair pairs[] = { { FIRST, FIRST + 1 }, { FIRST + 1, FIRST }, { FIRST, FIRST }, { FIRST, 9 }, { FIRST + 1, FIRST + 2 } };
 
 	for (size_t at = 0; at < COUNT(areas); at++) {
-		static const int calls[] = { SHAPE, CERTIFY, TABLE, ROW_FOR, CHECK };
+		static const int calls[] = { SHAPE, CERTIFY, TABLE, ROW_FOR, PROXY, CHECK };
 
 		for (size_t call = 0; call < COUNT(calls); call++) {
 			struct task *it = task(calls[call], areas[at].status);
@@ -482,8 +491,10 @@ static void tasks_of_area(void)
 			it->kind = MRT_ROUTER;
 			it->number = first + 1;
 			it->certificate = cert;
+			it->pairs = pairs;
+			it->pair_count = COUNT(pairs);
 			/* (a certificate names its root itself) */
-			if (calls[call] == CHECK && at == 6)
+			if (calls[call] == CHECK && areas[at].router == 9)
 				it->status = MRT_DONE;
 		}
 	}
@@ -504,6 +515,21 @@ static void tasks_of_area(void)
 	}
 }
 
+/* Of these pairs the last three have no hops: two routers that are one, one that is not there, two without a common block. */
+static void pairs_are_told(const struct answer *it)
+{
+	static const uint32_t statuses[] = { MRT_DONE, MRT_DONE, MRT_USAGE, MRT_NOT_THERE, MRT_NO_COMMON_BLOCK };
+	const struct mrt_proxy_row *rows = (const void *)it->bytes;
+
+	TRUE(it->count == COUNT(statuses), "there is a row for each pair");
+	for (size_t at = 0; at < COUNT(statuses); at++) {
+		TRUE(rows[at].status == statuses[at], "a row says why it has no hops");
+		TRUE(rows[at].at == (statuses[at] == MRT_NOT_THERE ? 9 : 0), "and which router is not there");
+		TRUE((rows[at].blue.kind == 0) == (statuses[at] != MRT_DONE), "a row has hops or says why not");
+		TRUE((rows[at].red.kind == 0) == (statuses[at] != MRT_DONE), "of both colors");
+	}
+}
+
 int main(int count, char **words)
 {
 	TRUE(count >= 2, "a folder is named");
@@ -514,6 +540,8 @@ int main(int count, char **words)
 	for (size_t at = 0; at < task_count; at++) {
 		wanted[at] = right(&tasks[at]);
 		printf("%s %u\n", names[tasks[at].call], wanted[at].status);
+		if (tasks[at].call == PROXY && wanted[at].status == MRT_DONE)
+			pairs_are_told(&wanted[at]);
 		again(&tasks[at], &wanted[at]);
 	}
 	for (int part = 2; part < count; part++) {

@@ -79,6 +79,7 @@ class Header(unittest.TestCase):
             for value in values:
                 self.assertEqual(SAID.constants[f"MRT_{prefix}{value.name}"], value)
         self.assertEqual({f"MRT_TAG_{name.upper()}": at for at, name in enumerate(mrt.TAGS)}, self.named("MRT_TAG_"))
+        self.assertEqual(mrt.ATTACHED, SAID.constants["MRT_ATTACHED"])
 
     def named(self, prefix: str) -> dict[str, int]:
         return {name: value for name, value in SAID.constants.items() if name.startswith(prefix)}
@@ -257,6 +258,18 @@ class Calls(unittest.TestCase):
         self.assertEqual([self.library.row_for(self.area, self.router, row.node) for row in rows], rows)
         wanted = done(MRT, "table", "lan.lsas", "lan.profile", "10.255.1.1", folder=DATA).stdout.decode().splitlines()
         self.assertEqual([str(row) for row in rows], wanted[1:])
+
+    def test_rows_for_prefixes(self) -> None:
+        first, second, third = self.router, self.router + 1, self.router + 2
+        pairs = [(first, second), (second, third), (first, first), (first, 9)]
+        row, *refused = self.library.proxy(self.area, self.router, pairs)
+        words = ["proxy", "lan.lsas", "lan.profile", *map(mrt.address, (first, first, second))]
+        wanted = done(MRT, *words, folder=DATA).stdout.decode().splitlines()
+        self.assertIn(f"{mrt.address(first)} {row}", wanted)
+        told = [(it.status, it.at) for it in refused if isinstance(it, mrt.Refused)]
+        status = mrt.Status
+        self.assertEqual(told, [(status.NO_COMMON_BLOCK, 0), (status.USAGE, 0), (status.NOT_THERE, 9)])
+        self.assertEqual(self.library.proxy(self.area, self.router, []), [])
 
     def test_the_top_call(self) -> None:
         files = {name.encode(): data for name, data in self.files.items()}

@@ -3,16 +3,16 @@
 #![tactic(auto)]
 
 ghost use Rattle.std.specs.Prelude.{◌≡◌, length};
-ghost use Rattle.mrt_exit.specs.{Exits.status_of, declared.exit.Exit.Exit};
+ghost use Rattle.mrt_exit.specs.declared.exit.Exit.{Exit};
 ghost use Rattle.mrt_lent.specs.Lent.{held_in};
 ghost use Rattle.mrt_calls.specs.{Faults.IsTold, Putting.Answers, Putting.Gives};
 ghost use Rattle.mrt_calls.specs.{Runs.IsRun, Runs.words_in};
 ghost use Rattle.mrt_calls.specs.{Shapes.certified_in, Shapes.shape_in, Verdicts.verdict_in};
-ghost use Rattle.mrt_calls.specs.{FaultLines.IsLineOf, TableRows.row_for_in, TableRows.table_in};
+ghost use Rattle.mrt_calls.specs.{FaultLines.IsLineOf, Proxies.proxies_in, TableRows.row_for_in, TableRows.table_in};
 
 use mrt_calls::{
-    MrtArea, MrtFault, MrtIsland, MrtRow, MrtVerdict, certify_area, check_area, line_of_fault,
-    row_for_area, run_over, shape_area, table_area,
+    MrtArea, MrtFault, MrtIsland, MrtPair, MrtProxyRow, MrtRow, MrtVerdict, certify_area,
+    check_area, line_of_fault, proxy_area, row_for_area, run_over, shape_area, table_area,
 };
 use mrt_lent::{MrtBytes, MrtFile};
 use std::alloc::Global;
@@ -33,11 +33,12 @@ pub extern "C" fn mrt_run(
     files: &[MrtFile<'_>],
     text: &mut [u8],
     count: &mut usize,
+    fault: &mut MrtFault,
 ) -> u32
     ensures { (exit : Exit) × IsRun (held_in files.now) (words_in words.now) (length text.old) text.new count.new exit
-        × (result ≡ status_of exit) }
+        × IsTold exit result fault.new }
 {
-    run_over(alloc, words, files, text, count)
+    run_over(alloc, words, files, text, count, fault)
 }
 
 /// The root of a router's island, how many nodes and links it has, and how long its certificate is.
@@ -122,4 +123,21 @@ pub extern "C" fn mrt_row_for(
     ensures { (exit : Exit) × Answers (row_for_in area.now router kind number) row.new exit × IsTold exit result fault.new }
 {
     row_for_area(alloc, area, router, kind, number, row, fault)
+}
+
+/// The rows of a router for prefixes at two routers are put into the buffer where there is room, a row for each pair.
+#[unsafe(no_mangle)]
+pub extern "C" fn mrt_proxy(
+    alloc: Global,
+    area: &MrtArea<'_>,
+    router: u32,
+    pairs: &[MrtPair],
+    rows: &mut [MrtProxyRow],
+    count: &mut usize,
+    fault: &mut MrtFault,
+) -> u32
+    ensures { (exit : Exit) × Gives (proxies_in area.now router pairs.now) (length rows.old) rows.new count.new exit
+        × IsTold exit result fault.new }
+{
+    proxy_area(alloc, area, router, pairs, rows, count, fault)
 }

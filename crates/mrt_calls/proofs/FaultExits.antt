@@ -1,7 +1,8 @@
 -- A fault tells of the exit that it is of, and of no other.
-use Rattle.std.proofs.Common.{◌≡◌, ◌<◌, ◌^◌, ◌∙◌, ℕ, true, Option, Some, None, refl, sym, ap, subst}
-use Rattle.std.specs.Prelude.{nat_lt, IsNone}
-use Rattle.std.proofs.lemmas.Bool.{lt-ltb}
+use Rattle.std.proofs.Common.{◌≡◌, ◌<◌, ◌∙◌, ℕ, Bool, true, false, Option, Some, None, refl, sym, ap, subst}
+use Rattle.std.specs.Option.{option_and_then, option_map}
+use Rattle.std.specs.Prelude.{nat_lt, if◌then◌else◌}
+use Rattle.std.proofs.lemmas.Bool.{lt-ltb, ltb-true}
 use Rattle.cert_format.specs.declared.error.CertKind.{CertKind}
 use Rattle.cert_format.specs.declared.error.CertKind.TheVariants as faults
 use Rattle.flood_core.specs.declared.error.UpdateKind.{UpdateKind}
@@ -16,8 +17,8 @@ use Rattle.mrt_exit.specs.declared.exit.Exit.{Exit}
 use Rattle.mrt_exit.specs.declared.exit.Exit.TheVariants as exits
 use Rattle.mrt_exit.specs.declared.exit.What.{What}
 use Rattle.mrt_exit.specs.declared.exit.What.TheVariants as whats
-use Rattle.mrt_calls.specs.Faults.{fault_of}
-use Rattle.mrt_calls.specs.FaultExits.{IsWide, exit_in}
+use Rattle.mrt_calls.specs.Faults.{IsWide, fault_of}
+use Rattle.mrt_calls.specs.steps.FaultExits.{below, exit_in}
 use Rattle.mrt_calls.specs.declared.fault.MrtFault.{MrtFault}
 
 pub comes_back : (exit : Exit) → IsWide exit → exit_in (fault_of exit) ≡ Some exit
@@ -85,3 +86,38 @@ tells_no_other fault found is other exit wide same =
   where
     one : (x y : Exit) → ◌≡◌ {A = Option Exit} (Some x) (Some y) → x ≡ y
     one x y same = cc
+
+-- a number that was found below a limit is below it
+module _ {X : Type 0} (limit number : ℕ) where
+  below_then : (next : ℕ → Option X) (x : X) → option_and_then next (below limit number) ≡ Some x → (number < limit) × (next number ≡ Some x)
+  below_then next x found = go (nat_lt number limit) refl found
+    where
+      go : (b : Bool) → nat_lt number limit ≡ b → option_and_then next (if b then Some number else None) ≡ Some x → (number < limit) × (next number ≡ Some x)
+      go true is found = (ltb-true number limit is, found)
+      go false is found = absurd cc
+
+  below_map : (f : ℕ → X) (x : X) → option_map f (below limit number) ≡ Some x → number < limit
+  below_map f x found = go (nat_lt number limit) refl found
+    where
+      go : (b : Bool) → nat_lt number limit ≡ b → option_map f (if b then Some number else None) ≡ Some x → number < limit
+      go true is found = ltb-true number limit is
+      go false is found = absurd cc
+
+-- an exit that was found has the widths that it tells its numbers in
+wide_back : (exit : Exit) → exit_in (fault_of exit) ≡ Some exit → IsWide exit
+wide_back (exits.No rule a b) found =
+    let one = below_then 256 rule (λ r. option_and_then (λ s. option_map (λ t. exits.No r s t) (below 65536 b)) (below 65536 a)) (exits.No rule a b) found in
+    let two = below_then 65536 a (λ s. option_map (λ t. exits.No rule s t) (below 65536 b)) (exits.No rule a b) one.1 in
+    (one.0, two.0, below_map 65536 b (λ t. exits.No rule a t) (exits.No rule a b) two.1)
+wide_back (exits.TooLarge whats.DatabaseFile size) found = below_map 4294967296 size (λ s. exits.TooLarge whats.DatabaseFile s) _ found
+wide_back (exits.TooLarge whats.UpdatesFile size) found = below_map 4294967296 size (λ s. exits.TooLarge whats.UpdatesFile s) _ found
+wide_back (exits.TooLarge whats.ProfileFile size) found = below_map 4294967296 size (λ s. exits.TooLarge whats.ProfileFile s) _ found
+wide_back (exits.TooLarge whats.CertificateFile size) found = below_map 4294967296 size (λ s. exits.TooLarge whats.CertificateFile s) _ found
+wide_back (exits.TooLarge whats.ScriptFile size) found = below_map 4294967296 size (λ s. exits.TooLarge whats.ScriptFile s) _ found
+wide_back (exits.TooLarge whats.AreaNodes size) found = below_map 4294967296 size (λ s. exits.TooLarge whats.AreaNodes s) _ found
+wide_back (exits.TooLarge whats.AreaArcs size) found = below_map 4294967296 size (λ s. exits.TooLarge whats.AreaArcs s) _ found
+wide_back (exits.ReadFault word) found = below_map 256 word (λ w. exits.ReadFault w) _ found
+wide_back exit found = tt
+
+pub told_wide : (fault : MrtFault) (found : Exit) → Some found ≡ exit_in fault → fault ≡ fault_of found → IsWide found
+told_wide fault found is same = wide_back found (ap exit_in (sym same) ∙ sym is)

@@ -17,9 +17,9 @@ use Rattle.mrt_answer.specs.Made.{AreParts, with_cert}
 use Rattle.mrt_answer.specs.Texts.{IsComputedFile}
 use Rattle.mrt_answer.specs.declared.table.Parts.{Parts}
 use Rattle.mrt_answer.proofs.Tables.{not_network}
-use Rattle.mrt_calls.specs.Footings.{ArePartsOf, IsFooting}
+use Rattle.mrt_calls.specs.steps.Footings.{ArePartsOf, IsFooting}
 use Rattle.mrt_calls.specs.TableRows.{AreTableRows, IsTheRow, TableFooting, tabled}
-use Rattle.mrt_calls.specs.Filling.{IsFilled}
+use Rattle.mrt_calls.specs.steps.Filling.{IsFilled}
 use Rattle.mrt_calls.specs.Putting.{IsHeldIn}
 use Rattle.mrt_calls.specs.RowNumbers.{row_in}
 use Rattle.mrt_calls.specs.declared.row.MrtRow.{MrtRow}

@@ -5,5 +5,6 @@ pub mod Footings
 pub mod Lent
 pub mod Names
 pub mod OneCertificate
+pub mod Pairs
 pub mod Puts
 pub mod TextFor

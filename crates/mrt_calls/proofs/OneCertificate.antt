@@ -13,7 +13,7 @@ use Rattle.mrt_words.specs.declared.task.RouterTask.TheVariants.{Certify}
 use Rattle.mrt_words.specs.declared.task.Task.TheVariants.{OfRouter}
 use Rattle.mrt_answer.specs.Forms.{certified, over}
 use Rattle.mrt_answer.specs.Reading.{input_of}
-use Rattle.mrt_calls.specs.Areas.{area_within, input_in, within}
+use Rattle.mrt_calls.specs.Areas.{area_within, files_within, unreserved, within}
 use Rattle.mrt_calls.specs.Shapes.{certified_in}
 use Rattle.mrt_calls.specs.declared.area.MrtArea.{MrtArea}
 
@@ -40,10 +40,23 @@ one_limit what limit bytes = one_value_or_exit (within what limit bytes) (λ x y
     never x (exits.TooLarge kind size) one two = omega (arith, one, two.0)
     never x e one two = two
 
+one_unreserved : (area : MrtArea) → IsOne (unreserved area)
+one_unreserved area = one_value_or_exit (unreserved area) (λ x y one two. refl) same never
+  where
+    same : (e d : Exit) → unreserved area (Err e) → unreserved area (Err d) → e ≡ d
+    same exits.Usage exits.Usage one two = refl
+    same exits.Usage d one two = absurd two
+    same e d one two = absurd one
+
+    never : (x : _) (e : Exit) → unreserved area (Ok x) → unreserved area (Err e) → ⊥
+    never x exits.Usage one two = two one
+    never x e one two = two
+
 one_within : (area : MrtArea) → IsOne (area_within area)
 one_within area =
+    one_then_one (unreserved area) (λ done. files_within area) (one_unreserved area) (λ done on.
     one_then_one (within DatabaseFile database_limit area.lsas.data.now) (λ done. within ProfileFile profile_limit area.profile.data.now)
-    (one_limit DatabaseFile database_limit area.lsas.data.now) (λ done on. one_limit ProfileFile profile_limit area.profile.data.now)
+    (one_limit DatabaseFile database_limit area.lsas.data.now) (λ done on. one_limit ProfileFile profile_limit area.profile.data.now))
 
 pub one_certified : ((task : Task) (bytes : FileBytes) → IsOne (over task bytes)) → (area : MrtArea) (router : ℕ)
     → IsOne (certified_in area router)

@@ -2,8 +2,7 @@
 use Rattle.std.specs.Prelude.{◌≡◌, ◌≤◌, ◌<◌, ◌⊎◌, ℕ, List, length, take}
 use Rattle.mrt_exit.specs.Exits.{line_of, status_of}
 use Rattle.mrt_exit.specs.declared.exit.Exit.{Exit}
-use Rattle.mrt_calls.specs.Faults.{fault_of}
-use Rattle.mrt_calls.specs.FaultExits.{IsWide}
+use Rattle.mrt_calls.specs.Faults.{IsWide, fault_of}
 use Rattle.mrt_calls.specs.Putting.{PutsIn}
 use Rattle.mrt_calls.specs.declared.fault.MrtFault.{MrtFault}
 
@@ -14,6 +13,7 @@ TellsNone fault = (exit : Exit) → IsWide exit → fault ≡ fault_of exit → 
 -- the line of the exit that a fault tells of is put into a buffer, if there is room for it
 pub record IsLineIn (fault : MrtFault) (buffer : List ℕ) (count status : ℕ) : Type 0 where
   pub exit : Exit
+  pub wide : IsWide exit
   pub told : fault ≡ fault_of exit
   pub counted : count ≡ length (line_of exit)
   pub how : Exit

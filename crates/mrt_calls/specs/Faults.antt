@@ -1,11 +1,18 @@
 -- What C is told of an exit.
-use Rattle.std.specs.Prelude.{◌≡◌, ℕ}
+use Rattle.std.specs.Prelude.{◌≡◌, ◌<◌, ◌^◌, ℕ}
 use Rattle.mrt_exit.specs.Exits.{status_of}
 use Rattle.mrt_exit.specs.declared.exit.DbKind.TheVariants.{Lsa, Conflict}
 use Rattle.mrt_exit.specs.declared.exit.Exit.{Exit}
 use Rattle.mrt_exit.specs.declared.exit.Exit.TheVariants.{Done, No, Usage, BadDatabase, BadProfile, BadCertificate, TooLarge, NotThere, ReadFault, WriteFault, NoMemory, BadScript, NoCommonBlock, BadUpdate}
 use Rattle.mrt_calls.specs.Kinds.{certificate_number, line_number, record_number, update_number, what_number}
 use Rattle.mrt_calls.specs.declared.fault.MrtFault.{MrtFault}
+
+-- an exit's numbers have the widths that it tells them in
+abbrev pub IsWide : Exit → Type 0
+IsWide (No rule a b) = (rule < 2 ^ 8) × (a < 2 ^ 16) × (b < 2 ^ 16)
+IsWide (TooLarge what size) = size < 2 ^ 32
+IsWide (ReadFault word) = word < 2 ^ 8
+IsWide exit = Unit {0}
 
 -- a fault with these numbers
 abbrev pub fault : ℕ → ℕ → ℕ → ℕ → ℕ → MrtFault

@@ -1,13 +1,12 @@
 pub mod Areas
-pub mod FaultExits
 pub mod FaultLines
 pub mod Faults
-pub mod Filling
-pub mod Footings
 pub mod Kinds
+pub mod Proxies
 pub mod Putting
 pub mod RowNumbers
 pub mod Runs
 pub mod Shapes
 pub mod TableRows
 pub mod Verdicts
+pub mod steps

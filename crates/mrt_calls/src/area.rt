@@ -3,7 +3,7 @@
 ghost use Rattle.std.specs.Prelude.{◌≤◌, ◌<◌, ◌-◌, ◌^◌, IfOk, length};
 ghost use Rattle.mrt_exit.specs.Steps.{IsAnswer};
 ghost use Rattle.mrt_words.specs.Files.{database_limit, profile_limit};
-ghost use Rattle.mrt_calls.specs.Areas.{area_within, input_in, within};
+ghost use Rattle.mrt_calls.specs.Areas.{area_within, files_within, input_in, unreserved, within};
 
 use mrt_answer::{Given, given_of};
 use mrt_exit::{Exit, What};
@@ -22,6 +22,7 @@ const PROFILE_LIMIT: u32 = 33_554_432;
 pub struct MrtArea<'a> {
     pub lsas: MrtBytes<'a>,
     pub profile: MrtBytes<'a>,
+    pub reserved: u64,
 }
 
 /// The database and the profile of an area.
@@ -33,10 +34,31 @@ pub(crate) fn given_in(alloc: Global, area: &MrtArea<'_>) -> Result<Given, Exit>
     given_of(alloc, area.lsas.data, area.profile.data)
 }
 
-/// Whether both files of an area are within their limits.
+/// Whether an area asks for nothing that is not there, and its files are within their limits.
 #[tactic(auto, using(mrt_exit::proofs::Stepping::early, mrt_exit::proofs::Stepping::late))]
 pub(crate) fn area_within(area: &MrtArea<'_>) -> Result<(), Exit>
     ensures within { IsAnswer (area_within area.now) result }
+    ensures lsas { IfOk result (λ _. length area.now.lsas.data.now ≤ database_limit) }
+    ensures profile { IfOk result (λ _. length area.now.profile.data.now ≤ profile_limit) }
+{
+    unreserved(area)?;
+    files_within(area)
+}
+
+/// Whether what is reserved in an area is 0.
+fn unreserved(area: &MrtArea<'_>) -> Result<(), Exit>
+    ensures { IsAnswer (unreserved area.now) result }
+{
+    if area.reserved != 0 {
+        return Err(Exit::Usage);
+    }
+    Ok(())
+}
+
+/// Whether both files of an area are within their limits.
+#[tactic(auto, using(mrt_exit::proofs::Stepping::early, mrt_exit::proofs::Stepping::late))]
+fn files_within(area: &MrtArea<'_>) -> Result<(), Exit>
+    ensures within { IsAnswer (files_within area.now) result }
     ensures lsas { IfOk result (λ _. length area.now.lsas.data.now ≤ database_limit) }
     ensures profile { IfOk result (λ _. length area.now.profile.data.now ≤ profile_limit) }
 {

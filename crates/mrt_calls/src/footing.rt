@@ -5,7 +5,7 @@ ghost use Rattle.area_graph.specs.Fits.{Fits};
 ghost use Rattle.mrt_graph.specs.NodeIds.{router as router_node};
 ghost use Rattle.mrt_answer.specs.Islands.{island_in};
 ghost use Rattle.mrt_exit.specs.{Due.IsDue, declared.exit.Exit.Exit};
-ghost use Rattle.mrt_calls.specs.Footings.{ArePartsOf, IsFooting, IsFootingIn};
+ghost use Rattle.mrt_calls.specs.steps.Footings.{ArePartsOf, IsFooting, IsFootingIn};
 
 use mrt_answer::{AreaAndIsland, Given, Parts, area_and_island, own_node, own_spot};
 use mrt_exit::Exit;

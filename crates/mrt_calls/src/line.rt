@@ -1,8 +1,8 @@
 //! The program's one line on a fault.
 
 ghost use Rattle.std.specs.Prelude.{◌≡◌, ◌<◌, ◌⊎◌, IfSome, IsNone, IsSome, length};
-ghost use Rattle.mrt_calls.specs.{Faults.fault_of, FaultExits.IsWide, FaultLines.IsLineOf, FaultLines.TellsNone};
-ghost use Rattle.mrt_calls.specs.FaultExits.{below, certificate_kind, database_kind, exit_in, large_in, line_kind, no_in, record_kind, update_kind, what_kind};
+ghost use Rattle.mrt_calls.specs.{Faults.IsWide, Faults.fault_of, FaultLines.IsLineOf, FaultLines.TellsNone};
+ghost use Rattle.mrt_calls.specs.steps.FaultExits.{below, certificate_kind, database_kind, exit_in, large_in, line_kind, no_in, record_kind, update_kind, what_kind};
 ghost use Rattle.mrt_exit.specs.declared.exit.Exit.{Exit};
 ghost use Rattle.flood_core.specs.declared.error.UpdateKind.{UpdateKind};
 ghost use Rattle.std.specs.Option.{option_map};
@@ -35,6 +35,7 @@ pub fn line_of_fault(fault: &MrtFault, text: &mut [u8], count: &mut usize) -> u3
 /// The exit that a fault tells of, if it is one that a call gives.
 fn exit_told(fault: &MrtFault) -> Option<Exit>
     ensures told { IfSome result (λ exit. fault.now ≡ fault_of exit) }
+    ensures wide { IfSome result IsWide }
     ensures none { IsNone result → TellsNone fault.now }
 {
     let exit = exit_in(fault)?;

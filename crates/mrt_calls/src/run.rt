@@ -3,11 +3,12 @@
 ghost use Rattle.std.specs.Prelude.{◌≡◌, ℕ, List, Ok, Err, IfOk, IfErr, Some, length, take};
 ghost use Rattle.mrt_answer.specs.TextBytes.{IsTextAnswer};
 ghost use Rattle.mrt_cmd.specs.Comes.{of_words};
-ghost use Rattle.mrt_exit.specs.{Due.IsDue, Exits.status_of, declared.exit.Exit.Exit};
+ghost use Rattle.mrt_exit.specs.{Due.IsDue, declared.exit.Exit.Exit};
 ghost use Rattle.mrt_lent.specs.Lent.{held_in};
-ghost use Rattle.mrt_calls.specs.Putting.{IsHeldIn};
+ghost use Rattle.mrt_calls.specs.{Faults.IsTold, Putting.IsHeldIn};
 ghost use Rattle.mrt_calls.specs.Runs.{HoldsLine, IsRun, words_in};
 
+use crate::fault::{MrtFault, tell};
 use crate::putting::{count_of, exit_of, put_text};
 use mrt_answer::Text;
 use mrt_cmd::{one_exit_comes, text_for};
@@ -25,15 +26,16 @@ pub fn run_over(
     files: &[MrtFile<'_>],
     text: &mut [u8],
     count: &mut usize,
+    fault: &mut MrtFault,
 ) -> u32
     ensures { (exit : Exit) × IsRun (held_in files.now) (words_in words.now) (length text.old) text.new count.new exit
-        × (result ≡ status_of exit) }
+        × IsTold exit result fault.new }
 {
     let exit = run_in(alloc, words, files, text, count);
-    u32::from(exit.status())
+    tell(&exit, fault)
 }
 
-/// The same, but for the status.
+/// The same, but for the fault.
 fn run_in(
     alloc: Global,
     words: &[MrtBytes<'_>],

@@ -17,7 +17,7 @@
 mod row;
 mod sys;
 
-pub use row::{Hop, Node, Repair, Row, Tag};
+pub use row::{Hop, Node, ProxyRow, Repair, Row, Tag};
 
 use std::fmt;
 use std::net::Ipv4Addr;
@@ -125,21 +125,6 @@ impl fmt::Display for Fault {
 
 impl std::error::Error for Fault {}
 
-/// What `run` refuses: the program's status and its line.
-#[derive(Clone, Debug, PartialEq, Eq)]
-pub struct Refusal {
-    pub status: Status,
-    pub line: String,
-}
-
-impl fmt::Display for Refusal {
-    fn fmt(&self, to: &mut fmt::Formatter<'_>) -> fmt::Result {
-        to.write_str(&self.line)
-    }
-}
-
-impl std::error::Error for Refusal {}
-
 /// An island: its root, how many nodes and links it has, and how many bytes its certificate.
 #[derive(Clone, Copy, Debug, PartialEq, Eq)]
 pub struct Island {
@@ -169,6 +154,7 @@ impl Area<'_> {
         sys::Area {
             lsas: self.lsas.into(),
             profile: self.profile.into(),
+            reserved: 0,
         }
     }
 
@@ -235,10 +221,54 @@ impl Area<'_> {
         })?;
         Ok(Row::from(&row))
     }
+
+    /// What a router installs for prefixes at two routers each; for two that give no hops, what refuses them.
+    pub fn proxy(
+        &self,
+        router: Ipv4Addr,
+        pairs: &[(Ipv4Addr, Ipv4Addr)],
+    ) -> Result<Vec<Result<ProxyRow, Fault>>, Fault> {
+        let pairs: Vec<sys::Pair> = pairs
+            .iter()
+            .map(|&(first, second)| sys::Pair {
+                first: first.into(),
+                second: second.into(),
+            })
+            .collect();
+        // SAFETY: there are so many pairs; the room is told, and has so many rows.
+        let rows = given(pairs.len(), |rows, room, count, fault| unsafe {
+            let (area, router) = (&self.bytes(), router.into());
+            sys::mrt_proxy(
+                area,
+                router,
+                pairs.as_ptr(),
+                pairs.len(),
+                rows,
+                room,
+                count,
+                fault,
+            )
+        })?;
+        Ok(rows.iter().map(proxy_row).collect())
+    }
+}
+
+/// A row for a prefix, or what refuses its two routers.
+fn proxy_row(row: &sys::ProxyRow) -> Result<ProxyRow, Fault> {
+    match row.status {
+        sys::DONE => Ok(ProxyRow::from(row)),
+        status => Err(Fault {
+            status: Status::of(status),
+            kind: 0,
+            at: row.at,
+            other: 0,
+            size: 0,
+        }),
+    }
 }
 
 /// What the program writes for these words over files of these names.
-pub fn run(words: &[&[u8]], files: &[(&[u8], &[u8])]) -> Result<Vec<u8>, Refusal> {
+pub fn run(words: &[&[u8]], files: &[(&[u8], &[u8])]) -> Result<Vec<u8>, Fault> {
     let words: Vec<sys::Bytes<'_>> = words.iter().map(|&word| word.into()).collect();
     let files: Vec<sys::File<'_>> = files
         .iter()
@@ -247,28 +277,24 @@ pub fn run(words: &[&[u8]], files: &[(&[u8], &[u8])]) -> Result<Vec<u8>, Refusal
             bytes: bytes.into(),
         })
         .collect();
-    let (word_count, file_count) = (words.len(), files.len());
     let mut room = MOST_CERTIFICATE;
     loop {
         let mut wanted = 0;
-        let (status, text) = filled(room, |text, room, count| {
-            let (words, files) = (words.as_ptr(), files.as_ptr());
+        let answer = given(room, |text, room, count, fault| {
+            let (words, word_count) = (words.as_ptr(), words.len());
+            let (files, file_count) = (files.as_ptr(), files.len());
             // SAFETY: there are so many words and files; the room is told, and has so many bytes.
-            let status =
-                unsafe { sys::mrt_run(words, word_count, files, file_count, text, room, count) };
+            let status = unsafe {
+                sys::mrt_run(
+                    words, word_count, files, file_count, text, room, count, fault,
+                )
+            };
             wanted = *count;
             status
         });
-        match status {
-            sys::DONE => return Ok(text),
-            sys::WRITE_FAULT if wanted > room => room = wanted,
-            _ => {
-                let line = String::from_utf8_lossy(&text).trim_end().to_owned();
-                return Err(Refusal {
-                    status: Status::of(status),
-                    line,
-                });
-            }
+        match answer {
+            Err(fault) if fault.status == Status::WriteFault => room = wanted,
+            _ => return answer,
         }
     }
 }

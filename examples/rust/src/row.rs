@@ -175,3 +175,26 @@ impl fmt::Display for Row {
         write!(to, "{node} {tag} blue {blue} red {red} primary {primary} repair {link}{next}{second_link}{second}")
     }
 }
+
+/// What a router installs for a prefix at two routers: where it sends on each color; None where the prefix is attached to it.
+#[derive(Clone, Copy, Debug, PartialEq, Eq)]
+pub struct ProxyRow {
+    pub blue: Option<Hop>,
+    pub red: Option<Hop>,
+}
+
+impl From<&sys::ProxyRow> for ProxyRow {
+    fn from(row: &sys::ProxyRow) -> ProxyRow {
+        let [blue, red] =
+            [row.blue, row.red].map(|hop| (hop.kind != sys::ATTACHED).then(|| hop.into()));
+        ProxyRow { blue, red }
+    }
+}
+
+impl fmt::Display for ProxyRow {
+    fn fmt(&self, to: &mut fmt::Formatter<'_>) -> fmt::Result {
+        let [blue, red] = [self.blue, self.red]
+            .map(|hop| hop.map_or("attached".to_owned(), |hop| hop.to_string()));
+        write!(to, "blue {blue} red {red}")
+    }
+}

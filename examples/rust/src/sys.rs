@@ -7,6 +7,7 @@ pub const WRITE_FAULT: u32 = 9;
 
 pub const ROUTER: u32 = 1;
 pub const NETWORK: u32 = 2;
+pub const ATTACHED: u32 = 3;
 
 /// A slice of bytes. The pointer of an empty one is not NULL either.
 #[derive(Clone, Copy)]
@@ -39,6 +40,7 @@ pub struct File<'a> {
 pub struct Area<'a> {
     pub lsas: Bytes<'a>,
     pub profile: Bytes<'a>,
+    pub reserved: u64,
 }
 
 #[derive(Clone, Copy, Debug, Default, PartialEq, Eq)]
@@ -98,6 +100,24 @@ pub struct Row {
     pub reserved_3: u32,
 }
 
+#[derive(Clone, Copy)]
+#[repr(C)]
+pub struct Pair {
+    pub first: u32,
+    pub second: u32,
+}
+
+#[derive(Clone, Copy, Default)]
+#[repr(C)]
+pub struct ProxyRow {
+    pub status: u32,
+    pub at: u32,
+    pub blue: Hop,
+    pub red: Hop,
+    pub reserved_1: u32,
+    pub reserved_2: u32,
+}
+
 extern "C" {
     pub fn mrt_abi() -> u32;
     pub fn mrt_run(
@@ -108,6 +128,7 @@ extern "C" {
         text: *mut u8,
         room: usize,
         count: *mut usize,
+        fault: *mut Fault,
     ) -> u32;
     pub fn mrt_line(fault: *const Fault, text: *mut u8, room: usize, count: *mut usize) -> u32;
     pub fn mrt_shape(
@@ -145,6 +166,16 @@ extern "C" {
         kind: u32,
         number: u32,
         row: *mut Row,
+        fault: *mut Fault,
+    ) -> u32;
+    pub fn mrt_proxy(
+        area: *const Area<'_>,
+        router: u32,
+        pairs: *const Pair,
+        pair_count: usize,
+        rows: *mut ProxyRow,
+        room: usize,
+        count: *mut usize,
         fault: *mut Fault,
     ) -> u32;
 }

@@ -64,11 +64,45 @@ fn the_top_call_writes_what_rows_are() {
         let rows = area.table(router(1)).unwrap();
         let lines: Vec<String> = rows.iter().map(|row| format!("{row}\n")).collect();
         assert!(String::from_utf8(text).unwrap().ends_with(&lines.concat()));
-        let refusal = mrt::run(&[b"table", b"db", b"none", b"10.255.1.1"], &files).unwrap_err();
+        let fault = mrt::run(&[b"table", b"db", b"none", b"10.255.1.1"], &files).unwrap_err();
+        assert_eq!((fault.status, fault.at), (Status::ReadFault, 2));
+        assert_eq!(fault.to_string(), "mrt: read fault: word 2");
+    });
+}
+
+#[test]
+fn a_row_for_a_prefix_is_the_line_of_its_text() {
+    in_lan(|area| {
+        let files: [(&[u8], &[u8]); 2] = [(b"db", area.lsas), (b"profile", area.profile)];
+        let words: [&[u8]; 6] = [
+            b"proxy",
+            b"db",
+            b"profile",
+            b"10.255.1.1",
+            b"10.255.1.1",
+            b"10.255.1.2",
+        ];
+        let text = String::from_utf8(mrt::run(&words, &files).unwrap()).unwrap();
+        let pairs =
+            [(1, 2), (1, 1), (2, 9), (2, 3)].map(|(one, other)| (router(one), router(other)));
+        let rows = area.proxy(router(1), &pairs).unwrap();
+        let line = format!("10.255.1.1 {}", rows[0].unwrap());
+        assert!(text.lines().any(|it| it == line), "{line}");
+        let refused: Vec<(Status, u32)> = rows[1..]
+            .iter()
+            .map(|row| row.unwrap_err())
+            .map(|fault| (fault.status, fault.at))
+            .collect();
+        let nine = router(9).into();
         assert_eq!(
-            (refusal.status, refusal.line.as_str()),
-            (Status::ReadFault, "mrt: read fault: word 2")
+            refused,
+            [
+                (Status::Usage, 0),
+                (Status::NotThere, nine),
+                (Status::NoCommonBlock, 0)
+            ]
         );
+        assert_eq!(area.proxy(router(1), &[]), Ok(Vec::new()));
     });
 }
 

@@ -6,6 +6,7 @@ may come out longer than it is, never shorter. The standard library's names are 
 """
 from __future__ import annotations
 
+import glob
 import os
 import re
 from dataclasses import dataclass, field
@@ -133,7 +134,7 @@ class Library:
         crates = os.path.join(root, "crates")
         for crate in sorted(os.listdir(crates)):
             for file, text in files(os.path.join(crates, crate, "specs"), ".antt"):
-                self.specs[crate, file] = read_specs(text)
+                self.specs[crate, file.replace("/", ".")] = read_specs(text)
             self.types[crate] = {}
             for file, text in files(os.path.join(crates, crate, "src"), ".rt"):
                 module = read_types(text)
@@ -187,7 +188,7 @@ class Library:
         return len(self.module(name).lines[name.name])
 
     def place(self, name: Name) -> str:
-        folder = name.module + ".rt" if name.module.startswith("src/") else f"specs/{name.module}.antt"
+        folder = name.module + ".rt" if name.module.startswith("src/") else f"specs/{name.module.replace('.', '/')}.antt"
         return f"crates/{name.crate}/{folder}:{self.module(name).first[name.name]}"
 
     def chain(self, tops: Iterable[Name], known: set[Name], cut: set[Name]) -> list[Name]:
@@ -209,10 +210,9 @@ class Library:
 
 
 def files(folder: str, ending: str) -> list[tuple[str, str]]:
-    """The files of a folder with this ending, by name without it, with their texts."""
+    """The files of a folder and those within it with this ending, by name without it, with their texts."""
     found = []
-    for name in sorted(os.listdir(folder)) if os.path.isdir(folder) else []:
-        if name.endswith(ending):
-            with open(os.path.join(folder, name), encoding="utf-8") as file:
-                found.append((name[: -len(ending)], file.read()))
+    for name in sorted(glob.glob(f"**/*{ending}", root_dir=folder, recursive=True)):
+        with open(os.path.join(folder, name), encoding="utf-8") as file:
+            found.append((name[: -len(ending)], file.read()))
     return found

@@ -176,7 +176,8 @@ def definitions_of(crate: str, names: list[Name], library: Library) -> str:
     section = [f"## {crate}\n"]
     for place in sorted({name.module for name in names}):
         module = library.specs[crate, place]
-        section.append(filled(f"**[{place}](../crates/{crate}/specs/{place}.antt)** {' '.join(module.head)}") + "\n")
+        path = place.replace(".", "/")
+        section.append(filled(f"**[{place}](../crates/{crate}/specs/{path}.antt)** {' '.join(module.head)}") + "\n")
         section.append("\n".join(items(module, [name.name for name in names if name.module == place])) + "\n")
     return "\n".join(section)
 

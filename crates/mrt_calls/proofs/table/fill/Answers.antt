@@ -3,7 +3,7 @@ use Rattle.primary_alt.proofs.ColorsUse.{agree, differ}
 use Rattle.mrt_report.specs.ByColumn.{IsRowByColumn}
 use Rattle.mrt_rows.specs.CertOf.{IsCertOf}
 use Rattle.mrt_answer.specs.Made.{with_cert}
-use Rattle.mrt_calls.specs.Filling.{IsFilled}
+use Rattle.mrt_calls.specs.steps.Filling.{IsFilled}
 use Rattle.mrt_calls.proofs.Filling.{none_filled, row_filled, row_passed}
 use Rattle.mrt_calls.proofs.table.fill.Goals.{then-ne, else-ne}
 use Rattle.mrt_calls.proofs.table.fill.Goals as goal

@@ -4,7 +4,7 @@ use Rattle.mrt_report.specs.ByColumn.{IsRowByColumn}
 use Rattle.mrt_rows.specs.CertOf.{IsCertOf}
 use Rattle.mrt_rows.specs.Rooted.{MakeColumns}
 use Rattle.mrt_answer.specs.Made.{with_cert}
-use Rattle.mrt_calls.specs.Filling.{IsFilled}
+use Rattle.mrt_calls.specs.steps.Filling.{IsFilled}
 use Rattle.mrt_calls.proofs.table.fill.Given as goal
 
 -- The rows of the nodes so far are in the buffer, as far as there is room.

@@ -1,5 +1,5 @@
 -- The exit that a fault tells of.
-use Rattle.std.specs.Prelude.{◌==◌, ◌<◌, ◌^◌, ℕ, Option, Some, None, nat_lt, if◌then◌else◌}
+use Rattle.std.specs.Prelude.{◌==◌, ℕ, Option, Some, None, nat_lt, if◌then◌else◌}
 use Rattle.std.specs.Option.{option_and_then, option_map}
 use Rattle.cert_format.specs.declared.error.CertKind.{CertKind}
 use Rattle.cert_format.specs.declared.error.CertKind.TheVariants as faults
@@ -16,13 +16,6 @@ use Rattle.mrt_exit.specs.declared.exit.Exit.TheVariants.{Done, No, Usage, BadDa
 use Rattle.mrt_exit.specs.declared.exit.What.{What}
 use Rattle.mrt_exit.specs.declared.exit.What.TheVariants as whats
 use Rattle.mrt_calls.specs.declared.fault.MrtFault.{MrtFault}
-
--- an exit's numbers have the widths that it tells them in
-abbrev pub IsWide : Exit → Type 0
-IsWide (No rule a b) = (rule < 2 ^ 8) × (a < 2 ^ 16) × (b < 2 ^ 16)
-IsWide (TooLarge what size) = size < 2 ^ 32
-IsWide (ReadFault word) = word < 2 ^ 8
-IsWide exit = Unit {0}
 
 -- what is wrong with a record of a database, by its number
 abbrev pub record_kind : ℕ → Option LsaKind

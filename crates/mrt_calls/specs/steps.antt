@@ -1,0 +1,3 @@
+pub mod FaultExits
+pub mod Filling
+pub mod Footings
