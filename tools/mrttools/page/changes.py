@@ -34,10 +34,10 @@ def side_of(mrt: Program, tell: facts.Tell) -> Side:
     tell("certificate", 0, 1)
     parts = islands.islands(mrt, whole)
     points = cuts.single_points(whole.nodes, whole.bonds)
-    found = Facts(Ground(Graph(whole), parts, points))
-    found.read_targets(tell)
-    cross_check.agree(mrt, found, tell)
-    return Side(whole, parts, points, found)
+    pair_facts = Facts(Ground(Graph(whole), parts, points))
+    pair_facts.read_targets(tell)
+    cross_check.agree(mrt, pair_facts, tell)
+    return Side(whole, parts, points, pair_facts)
 
 
 # lists

@@ -89,16 +89,16 @@ def answers(
     with tempfile.NamedTemporaryFile(suffix=".script") as file:
         file.write("".join(line + "\n" for line in lines).encode())
         file.flush()
-        said = iter(program.run("fabric", file.name).decode().splitlines())
-    found = []
+        printed = iter(program.run("fabric", file.name).decode().splitlines())
+    of_packets = []
     for number, packet in enumerate([*before, *after]):
         if failed and number == len(before):
-            next(said, None)
-        next(said, None)
-        found.append([line for _, line in zip(range(packet.steps), said)])
-        if len(found[-1]) < packet.steps:
+            next(printed, None)
+        next(printed, None)
+        of_packets.append([line for _, line in zip(range(packet.steps), printed)])
+        if len(of_packets[-1]) < packet.steps:
             raise ToolFault(f"{program.path} fabric has said less than was asked", REFUSED)
-    return found
+    return of_packets
 
 
 def hop(links: dict[Node, list[Bond]], router: Node, following: Node) -> list[tuple[Node, Bond]]:

@@ -27,27 +27,27 @@ class Asked(NamedTuple):
     rows: int
 
 
-def trace(found: Facts, router: int, target: int, failed: int) -> list[str]:
+def trace(facts: Facts, router: int, target: int, failed: int) -> list[str]:
     """What a packet meets that enters by primaries after a failure, in the words of `mrt trace`, by what was computed
     here."""
-    graph, lines = found.graph, []
-    hop, repairs = found.rows[router][target]
+    graph, lines = facts.graph, []
+    hop, repairs = facts.rows[router][target]
     while failed not in hop.elements:
         router = hop.following
         lines.append(moved(graph, router, target))
-        hop, repairs = found.rows[router][target]
+        hop, repairs = facts.rows[router][target]
     color = repairs[hop.elements.index(failed)]
     if color < 0:
-        return [*lines, f"lost {why_lost(found, router, target, color)}"]
+        return [*lines, f"lost {why_lost(facts, router, target, color)}"]
     lines.append(f"switched {COLORS[color]}")
-    way = found.colors[graph.nodes[target]].nodes(color, router, target)
+    way = facts.colors[graph.nodes[target]].nodes(color, router, target)
     return lines + [moved(graph, node, target) for node in way if graph.nodes[node].kind == ROUTER]
 
 
-def why_lost(found: Facts, router: int, target: int, code: int) -> str:
+def why_lost(facts: Facts, router: int, target: int, code: int) -> str:
     if code == END:
         return "is-destination"
-    colors = found.colors_to(target)
+    colors = facts.colors_to(target)
     return "no-alternate" if colors and router in colors.place else "outside"
 
 
@@ -58,23 +58,23 @@ def moved(graph: Graph, node: int, target: int) -> str:
 # tables
 
 
-def chosen(found: Facts) -> list[int]:
+def chosen(facts: Facts) -> list[int]:
     """The routers whose tables are asked for: all of a small area, of a large one some all over it."""
-    routers = [router for router in found.graph.routers if found.colors_to(router)]
+    routers = [router for router in facts.graph.routers if facts.colors_to(router)]
     return routers[:: max(0, len(routers) - 1) // TABLES + 1]
 
 
-def own_lines(found: Facts, router: int) -> Iterator[str]:
+def own_lines(facts: Facts, router: int) -> Iterator[str]:
     """What `mrt table` has to say of each router that one sends to, but for the word of a row."""
-    graph, colors = found.graph, found.colors[found.graph.nodes[router]]
+    graph, colors = facts.graph, facts.colors[facts.graph.nodes[router]]
     tail = graph.nodes[router]
     places = {
         graph.place[bond]: f"{bond.far(tail).text}/{lsas.spelled(bond.data_of(tail) or 0)}"
         for bond in graph.links[tail]
     }
     for target in colors.numbers:
-        if target in found.rows[router]:
-            hop, repairs = found.rows[router][target]
+        if target in facts.rows[router]:
+            hop, repairs = facts.rows[router][target]
             links = [colors.link(color, router, target) for color in (0, 1)]
             names = [places[bond] for bond in [*links, hop.bonds[0]]]
             letters = "".join(["br"[repair] if repair >= 0 else "-" for repair in repairs])
@@ -89,14 +89,14 @@ def told_lines(mrt: Program, router: str) -> Iterator[str]:
             yield f"{to} {rest}"
 
 
-def ask_tables(mrt: Program, found: Facts, tell: Tell) -> Asked:
-    rows, routers = 0, chosen(found)
+def ask_tables(mrt: Program, facts: Facts, tell: Tell) -> Asked:
+    rows, routers = 0, chosen(facts)
     for done, router in enumerate(routers):
-        text = found.graph.nodes[router].text
-        own, told = list(own_lines(found, router)), list(told_lines(mrt, text))
-        if own != told:
+        text = facts.graph.nodes[router].text
+        own, lines = list(own_lines(facts, router)), list(told_lines(mrt, text))
+        if own != lines:
             here, there = next(
-                ((a, b) for a, b in zip(own, told) if a != b), (f"{len(own)} rows", f"{len(told)} rows")
+                ((a, b) for a, b in zip(own, lines) if a != b), (f"{len(own)} rows", f"{len(lines)} rows")
             )
             raise ToolFault(f"mrt says otherwise of {text}: {there}, and not {here}", REFUSED)
         rows += len(own)
@@ -104,19 +104,19 @@ def ask_tables(mrt: Program, found: Facts, tell: Tell) -> Asked:
     return Asked(len(routers), rows)
 
 
-def ask_trace(mrt: Program, found: Facts, each: Stretched) -> None:
+def ask_trace(mrt: Program, facts: Facts, repair: Stretched) -> None:
     """Asks for the trace of a repair."""
-    graph = found.graph
-    start, end = graph.nodes[each.router], graph.nodes[each.target]
-    own = trace(found, each.router, each.target, each.failed)
-    (told,) = client.answers(mrt, start, [], name_of(graph, each.failed), [Packet(start, end, len(own))])
-    if own != told:
-        raise ToolFault(f"mrt sends from {start.text} to {end.text} another way: {', '.join(told)}", REFUSED)
+    graph = facts.graph
+    start, end = graph.nodes[repair.router], graph.nodes[repair.target]
+    own = trace(facts, repair.router, repair.target, repair.failed)
+    (lines,) = client.answers(mrt, start, [], name_of(graph, repair.failed), [Packet(start, end, len(own))])
+    if own != lines:
+        raise ToolFault(f"mrt sends from {start.text} to {end.text} another way: {', '.join(lines)}", REFUSED)
 
 
-def agree(mrt: Program, found: Facts, tell: Tell) -> Asked:
+def agree(mrt: Program, facts: Facts, tell: Tell) -> Asked:
     """Asks the program for tables of routers, and for the trace of the worst repair."""
-    asked = ask_tables(mrt, found, tell)
-    for each in found.stretches.worst[:1]:
-        ask_trace(mrt, found, each)
+    asked = ask_tables(mrt, facts, tell)
+    for repair in facts.stretches.worst[:1]:
+        ask_trace(mrt, facts, repair)
     return asked

@@ -36,7 +36,7 @@ def seconds_of(text: object) -> float | None:
 
 def read(folder: str) -> tuple[dict[Node, Said], list[str]]:
     """What each router has said last, and the files that are no such statement."""
-    found: dict[Node, Said] = {}
+    statements: dict[Node, Said] = {}
     bad = []
     try:
         names = sorted(name for name in os.listdir(folder) if name.endswith(".json"))
@@ -48,61 +48,62 @@ def read(folder: str) -> tuple[dict[Node, Said], list[str]]:
             if not os.path.isfile(path):
                 raise ValueError(name)
             with open(path, encoding="utf-8") as file:
-                said = json.load(file)
-            node = area.node_of(said["router"])
-            if said["format"] != FORMAT or node.kind != ROUTER:
+                statement = json.load(file)
+            node = area.node_of(statement["router"])
+            if statement["format"] != FORMAT or node.kind != ROUTER:
                 raise ValueError(name)
         except (ValueError, KeyError, TypeError, AttributeError, OSError, RecursionError):
             bad.append(name)
             continue
-        if node not in found or (seconds_of(said.get("at")) or 0) > (seconds_of(found[node].get("at")) or 0):
-            found[node] = said
-    return found, bad
+        at = seconds_of(statement.get("at")) or 0
+        if node not in statements or at > (seconds_of(statements[node].get("at")) or 0):
+            statements[node] = statement
+    return statements, bad
 
 
-def state_of(said: Said | None, digest: str, now: float) -> str:
-    if said is None:
+def state_of(statement: Said | None, digest: str, now: float) -> str:
+    if statement is None:
         return "unknown"
-    if not said.get("certificate"):
+    if not statement.get("certificate"):
         return "none"
-    if said["certificate"] != digest:
+    if statement["certificate"] != digest:
         return "behind"
-    at = seconds_of(said.get("at"))
-    return "old" if at is None or abs(now - at) > OLD or said.get("state") == "stopped" else "current"
+    at = seconds_of(statement.get("at"))
+    return "old" if at is None or abs(now - at) > OLD or statement.get("state") == "stopped" else "current"
 
 
-def left_out(said: Said | None) -> list[dict[str, str]]:
+def left_out(statement: Said | None) -> list[dict[str, str]]:
     """What a router does not repair, and why."""
-    found = said.get("left_out") if said else None
-    each_one = [each for each in found if isinstance(each, dict)] if isinstance(found, list) else []
-    return [{"what": str(each.get("what")), "why": str(each.get("why"))} for each in each_one]
+    listed = statement.get("left_out") if statement else None
+    entries = [entry for entry in listed if isinstance(entry, dict)] if isinstance(listed, list) else []
+    return [{"what": str(entry.get("what")), "why": str(entry.get("why"))} for entry in entries]
 
 
-def router_values(node: Node, said: Said | None, state: str) -> dict[str, Any]:
+def router_values(node: Node, statement: Said | None, state: str) -> dict[str, Any]:
     return {
         "router": node.text,
         "installed": state,
-        **{name: said.get(name) if said else None for name in KEPT},
-        "left_out": left_out(said),
+        **{name: statement.get(name) if statement else None for name in KEPT},
+        "left_out": left_out(statement),
     }
 
 
 def values(mrt: Program, parts: Islands, folder: str, now: float | None = None) -> dict[str, Any]:
     """Of each router of an island whether its table is of the certificate that it should have."""
-    said, bad = read(folder)
+    statements, bad = read(folder)
     now = time.time() if now is None else now
     routers = []
     for island in parts.shared:
         digest = origin.digest(mrt.run("certify", island.certificate.root.text))
         for node in island.certificate.nodes:
             if node.kind == ROUTER:
-                state = state_of(said.get(node), digest, now)
-                routers.append(router_values(node, said.get(node), state))
-    members = {each["router"] for each in routers}
-    routers.sort(key=lambda each: (STATES.index(each["installed"]), area.node_of(each["router"])))
+                state = state_of(statements.get(node), digest, now)
+                routers.append(router_values(node, statements.get(node), state))
+    members = {router["router"] for router in routers}
+    routers.sort(key=lambda router: (STATES.index(router["installed"]), area.node_of(router["router"])))
     return {
         "routers": routers,
-        "counts": {state: sum(each["installed"] == state for each in routers) for state in STATES},
-        "others": sorted(node.text for node in said if node.text not in members),
+        "counts": {state: sum(router["installed"] == state for router in routers) for state in STATES},
+        "others": sorted(node.text for node in statements if node.text not in members),
         "bad_files": bad,
     }

@@ -37,39 +37,39 @@ def islands(mrt: Program, whole: Area) -> Islands:
             seen |= set(shared[-1].certificate.nodes)
     shared.sort(key=lambda island: -len(island.certificate.nodes))
     alone = [node for node in members if node.kind == ROUTER and node not in joined]
-    found = Islands(shared, alone, unsupported & set(whole.nodes), kept_out)
+    islands = Islands(shared, alone, unsupported & set(whole.nodes), kept_out)
     if not shared:
-        mrt.run("certify", some_member(found, whole).text)
-    return found
+        mrt.run("certify", some_member(islands, whole).text)
+    return islands
 
 
-def some_member(found: Islands, whole: Area) -> Node:
+def some_member(islands: Islands, whole: Area) -> Node:
     """A router that takes part, at which the program may be asked. Where there is none, it will say so of any other."""
-    routers = [island.certificate.root for island in found.shared] + found.alone
+    routers = [island.certificate.root for island in islands.shared] + islands.alone
     routers += [node for node in whole.nodes if node.kind == ROUTER] + [Node(0, ROUTER)]
     return routers[0]
 
 
-def why_not(bond: Bond, found: Islands) -> str | None:
+def why_not(bond: Bond, islands: Islands) -> str | None:
     """Why a link is in no island, if it is in none."""
     if not bond.two_way:
         return "one end alone tells of it"
     if not bond.transit:
         return "metric 65535"
-    if found.unsupported & {bond.a, bond.b}:
+    if islands.unsupported & {bond.a, bond.b}:
         return "a router that the profile keeps out"
-    if any(bond.is_of(router, data) for router, data in found.ineligible):
+    if any(bond.is_of(router, data) for router, data in islands.ineligible):
         return "kept out by the profile"
     return None
 
 
-def parts_of(found: Islands, cuts: Sequence[Cut]) -> Parts:
+def parts_of(islands: Islands, cuts: Sequence[Cut]) -> Parts:
     """What the picture of an area marks."""
     elements = [cut.element for cut in cuts]
     return Parts(
-        {island.certificate.root for island in found.shared},
-        {node for island in found.shared for node in island.certificate.nodes},
-        {bond for island in found.shared for bond in island.bonds},
+        {island.certificate.root for island in islands.shared},
+        {node for island in islands.shared for node in island.certificate.nodes},
+        {bond for island in islands.shared for bond in island.bonds},
         {element for element in elements if isinstance(element, Node)},
         {element for element in elements if isinstance(element, Bond)},
     )

@@ -45,11 +45,11 @@ def element_values(element: Node | Bond) -> Values:
 # the area
 
 
-def area_values(found: Found) -> Values:
-    whole, parts = found.area, found.islands
+def area_values(findings: Found) -> Values:
+    whole, parts = findings.area, findings.islands
     outside = [(bond, islands.why_not(bond, parts)) for bond in whole.bonds]
     routers = [node for node in whole.nodes if node.kind == ROUTER]
-    pairs = sum(map(len, found.facts.rows.values()))
+    pairs = sum(map(len, findings.facts.rows.values()))
     return {
         "routers": len(routers),
         "networks": len(whole.nodes) - len(routers),
@@ -72,7 +72,7 @@ def area_values(found: Found) -> Values:
                 "to": arc.to.text,
                 "data": lsas.spelled(arc.data),
                 "metric": arc.metric,
-                "there": arc.to in found.facts.graph.number,
+                "there": arc.to in findings.facts.graph.number,
             }
             for arc in whole.half
         ],
@@ -91,15 +91,15 @@ def cut_values(cut: Cut) -> Values:
 # pairs
 
 
-def pair_values(found: Facts) -> Values:
+def pair_values(all_pairs: Facts) -> Values:
     """How many pairs are in each class, by number and by what they send."""
-    graph, demand = found.graph, found.ground.demand
+    graph, demand = all_pairs.graph, all_pairs.ground.demand
     counts, sent = [0, 0, 0], [0.0, 0.0, 0.0]
-    for target, *classes in found.losses.classes():
+    for target, *classes in all_pairs.losses.classes():
         for place, bits in enumerate(classes):
             counts[place] += size_of(bits)
             if demand.told:
-                sent[place] += sum(demand.of(graph.nodes[each], graph.nodes[target]) for each in routers_of(bits))
+                sent[place] += sum(demand.of(graph.nodes[router], graph.nodes[target]) for router in routers_of(bits))
     names = "repaired", "parted", "gaps"
     return {"all": sum(counts), **dict(zip(names, counts)), "demand": dict(zip(names, sent)) if demand.told else None}
 
@@ -108,10 +108,10 @@ def cause_values(cause: Cause) -> Values:
     return element_values(cause.element) | {"cause": cause.kind, "by_choice": cause.by_choice}
 
 
-def gap_values(found: Found) -> list[Values]:
+def gap_values(findings: Found) -> list[Values]:
     """Why pairs are not repaired that could be, the most such pairs first."""
-    nodes = found.facts.graph.nodes
-    tallies = sorted(found.tallies.items(), key=lambda each: (-each[1].pairs, each[0]))
+    nodes = findings.facts.graph.nodes
+    tallies = sorted(findings.tallies.items(), key=lambda gap: (-gap[1].pairs, gap[0]))
     return [
         {
             "causes": list(map(cause_values, causes)),
@@ -133,9 +133,9 @@ def coverage_values(coverage: facts.Coverage) -> Values:
     }
 
 
-def all_coverage(found: Facts) -> Values:
+def all_coverage(all_pairs: Facts) -> Values:
     total = facts.Coverage()
-    for coverage in found.coverage.values():
+    for coverage in all_pairs.coverage.values():
         total.add(coverage)
     return coverage_values(total)
 
@@ -143,25 +143,26 @@ def all_coverage(found: Facts) -> Values:
 # stretch and load
 
 
-def stretched_values(found: Facts, each: Stretched) -> Values:
-    graph = found.graph
+def stretched_values(all_pairs: Facts, repair: Stretched) -> Values:
+    graph = all_pairs.graph
+    lines = cross_check.trace(all_pairs, repair.router, repair.target, repair.failed)
     return {
-        "from": graph.nodes[each.router].text,
-        "to": graph.nodes[each.target].text,
-        "failed": facts.name_of(graph, each.failed),
-        "color": COLORS[each.color],
-        "metric": each.cost // METRIC,
-        "least_metric": each.least // METRIC,
-        "ratio": round(each.ratio, 3),
-        "hops": each.cost % METRIC,
-        "least_hops": each.least % METRIC,
-        "trace": ["failed", "entered 0", *cross_check.trace(found, each.router, each.target, each.failed)],
+        "from": graph.nodes[repair.router].text,
+        "to": graph.nodes[repair.target].text,
+        "failed": facts.name_of(graph, repair.failed),
+        "color": COLORS[repair.color],
+        "metric": repair.cost // METRIC,
+        "least_metric": repair.least // METRIC,
+        "ratio": round(repair.ratio, 3),
+        "hops": repair.cost % METRIC,
+        "least_hops": repair.least % METRIC,
+        "trace": ["failed", "entered 0", *lines],
     }
 
 
-def stretch_values(found: Facts) -> Values:
-    own = found.stretches
-    weights = own.weights if found.ground.demand.told else None
+def stretch_values(all_pairs: Facts) -> Values:
+    own = all_pairs.stretches
+    weights = own.weights if all_pairs.ground.demand.told else None
     ratios, hops = stretches.Spread(own.ratios, weights), stretches.Spread(own.more_hops, weights)
     quartiles = ratios.quartiles()
     return {
@@ -170,7 +171,7 @@ def stretch_values(found: Facts) -> Values:
         "more_hops": hops.quartiles(),
         "metric_bars": bars(ratios, stretches.RATIOS),
         "hops_bars": bars(hops, stretches.HOPS),
-        "worst": [stretched_values(found, each) for each in own.worst],
+        "worst": [stretched_values(all_pairs, repair) for repair in own.worst],
     }
 
 
@@ -178,10 +179,10 @@ def bars(spread: stretches.Spread, ends: tuple[float, ...]) -> list[Values]:
     return [{"up_to": end, "repairs": count} for end, count in zip([*ends, None], spread.bars(ends))]
 
 
-def load_values(found: Facts) -> list[Values]:
+def load_values(all_pairs: Facts) -> list[Values]:
     """The load of each link, and the failure after which it is most."""
-    graph, values = found.graph, []
-    for bond, load, most in zip(graph.bonds, found.loads.load, found.loads.most()):
+    graph, values = all_pairs.graph, []
+    for bond, load, most in zip(graph.bonds, all_pairs.loads.load, all_pairs.loads.most()):
         failed = None if most.failed is None else facts.name_of(graph, most.failed)
         values.append(element_values(bond) | {"primaries": load, "most": most.load, "failed": failed})
     return values
@@ -190,19 +191,19 @@ def load_values(found: Facts) -> list[Values]:
 # routers
 
 
-def part_of(node: Node, found: Found) -> str:
+def part_of(node: Node, findings: Found) -> str:
     """Which part a router takes."""
-    if node in found.islands.unsupported:
+    if node in findings.islands.unsupported:
         return "no-mrt"
-    return "alone" if node in found.islands.alone else "member"
+    return "alone" if node in findings.islands.alone else "member"
 
 
-def router_values(found: Found) -> list[Values]:
-    graph, values = found.facts.graph, []
-    cut = {each.element for each in found.cuts}
-    roots = {node: island.certificate.root for island in found.islands.shared for node in island.certificate.nodes}
+def router_values(findings: Found) -> list[Values]:
+    graph, values = findings.facts.graph, []
+    cut = {cut_off.element for cut_off in findings.cuts}
+    roots = {node: island.certificate.root for island in findings.islands.shared for node in island.certificate.nodes}
     counts = {router: [0, 0, 0] for router in graph.routers}
-    for _, *classes in found.facts.losses.classes():
+    for _, *classes in findings.facts.losses.classes():
         for place, bits in enumerate(classes):
             for router in routers_of(bits):
                 counts[router][place] += 1
@@ -210,13 +211,13 @@ def router_values(found: Found) -> list[Values]:
         node = graph.nodes[router]
         own = {
             "router": node.text,
-            "part": "root" if roots.get(node) == node else part_of(node, found),
+            "part": "root" if roots.get(node) == node else part_of(node, findings),
             "root": roots[node].text if node in roots else None,
             "links": len(graph.links[node]),
             "single_point": node in cut,
             "classes": dict(zip(("repaired", "parted", "gaps"), counts[router])),
         }
-        values.append(own | coverage_values(found.facts.coverage[router]))
+        values.append(own | coverage_values(findings.facts.coverage[router]))
     return values
 
 
@@ -230,22 +231,22 @@ def state_of(toll: Toll) -> str:
     return "parts" if toll.parted else "choice" if toll.gaps else "repaired" if toll.met else "unused"
 
 
-def longest_values(found: Facts, element: int, longest: Longest) -> Values:
+def longest_values(all_pairs: Facts, element: int, longest: Longest) -> Values:
     """The longest repair of a failure, and the mean of all."""
-    nodes = found.graph.nodes
+    nodes = all_pairs.graph.nodes
     return {
         "ratio": round(longest.ratio, 3),
         "mean": round(longest.total / longest.number, 3),
         "from": nodes[longest.router].text,
         "to": nodes[longest.target].text,
-        "trace": cross_check.trace(found, longest.router, longest.target, element),
+        "trace": cross_check.trace(all_pairs, longest.router, longest.target, element),
     }
 
 
-def failure_values(found: Facts, element: int) -> Values:
+def failure_values(all_pairs: Facts, element: int) -> Values:
     """What a failure costs."""
-    graph, toll = found.graph, found.losses.tolls[element]
-    nodes, longest = graph.nodes, found.stretches.longest.get(element)
+    graph, toll = all_pairs.graph, all_pairs.losses.tolls[element]
+    nodes, longest = graph.nodes, all_pairs.stretches.longest.get(element)
     return element_values(graph.of_element(element)) | {
         "state": state_of(toll),
         "pairs": toll.met,
@@ -259,10 +260,10 @@ def failure_values(found: Facts, element: int) -> Values:
             {"router": nodes[router].text, "blue": blue, "red": red, "gaps": gaps, "parted": parted}
             for router, (blue, red, gaps, parted) in sorted(toll.rows.items())
         ],
-        "longest": longest and longest_values(found, element, longest),
+        "longest": longest and longest_values(all_pairs, element, longest),
         "fullest": [
-            {"link": facts.name_of(graph, bond), "before": found.loads.load[bond], "more": more}
-            for bond, more in found.loads.fullest(element)
+            {"link": facts.name_of(graph, bond), "before": all_pairs.loads.load[bond], "more": more}
+            for bond, more in all_pairs.loads.fullest(element)
         ],
         "shown": [[nodes[one].text, nodes[other].text] for one, other in toll.shown],
     }
@@ -271,36 +272,36 @@ def failure_values(found: Facts, element: int) -> Values:
 STATES = "gap", "parts", "choice", "repaired", "unused"
 
 
-def all_failures(found: Facts) -> list[Values]:
+def all_failures(all_pairs: Facts) -> list[Values]:
     """All failures, first those that are not repaired though there is a way, then those that part pairs, then those that
     are not repaired by choice; the most such pairs first."""
-    values = [failure_values(found, element) for element in range(len(found.losses.tolls))]
+    values = [failure_values(all_pairs, element) for element in range(len(all_pairs.losses.tolls))]
     return sorted(
-        values, key=lambda each: (STATES.index(each["state"]), -each["gaps"], -each["parted"], -each["pairs"])
+        values, key=lambda one: (STATES.index(one["state"]), -one["gaps"], -one["parted"], -one["pairs"])
     )
 
 
-def report_values(found: Found, made: Values) -> Values:
+def report_values(findings: Found, made: Values) -> Values:
     """The whole report."""
-    loads = load_values(found.facts)
+    loads = load_values(findings.facts)
     growing = sorted(loads, key=lambda link: (link["primaries"] - link["most"], link["element"]))
     return {
         "format": "semborui-report",
         "version": VERSION,
         "made": made,
-        "pairs": pair_values(found.facts),
-        "gaps": gap_values(found),
-        "area": area_values(found),
-        "single_points": list(map(cut_values, found.cuts)),
-        "failures": all_failures(found.facts),
-        "coverage": all_coverage(found.facts),
-        "stretch": stretch_values(found.facts),
+        "pairs": pair_values(findings.facts),
+        "gaps": gap_values(findings),
+        "area": area_values(findings),
+        "single_points": list(map(cut_values, findings.cuts)),
+        "failures": all_failures(findings.facts),
+        "coverage": all_coverage(findings.facts),
+        "stretch": stretch_values(findings.facts),
         "load": {
             "links": loads,
             "growing": [link["element"] for link in growing[:10] if link["most"] > link["primaries"]],
         },
-        "routers": router_values(found),
-        "asked_of_mrt": found.asked._asdict(),
+        "routers": router_values(findings),
+        "asked_of_mrt": findings.asked._asdict(),
     }
 
 
