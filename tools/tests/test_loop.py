@@ -94,6 +94,16 @@ class Changes(WithAgent):
         self.assertEqual(self.repairs().items() & before.items(), set())
         self.assertLess(self.by_fib(), self.router.state())
 
+    def test_a_link_that_is_away_is_no_customers(self) -> None:
+        """Where it comes back before there is a table with it, what comes on a color ends, and goes on by no primary."""
+        agent = self.agent()
+        self.settle(agent)
+        self.assertIn('iifname != { "to-r2", "to-r3", "to-r4" } ip dscp set 0', self.router.nft)
+        self.without_link(1, 2)
+        self.settle(agent)
+        self.assertIn('iifname != { "to-r2", "to-r3", "to-r4" } ip dscp set 0', self.router.nft)
+        self.assertNotIn("to-r2", agent.devices)
+
     def test_a_repair_without_another_one_stays_with_its_rows(self) -> None:
         agent = self.agent()
         self.settle(agent)

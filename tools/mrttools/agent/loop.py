@@ -62,6 +62,8 @@ class Agent:
         self.state: State = NOTHING
         self.news = News()
         self.nft, self.marks, self.devices = "", "", set[str]()
+        # The interfaces that had links of the area since the agent began.
+        self.inside: set[str] = set()
         # The prefixes to which no repair is to be, as the daemon has lost its route.
         self.gone: frozenset[str] = frozenset()
         # When it was looked at next and last, and when it was changed last.
@@ -260,7 +262,9 @@ class Agent:
         if line:
             tell(line)
         self.links, self.devices = links, self.inputs.interfaces.of(ways.own_addresses())
-        self.mark(made.nft)
+        # (a link that is away may come back before there is a table with it: what comes by it on a color is to end then)
+        self.inside |= self.devices
+        self.mark(kernel.marking(self.args.dscp, self.inside))
         self.set()
         self.put_or_refuse(now)
         self.status.installed(made, digest, is_other, self.left_out(made))
