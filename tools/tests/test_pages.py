@@ -15,7 +15,7 @@ ROOT = os.path.dirname(TOOLS)
 DATA = os.path.join("crates", "mrt", "data")
 WORDS = {"README.md": 2500, "docs/AUDIT.md": 1800, "docs/OPERATORS.md": 4500}
 NARROW = ["README.md", "docs/COMMANDS.md", "docs/AUDIT.md", "docs/DECISIONS.md"]
-ALL_WORDS = 31200
+ALL_WORDS = 31600
 MADE = {"docs/CLAUSES.md", "docs/DEFINITIONS.md"}
 
 
