@@ -27,6 +27,7 @@ pub(crate) fn known_node(c: &Cert, number: NodeNo) -> KnownNode
 }
 
 /// Whether `v` has a row for `t`, and the row has this tag.
+#[inline(always)]
 pub(crate) fn has_tag(c: &Cert, v: &KnownNode, t: NodeNo, tag: Tag) -> bool
     requires from { IsKnown c.now v.now }
     requires to { t < length c.now.nodes }

@@ -46,6 +46,7 @@ pub(crate) fn keeps_near_rule(
     }
 }
 
+#[inline(always)]
 fn sole(c: &Cert, t: NodeNo, row: &Row, blue: &KnownNode) -> bool
     requires { row.now.blue < length c.now.links }
     ensures { result ≡ sole_row c.now t row.now blue.now.number }
@@ -53,6 +54,7 @@ fn sole(c: &Cert, t: NodeNo, row: &Row, blue: &KnownNode) -> bool
     row.blue == row.red && is_sole_link(c, row.blue) && blue.number == t
 }
 
+#[inline(always)]
 fn head(c: &Cert, s: &KnownNode, t: NodeNo, row: &Row, blue: &KnownNode, red: &KnownNode) -> bool
     requires { IsNearRowAt c.now s.now t row.now blue.now red.now }
     ensures { result ≡ head_row c.now s.now.number t row.now blue.now.number red.now.number }
@@ -62,6 +64,7 @@ fn head(c: &Cert, s: &KnownNode, t: NodeNo, row: &Row, blue: &KnownNode, red: &K
         && (is_lower_beside(c, s, red) || is_plain_link(c, row.red) && red.number == t)
 }
 
+#[inline(always)]
 fn top(c: &Cert, s: &KnownNode, t: NodeNo, row: &Row, blue: &KnownNode, red: &KnownNode) -> bool
     requires { IsNearRowAt c.now s.now t row.now blue.now red.now }
     ensures { result ≡ top_row c.now s.now.number t row.now blue.now.number red.now.number }
@@ -73,6 +76,7 @@ fn top(c: &Cert, s: &KnownNode, t: NodeNo, row: &Row, blue: &KnownNode, red: &Kn
         && (red.number == t || has_tag(c, red, t, Tag::Above))
 }
 
+#[inline(always)]
 fn below(c: &Cert, s: &KnownNode, t: NodeNo, row: &Row, blue: &KnownNode, red: &KnownNode) -> bool
     requires { IsNearRowAt c.now s.now t row.now blue.now red.now }
     ensures { result ≡ below_row c.now s.now.number t row.now blue.now.number red.now.number }
@@ -83,6 +87,7 @@ fn below(c: &Cert, s: &KnownNode, t: NodeNo, row: &Row, blue: &KnownNode, red: &
         && (is_lower_tagged(c, s, t, Tag::Below, red) || is_plain_home(c, row.red, s, red))
 }
 
+#[inline(always)]
 fn above(c: &Cert, s: &KnownNode, t: NodeNo, row: &Row, blue: &KnownNode, red: &KnownNode) -> bool
     requires { IsNearRowAt c.now s.now t row.now blue.now red.now }
     ensures { result ≡ above_row c.now s.now.number t row.now blue.now.number red.now.number }
@@ -93,6 +98,7 @@ fn above(c: &Cert, s: &KnownNode, t: NodeNo, row: &Row, blue: &KnownNode, red: &
         && (red.number == t || is_lower_tagged(c, s, t, Tag::Above, red))
 }
 
+#[inline(always)]
 fn unordered(
     c: &Cert,
     s: &KnownNode,
@@ -131,6 +137,7 @@ fn is_lower_beside(c: &Cert, s: &KnownNode, v: &KnownNode) -> bool
 }
 
 /// Whether `v` has a greater order than `s`, and its row for `t` has this tag.
+#[inline(always)]
 fn is_higher_tagged(c: &Cert, s: &KnownNode, t: NodeNo, tag: Tag, v: &KnownNode) -> bool
     requires source { IsKnown c.now s.now }
     requires target { t < length c.now.nodes }
@@ -141,6 +148,7 @@ fn is_higher_tagged(c: &Cert, s: &KnownNode, t: NodeNo, tag: Tag, v: &KnownNode)
 }
 
 /// Whether `v` has a smaller order than `s`, and its row for `t` has this tag.
+#[inline(always)]
 fn is_lower_tagged(c: &Cert, s: &KnownNode, t: NodeNo, tag: Tag, v: &KnownNode) -> bool
     requires source { IsKnown c.now s.now }
     requires target { t < length c.now.nodes }
