@@ -355,7 +355,8 @@ class Library:
 
     def proxy(self, area: Area, router: int, pairs: Sequence[tuple[int, int]]) -> list[ProxyRow | Refused]:
         """What a router installs for prefixes at two routers each; for two that give no hops, what refuses them."""
-        given, rows, count = (CPair * len(pairs))(*pairs), (CProxyRow * len(pairs))(), c_size_t()
+        given = (CPair * len(pairs))(*(CPair(*pair) for pair in pairs))
+        rows, count = (CProxyRow * len(pairs))(), c_size_t()
         self.ask("mrt_proxy", area, router, given, len(given), rows, len(rows), ctypes.byref(count))
         return [self.proxy_row(row) for row in rows]
 
