@@ -13,7 +13,7 @@
  * - All buffers are the caller's. What a call takes beside them it takes by malloc and realloc and gives back by free
  *   before it returns; where there is none it answers MRT_NO_MEMORY. A stack of 64 KiB serves. No call waits, starts a
  *   thread, writes to a stream, reads a file, a clock or a random number, or ends the process. The same arguments give
- *   the same answer, but for want of memory.
+ *   the same answer, but for want of memory (proved of certificates, verdicts and texts, tested of rows).
  * - What the caller owes, and nothing checks: a pointer is never NULL, also where its length is 0; it is aligned as its
  *   type is; as many elements are there as the length says, which may be read, or written where the pointer is not to
  *   const, throughout the call, and which nothing else writes meanwhile; what a call writes overlaps with nothing else
@@ -24,15 +24,15 @@
  *     - MRT_WRITE_FAULT: there is no room for it. *count is how much room it takes; what the buffer holds is not said.
  *     - any other: there is none, and why. *count is 0 (but for mrt_run's and mrt_line's texts), and what else the call
  *       would have given is not said.
- *   `fault` is always written: the status again, with its numbers, all 0 on MRT_DONE. mrt_line spells it.
+ *   `fault` is always written: the status again, with its numbers, all 0 on MRT_DONE. mrt_line reads it, and spells it.
  * - `room`, `*count` and lengths are in elements of what the pointer is to: bytes or rows. Numbers are in the
  *   processor's order; an address or a router ID is the number whose highest byte is written first (10.0.0.1 is
  *   0x0a000001). Bytes of LSAs and certificates are in network order, as in files.
  * - Fields and calls are added, never changed: a reserved field is 0 until an interface gives it a meaning, no struct
- *   grows, and a later interface has each call and each value of this one. It may have more of them, and higher limits:
- *   take a status that is not here as a refusal, which mrt_line spells, and a tag or a kind that is not here as one of
- *   no use to you; and take room from the counts that a call gives where it has to serve a later library. Interface 1
- *   is fixed with the first release that has it, and may change before.
+ *   grows, and a later interface has each call and each value of this one. It may have more calls, statuses and tags,
+ *   and higher limits: take a status that is not here as a refusal, which mrt_line spells, and a tag that is not here
+ *   as one of no use to you; and take room from the counts that a call gives where it has to serve a later library.
+ *   Interface 1 is fixed with the first release that has it, and may change before.
  * - It runs on x86-64 alone, and needs x86-64-v2 (SSE4.2, POPCNT).
  */
 #ifndef MRT_H
@@ -154,7 +154,7 @@ extern "C" {
 #define MRT_NO_ELEMENT 0u
 #define MRT_BLUE 1u
 #define MRT_RED 2u
-/* No color does: each way from the router to the node uses the element, or the node is the element. */
+/* No color does: each way in the island from the router to the node uses the element, or the node is the element. */
 #define MRT_NO_COLOR 3u
 
 /* Bytes that are read. 16 bytes. */
@@ -329,7 +329,8 @@ uint32_t mrt_table(const struct mrt_area *area, uint32_t router, struct mrt_row 
 		   struct mrt_fault *fault);
 
 /*
- * The same row for one node, MRT_ROUTER or MRT_NETWORK and its number. It takes the time of one destination.
+ * The row of mrt_table for one node, MRT_ROUTER or MRT_NETWORK and its number (that it is the same one is tested). It
+ * takes the time of one destination.
  *
  * Statuses: MRT_DONE, MRT_USAGE, MRT_BAD_DATABASE, MRT_BAD_PROFILE, MRT_TOO_LARGE, MRT_NOT_THERE, MRT_NO_MEMORY.
  * MRT_NOT_THERE is of the router; else of the node, where its island has no such node or it is the router itself.

@@ -91,13 +91,20 @@ static void print_hop(const char *name, const struct mrt_hop *hop)
 	printf("/%s", address(hop->link_data, text));
 }
 
-static void print_row(const struct mrt_row *row)
+/* A later library may have more of them. */
+static const char *tag(uint32_t number)
 {
 	static const char *const tags[] = { "sole", "head", "top", "below", "above", "unordered", "carried" };
+
+	return number <= MRT_TAG_CARRIED ? tags[number] : "?";
+}
+
+static void print_row(const struct mrt_row *row)
+{
 	static const char *const letters[] = { "", "b", "r", "-" };
 
 	print_node(row->kind, row->number);
-	printf(" %s", tags[row->tag]);
+	printf(" %s", tag(row->tag));
 	print_hop("blue", &row->blue);
 	print_hop("red", &row->red);
 	print_hop("primary", &row->primary);

@@ -138,7 +138,7 @@ class Row:
     def __str__(self) -> str:
         letters = "".join(LETTERS[color] for color in self.repairs)
         hops = f"blue {self.blue} red {self.red} primary {self.primary}"
-        return f"{self.node} {TAGS[self.tag]} {hops} repair {letters}"
+        return f"{self.node} {TAGS[self.tag] if self.tag < len(TAGS) else '?'} {hops} repair {letters}"
 
 
 @dataclass(frozen=True)
@@ -153,9 +153,10 @@ class ProxyRow:
 
 
 class Refused(Exception):
-    """The library has no answer. The text is the program's line on it; the numbers are those of struct mrt_fault."""
+    """The library has no answer. The text is the program's line on it; the numbers are those of struct mrt_fault. The status
+    is one of Status, or one of a later library."""
 
-    def __init__(self, status: Status, line: str, kind: int = 0, at: int = 0, other: int = 0, size: int = 0) -> None:
+    def __init__(self, status: int, line: str, kind: int = 0, at: int = 0, other: int = 0, size: int = 0) -> None:
         super().__init__(line)
         self.status, self.kind, self.at, self.other, self.size = status, kind, at, other, size
 
@@ -375,7 +376,7 @@ class Library:
             raise self.refused(fault)
 
     def refused(self, fault: CFault) -> Refused:
-        return Refused(Status(fault.status), self.line(fault), fault.kind, fault.at, fault.other, fault.size)
+        return Refused(fault.status, self.line(fault), fault.kind, fault.at, fault.other, fault.size)
 
     def line(self, fault: CFault) -> str:
         """The program's line on a fault."""

@@ -45,6 +45,8 @@ pub enum Status {
     BadScript = 11,
     NoCommonBlock = 13,
     BadUpdate = 14,
+    /// one of a later library
+    Other = 255,
 }
 
 impl Status {
@@ -63,7 +65,7 @@ impl Status {
             11 => Status::BadScript,
             13 => Status::NoCommonBlock,
             14 => Status::BadUpdate,
-            _ => unreachable!("mrt.h has no status {number}"),
+            _ => Status::Other,
         }
     }
 }

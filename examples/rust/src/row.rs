@@ -68,6 +68,8 @@ pub enum Tag {
     Above,
     Unordered,
     Carried,
+    /// one of a later library
+    Other(u32),
 }
 
 impl Tag {
@@ -80,7 +82,7 @@ impl Tag {
             4 => Tag::Above,
             5 => Tag::Unordered,
             6 => Tag::Carried,
-            _ => unreachable!("mrt.h has no tag {number}"),
+            _ => Tag::Other(number),
         }
     }
 }
@@ -95,6 +97,7 @@ impl fmt::Display for Tag {
             Tag::Above => "above",
             Tag::Unordered => "unordered",
             Tag::Carried => "carried",
+            Tag::Other(_) => "?",
         })
     }
 }
