@@ -12,12 +12,11 @@ use primary_alt::{alternate, alternate_on};
 use std::alloc::Global;
 
 /// The color on which a node, which the second word numbers, sends a packet for the third one after a failure.
-pub fn put_alternate(g: &Graph, cert: &Cert, words: &[&str], page: &mut Page)
+pub fn put_alternate(g: &Graph, cert: &Cert, words: &str, page: &mut Page)
     requires { IsAcceptedFor g.now cert.now }
 {
     let (source, to) = (number_16(word(words, 1)), number_16(word(words, 2)));
     if g.node_count() <= source || g.node_count() <= to {
-        page.put("not asked: no such node\n");
         return;
     }
     let failed = failed(word(words, 3), number_16(word(words, 4)));
@@ -58,12 +57,10 @@ fn put_repairs_to(alloc: Global, g: &Graph, root: NodeNo, cert: &Cert, t: NodeNo
     requires target { t < length g.now.ids }
 {
     let Ok(d) = directions(alloc, g, root) else {
-        page.lacks_memory();
         return;
     };
-    match column_of(alloc, g, root, &d, t) {
-        Ok(column) => put_column(g, cert, &column, t, page),
-        Err(_) => page.lacks_memory(),
+    if let Ok(column) = column_of(alloc, g, root, &d, t) {
+        put_column(g, cert, &column, t, page);
     }
 }
 
@@ -91,7 +88,7 @@ fn put_both(g: &Graph, cert: &Cert, column: &Column, t: NodeNo, x: &Element, pag
 {
     put_letters(g, cert, t, x, page);
     put_letters_on(g, column, t, x, page);
-    page.put("\n");
+    page.end();
 }
 
 /// The letters of all sources by the certificate; a dot for the destination itself.

@@ -5,7 +5,7 @@ ghost use Rattle.std.specs.Prelude.{◌≤◌, length};
 use crate::lsas::put_error;
 use area_graph::{Area, AreaError, build_area};
 use file_key::FileKey;
-use lsdb::{Lsdb, database_of};
+use lsdb::{Conflict, Lsdb, database_of};
 use ospf_lsa::read_lsas;
 use parts_of_tests::Page;
 use std::alloc::Global;
@@ -17,10 +17,7 @@ pub fn area(alloc: Global, bytes: &[u8], page: &mut Page) -> Option<Area>
     match read_lsas(alloc, bytes) {
         Ok(lsas) => match database_of(alloc, FileKey::of(bytes), lsas) {
             Ok(database) => area_in(alloc, &database, page),
-            Err(_) => {
-                page.lacks_memory();
-                None
-            }
+            Err(_) => None,
         },
         Err(error) => {
             put_error(page, error);
@@ -32,9 +29,7 @@ pub fn area(alloc: Global, bytes: &[u8], page: &mut Page) -> Option<Area>
 /// The area of a database; where there is none, it says why.
 pub fn area_in(alloc: Global, database: &Lsdb, page: &mut Page) -> Option<Area> {
     if let Err(conflict) = database.settled() {
-        page.number("conflict at ", conflict.second as u64);
-        page.number(" with ", conflict.first as u64);
-        page.put("\n");
+        put_conflict(page, conflict);
         return None;
     }
     match build_area(alloc, database) {
@@ -42,12 +37,16 @@ pub fn area_in(alloc: Global, database: &Lsdb, page: &mut Page) -> Option<Area> 
         Err(AreaError::TooLarge { nodes, arcs }) => {
             page.number("too large: nodes ", nodes as u64);
             page.number(" arcs ", arcs as u64);
-            page.put("\n");
+            page.end();
             None
         }
-        Err(AreaError::NoMemory) => {
-            page.lacks_memory();
-            None
-        }
+        Err(AreaError::NoMemory) => None,
     }
+}
+
+/// Says which newest instances differ.
+pub fn put_conflict(page: &mut Page, conflict: Conflict) {
+    page.number("conflict at ", conflict.second as u64);
+    page.number(" with ", conflict.first as u64);
+    page.end();
 }

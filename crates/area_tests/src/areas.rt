@@ -28,7 +28,7 @@ fn put_place(page: &mut Page, spot: Option<Spot>) {
         Some(spot) => page.count(" found at ", spot.get()),
         None => page.put(" not found"),
     }
-    page.put("\n");
+    page.end();
 }
 
 fn put_arc(page: &mut Page, arc: &Arc) {
@@ -53,20 +53,20 @@ fn put_bonds(page: &mut Page, bonds: &[Bond]) {
 }
 
 /// The place of each node that a word names.
-pub fn put_found(page: &mut Page, area: &Area, words: &[&str]) {
-    for name in words {
+pub fn put_found(page: &mut Page, area: &Area, words: &str) {
+    for name in words.split_terminator(' ') {
         page.put(name);
         put_place(page, area.find(node(name)));
     }
 }
 
 /// The bond of a router's first arc with link data.
-pub fn put_named(page: &mut Page, area: &Area, words: &[&str]) {
+pub fn put_named(page: &mut Page, area: &Area, words: &str) {
     match area.named(address(word(words, 0)), address(word(words, 1))) {
         Some(bond) => page.count("bond ", bond.get()),
         None => page.put("none"),
     }
-    page.put("\n");
+    page.end();
 }
 
 /// As many arcs, by number, as the first node has.

@@ -30,9 +30,9 @@ fn put_error(page: &mut Page, error: UpdateError) {
         UpdateError::Fault { at, kind } => {
             put_kind(page, kind);
             page.number(" at ", at as u64);
-            page.put("\n");
+            page.end();
         }
-        UpdateError::NoMemory => page.lacks_memory(),
+        UpdateError::NoMemory => {}
     }
 }
 
@@ -55,7 +55,7 @@ fn put_updates(page: &mut Page, updates: &[Update]) {
         page.number("packet at ", update.at as u64);
         page.address(": router ", update.router);
         page.number(" area ", update.area as u64);
-        page.put("\n");
+        page.end();
         put_lsas(page, update.lsas.as_slice());
     }
 }
@@ -71,16 +71,14 @@ fn flood_of(alloc: Global, packets: &[u8]) -> Option<Flood>
     }
 }
 
-pub fn put_delivery(alloc: Global, packets: &[u8], words: &[&str], page: &mut Page)
+pub fn put_delivery(alloc: Global, packets: &[u8], words: &str, page: &mut Page)
     requires { length packets.now ≤ 8388608 }
 {
     let Some(flood) = flood_of(alloc, packets) else {
-        page.put("no answer\n");
         return;
     };
-    match flood.deliver(number(word(words, 0)), number_16(word(words, 1))) {
-        Ok((_flood, answer)) => put_answer(page, answer),
-        Err(_) => page.lacks_memory(),
+    if let Ok((_flood, answer)) = flood.deliver(number(word(words, 0)), number_16(word(words, 1))) {
+        put_answer(page, answer);
     }
 }
 
@@ -91,16 +89,15 @@ fn put_answer(page: &mut Page, answer: Answer) {
             if let Some(number) = sent {
                 page.number(" sent ", number as u64);
             }
-            page.put("\n");
+            page.end();
         }
         Answer::NoSuchPacket => page.put("no such packet\n"),
         Answer::NoSuchRouter => page.put("no such router\n"),
     }
 }
 
-pub fn put_script(alloc: Global, words: &[&str], page: &mut Page) {
+pub fn put_script(alloc: Global, words: &str, page: &mut Page) {
     let script = text(alloc, words);
-    page.heed(&script);
     match read_flood_script(alloc, front(script.bytes())) {
         Ok(script) => {
             page.count("routers ", script.routers);
@@ -108,14 +105,14 @@ pub fn put_script(alloc: Global, words: &[&str], page: &mut Page) {
         }
         Err(FloodScriptError::Fault { line }) => {
             page.number("fault in line ", line as u64);
-            page.put("\n");
+            page.end();
         }
-        Err(FloodScriptError::NoMemory) => page.lacks_memory(),
+        Err(FloodScriptError::NoMemory) => {}
     }
 }
 
 fn put_lines(page: &mut Page, lines: &[FloodLine]) {
-    page.put("\n");
+    page.end();
     for line in lines {
         match *line {
             FloodLine::Deliver { packet, router } => {
@@ -128,7 +125,7 @@ fn put_lines(page: &mut Page, lines: &[FloodLine]) {
                 page.address(" ", router);
             }
         }
-        page.put("\n");
+        page.end();
     }
 }
 
@@ -175,20 +172,15 @@ fn nodes(alloc: Global, database: &SharedLsdb, router: u32) -> Option<u16> {
 }
 
 /// The text of a script over packets.
-pub fn put_flood(alloc: Global, packets: &[u8], words: &[&str], page: &mut Page)
+pub fn put_flood(alloc: Global, packets: &[u8], words: &str, page: &mut Page)
     requires { length packets.now ≤ 8388608 }
 {
     let told = text(alloc, words);
-    page.heed(&told);
     let Ok(script) = read_flood_script(alloc, front(told.bytes())) else {
-        page.put("not run\n");
         return;
     };
-    match read_updates(alloc, packets) {
-        Ok(updates) => {
-            let file = FileKey::of(packets);
-            page.made(flood_text(alloc, file, updates, &script, &ByNodes));
-        }
-        Err(_) => page.put("not run\n"),
+    if let Ok(updates) = read_updates(alloc, packets) {
+        let file = FileKey::of(packets);
+        page.made(flood_text(alloc, file, updates, &script, &ByNodes));
     }
 }

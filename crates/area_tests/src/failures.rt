@@ -22,7 +22,7 @@ pub fn put_packets(
     area: &Area,
     island: &Island,
     cert: &Cert,
-    words: &[&str],
+    words: &str,
     page: &mut Page,
 )
     requires fits { Fits area.now island.now.graph island.now.link_of }
@@ -30,18 +30,15 @@ pub fn put_packets(
 {
     let room = number_16(word(words, 1));
     if room == 0 {
-        page.put("not asked: no room\n");
         return;
     }
     a_certificate_serves_each_event();
     let (g, links) = (&island.graph, island.link_of.as_slice());
     let Ok(routes) = Routes::new(alloc, area, g, links) else {
-        page.lacks_memory();
         return;
     };
-    match Fabric::new(alloc, area, g, cert, &routes, room) {
-        Ok(mut fabric) => put_answers(alloc, area, &mut fabric, after(words, 2), page),
-        Err(_) => page.lacks_memory(),
+    if let Ok(mut fabric) = Fabric::new(alloc, area, g, cert, &routes, room) {
+        put_answers(alloc, area, &mut fabric, after(words, 2), page);
     }
 }
 
@@ -49,20 +46,15 @@ fn put_answers(
     alloc: Global,
     area: &Area,
     fabric: &mut Fabric<'_, Cert>,
-    words: &[&str],
+    words: &str,
     page: &mut Page,
 )
     requires area { fabric.old.tables.area ≡ area.now }
     requires served { (event : Event) → IsEventServed (parts_of row_of fabric.old.tables) fabric.old.tables.routes event }
 {
-    for text in words {
-        match event(text) {
-            Some(event) => put_answer(alloc, area, fabric, event, page),
-            None => {
-                page.put("no event: ");
-                page.put(text);
-                page.put("\n");
-            }
+    for text in words.split_terminator(' ') {
+        if let Some(event) = event(text) {
+            put_answer(alloc, area, fabric, event, page);
         }
     }
 }

@@ -14,10 +14,9 @@ use primary_alt::{Primary, primaries};
 use std::alloc::Global;
 
 /// `primaries FILE ROUTER`, `loop_free FILE ROUTER` and `lfa_text FILE ROUTER`, with the router's number in the area.
-pub fn put_hops(alloc: Global, area: &Area, call: Call, words: &[&str], page: &mut Page) {
-    match source(area, number_16(word(words, 0))) {
-        Some(source) => put_of_router(alloc, area, call, source, page),
-        None => page.put("no router\n"),
+pub fn put_hops(alloc: Global, area: &Area, call: Call, words: &str, page: &mut Page) {
+    if let Some(source) = source(area, number_16(word(words, 0))) {
+        put_of_router(alloc, area, call, source, page);
     }
 }
 
@@ -41,14 +40,16 @@ fn put_of_router(alloc: Global, area: &Area, call: Call, source: Spot, page: &mu
     requires router { ¬ IsNetwork area.now.ids source }
 {
     match call {
-        Call::Primaries => match primaries(alloc, area, source) {
-            Ok(entries) => put_primaries(page, &entries),
-            Err(_) => page.lacks_memory(),
-        },
-        Call::LoopFree => match loop_free(alloc, area, source) {
-            Ok(entries) => put_alternates(page, &entries),
-            Err(_) => page.lacks_memory(),
-        },
+        Call::Primaries => {
+            if let Ok(entries) = primaries(alloc, area, source) {
+                put_primaries(page, &entries);
+            }
+        }
+        Call::LoopFree => {
+            if let Ok(entries) = loop_free(alloc, area, source) {
+                put_alternates(page, &entries);
+            }
+        }
         _ => page.made(lfa_text(alloc, area, source)),
     }
 }
@@ -66,7 +67,7 @@ pub fn put_primary(page: &mut Page, primary: Option<Primary>) {
         Some(primary) => put_hop(page, primary.first, primary.second, primary.next),
         None => page.put(": none"),
     }
-    page.put("\n");
+    page.end();
 }
 
 /// A line for each node: after a hop `node` where the primary's next is protected, else `link`.

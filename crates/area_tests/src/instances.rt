@@ -6,6 +6,7 @@
 ghost use Rattle.std.specs.Prelude.{◌≡◌, IsTrue, OnOk, Some};
 ghost use Rattle.lsdb.specs.Installing.{IsBehind};
 
+use crate::area_told::put_conflict;
 use crate::kept::{Instance, put};
 use crate::lsa_text::{put_lsas, put_placeless};
 use crate::told::{address, field, number, number_16, word};
@@ -52,17 +53,15 @@ fn is_behind(greatest: Option<u32>, at: u32) -> bool
     }
 }
 
-pub fn put_installed(alloc: Global, words: &[&str], page: &mut Page) {
+pub fn put_installed(alloc: Global, words: &str, page: &mut Page) {
     let mut database = Lsdb::new(alloc);
     let mut greatest = None;
-    for told in words {
+    for told in words.split_terminator(' ') {
         let at = number(field(told, 0));
         if !is_behind(greatest, at) {
-            page.put("not asked: a place that is not after the last one\n");
             break;
         }
         let Ok(change) = put_told(alloc, &mut database, at, told) else {
-            page.lacks_memory();
             break;
         };
         greatest = Some(at);
@@ -85,11 +84,7 @@ fn change_word(change: Change) -> &'static str {
 fn put_settled(page: &mut Page, database: &Lsdb) {
     match database.settled() {
         Ok(()) => page.put("settled\n"),
-        Err(conflict) => {
-            page.number("conflict at ", conflict.second as u64);
-            page.number(" with ", conflict.first as u64);
-            page.put("\n");
-        }
+        Err(conflict) => put_conflict(page, conflict),
     }
 }
 
@@ -106,7 +101,7 @@ fn order(number: usize) -> [usize; 5] {
 }
 
 /// Five instances in this order.
-fn filled(alloc: Global, words: &[&str], order: [usize; 5]) -> Result<Lsdb, NoMemory> {
+fn filled(alloc: Global, words: &str, order: [usize; 5]) -> Result<Lsdb, NoMemory> {
     let mut database = Lsdb::new(alloc);
     for place in 0..5 {
         let told = word(words, order[place as usize]);
@@ -138,18 +133,15 @@ fn put_by_id(page: &mut Page, lsas: &[Lsa]) {
 }
 
 /// What the database of an order says.
-fn put_order(alloc: Global, words: &[&str], number: usize, page: &mut Page) {
-    match filled(alloc, words, order(number)) {
-        Ok(database) => {
-            put_by_id(page, database.newest());
-            put_settled(page, &database);
-        }
-        Err(_) => page.lacks_memory(),
+fn put_order(alloc: Global, words: &str, number: usize, page: &mut Page) {
+    if let Ok(database) = filled(alloc, words, order(number)) {
+        put_by_id(page, database.newest());
+        put_settled(page, &database);
     }
 }
 
 /// What comes of five instances, after each number of an order from which on it is another.
-pub fn put_orders(alloc: Global, words: &[&str], page: &mut Page) {
+pub fn put_orders(alloc: Global, words: &str, page: &mut Page) {
     let mut last = Page::new(alloc);
     for number in 0..120 {
         let mut told = Page::new(alloc);
@@ -159,7 +151,6 @@ pub fn put_orders(alloc: Global, words: &[&str], page: &mut Page) {
             page.put(" on:\n");
             page.put_bytes(told.bytes());
         }
-        page.heed(&told);
         last = told;
     }
 }

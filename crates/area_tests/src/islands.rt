@@ -12,20 +12,19 @@ use parts_of_tests::Page;
 use std::alloc::Global;
 
 /// `profile ROUTER DATA TEXT..`: what a profile says of a router and of its links with link data.
-pub fn put_profile(alloc: Global, words: &[&str], page: &mut Page) {
+pub fn put_profile(alloc: Global, words: &str, page: &mut Page) {
     if let Some(profile) = profile(alloc, after(words, 2), page) {
         let (router, data) = (address(word(words, 0)), address(word(words, 1)));
         page.number("priority ", profile.priority(router) as u64);
         page.truth(" supports ", profile.supports(router));
         page.truth(" eligible ", profile.eligible(router, data));
-        page.put("\n");
+        page.end();
     }
 }
 
 /// The profile that words tell; where they tell none, it says why.
-fn profile(alloc: Global, words: &[&str], page: &mut Page) -> Option<Profile> {
+fn profile(alloc: Global, words: &str, page: &mut Page) -> Option<Profile> {
     let text = text(alloc, words);
-    page.heed(&text);
     match read_profile(alloc, front(text.bytes())) {
         Ok(profile) => Some(profile),
         Err(error) => {
@@ -40,9 +39,9 @@ fn put_profile_error(page: &mut Page, error: ProfileError) {
         ProfileError::Fault { line, kind } => {
             page.put(kind_word(kind));
             page.number(" in line ", line as u64);
-            page.put("\n");
+            page.end();
         }
-        ProfileError::NoMemory => page.lacks_memory(),
+        ProfileError::NoMemory => {}
     }
 }
 
@@ -57,7 +56,7 @@ fn kind_word(kind: ProfileKind) -> &'static str {
 }
 
 /// The island of a router of the area, which the first word names, under the profile of the others.
-pub fn put_island_of(alloc: Global, area: &Area, words: &[&str], page: &mut Page) {
+pub fn put_island_of(alloc: Global, area: &Area, words: &str, page: &mut Page) {
     if let Some(profile) = profile(alloc, after(words, 1), page) {
         match find_island(alloc, area, &profile, address(word(words, 0))) {
             Ok(island) => put_island(page, &island),
@@ -71,7 +70,7 @@ pub fn put_error(page: &mut Page, error: IslandError) {
     match error {
         IslandError::NotThere => page.put("NotThere\n"),
         IslandError::Unsupported => page.put("Unsupported\n"),
-        IslandError::NoMemory => page.lacks_memory(),
+        IslandError::NoMemory => {}
     }
 }
 
@@ -93,7 +92,7 @@ fn put_node(page: &mut Page, graph: &Graph, node: NodeNo)
 {
     page.tell("%: ", &[node.get()]);
     page.name(graph.id(node));
-    page.put("\n");
+    page.end();
     for end in graph.ends(node) {
         page.tell("  to % metric %", &[end.to.get(), end.metric]);
         page.address(" data ", end.link_data);
@@ -109,5 +108,5 @@ fn put_links(page: &mut Page, links: &[Option<LinkNo>]) {
             None => page.put(" -"),
         }
     }
-    page.put("\n");
+    page.end();
 }

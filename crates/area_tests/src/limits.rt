@@ -11,21 +11,20 @@ use parts_of_tests::Page;
 use std::alloc::Global;
 
 /// `ring ROUTERS`: so many routers in a ring.
-pub fn put_ring(alloc: Global, words: &[&str], page: &mut Page) {
+pub fn put_ring(alloc: Global, words: &str, page: &mut Page) {
     put_counts(alloc, number(word(words, 0)), None, page);
 }
 
 /// `apart ROUTERS LINKS`: so many routers, of which the first two have so many links to each other.
-pub fn put_apart(alloc: Global, words: &[&str], page: &mut Page) {
+pub fn put_apart(alloc: Global, words: &str, page: &mut Page) {
     let links = number(word(words, 1)) as usize;
     put_counts(alloc, number(word(words, 0)), Some(links), page);
 }
 
 /// Puts the counts of an area, and of the island of router 0.
 fn put_counts(alloc: Global, routers: u32, links: Option<usize>, page: &mut Page) {
-    match database_of(alloc, routers, links) {
-        Ok(database) => put_area(alloc, &database, page),
-        Err(_) => page.lacks_memory(),
+    if let Ok(database) = database_of(alloc, routers, links) {
+        put_area(alloc, &database, page);
     }
 }
 
@@ -78,7 +77,7 @@ fn put_area(alloc: Global, database: &Lsdb, page: &mut Page) {
     };
     page.count("area: nodes ", area.count());
     page.number(" bonds ", area.bonds().len() as u64);
-    page.put("\n");
+    page.end();
     match find_island(alloc, &area, &Profile::empty(alloc), 0) {
         Ok(island) => {
             let (nodes, links) = (island.graph.node_count(), island.graph.link_count());

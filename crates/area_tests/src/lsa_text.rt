@@ -50,18 +50,18 @@ fn put_body(page: &mut Page, body: &Body) {
 }
 
 fn put_links(page: &mut Page, links: &[RouterLink], tos: &[u32]) {
-    page.put("\n");
+    page.end();
     for link in links {
         page.address("  link ", link.id);
         page.address(" data ", link.link_data);
         page.number(" type ", link.kind as u64);
         page.number(" entries ", link.entries as u64);
         page.count(" metric ", link.metric);
-        page.put("\n");
+        page.end();
     }
     for entry in tos {
         page.hex("  entry ", &entry.to_be_bytes());
-        page.put("\n");
+        page.end();
     }
 }
 
@@ -71,7 +71,7 @@ fn put_network(page: &mut Page, mask: u32, routers: &[u32]) {
     for router in routers {
         page.address(" ", *router);
     }
-    page.put("\n");
+    page.end();
 }
 
 /// Where more than 32 bytes are all the same, they are told by one.
@@ -83,7 +83,7 @@ fn put_other(page: &mut Page, bytes: &[u8]) {
         }
         _ => page.hex(" bytes ", bytes),
     }
-    page.put("\n");
+    page.end();
 }
 
 fn are_all(bytes: &[u8], one: u8) -> bool {

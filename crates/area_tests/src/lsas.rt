@@ -14,7 +14,7 @@ use std::alloc::Global;
 pub fn put_bytes(page: &mut Page, bytes: &[u8]) {
     for line in bytes.chunks(16) {
         page.hex("", line);
-        page.put("\n");
+        page.end();
     }
 }
 
@@ -44,9 +44,9 @@ pub fn put_error(page: &mut Page, error: LsaError) {
         LsaError::Fault { at, kind } => {
             page.put(kind_word(kind));
             page.number(" at ", at as u64);
-            page.put("\n");
+            page.end();
         }
-        LsaError::NoMemory => page.lacks_memory(),
+        LsaError::NoMemory => {}
     }
 }
 
@@ -75,7 +75,6 @@ pub fn put_cuts(alloc: Global, bytes: &[u8], page: &mut Page)
             page.put(" bytes: ");
             page.put_bytes(told.bytes());
         }
-        page.heed(&told);
         last = told;
     }
 }
@@ -84,16 +83,13 @@ pub fn put_cuts(alloc: Global, bytes: &[u8], page: &mut Page)
 fn put_all_copied(alloc: Global, lsas: &[Lsa], page: &mut Page) {
     let mut are_equal = true;
     for lsa in lsas {
-        match lsa.copy(alloc) {
-            Ok(copy) => {
-                put_lsa(page, &copy);
-                are_equal = are_equal && copy == *lsa;
-            }
-            Err(_) => page.lacks_memory(),
+        if let Ok(copy) = lsa.copy(alloc) {
+            put_lsa(page, &copy);
+            are_equal = are_equal && copy == *lsa;
         }
     }
     page.truth("equal to theirs: ", are_equal);
-    page.put("\n");
+    page.end();
 }
 
 /// Whether the last LSAs of two files are equal, and whether their bodies are.
@@ -101,24 +97,18 @@ pub fn put_alike(alloc: Global, bytes: &[u8], others: &[u8], page: &mut Page)
     requires bytes { length bytes.now ≤ 8388608 }
     requires others { length others.now ≤ 8388608 }
 {
-    let Ok(lsas) = read_lsas(alloc, bytes) else {
-        page.put("not read\n");
-        return;
-    };
-    match read_lsas(alloc, others) {
-        Ok(others) => put_last_alike(page, &lsas, &others),
-        Err(_) => page.put("not read\n"),
+    if let Ok(lsas) = read_lsas(alloc, bytes) {
+        if let Ok(others) = read_lsas(alloc, others) {
+            put_last_alike(page, &lsas, &others);
+        }
     }
 }
 
 fn put_last_alike(page: &mut Page, lsas: &[Lsa], others: &[Lsa]) {
-    match (lsas.last(), others.last()) {
-        (Some(lsa), Some(other)) => {
-            page.truth("", *lsa == *other);
-            page.truth(" ", lsa.body == other.body);
-            page.put("\n");
-        }
-        _ => page.put("not read\n"),
+    if let (Some(lsa), Some(other)) = (lsas.last(), others.last()) {
+        page.truth("", *lsa == *other);
+        page.truth(" ", lsa.body == other.body);
+        page.end();
     }
 }
 
@@ -127,5 +117,5 @@ pub fn put_sums(page: &mut Page, bytes: &[u8], from: usize) {
     let (first, second) = sums(&bytes[bytes.len().min(from)..]);
     page.number("", first as u64);
     page.number(" ", second as u64);
-    page.put("\n");
+    page.end();
 }

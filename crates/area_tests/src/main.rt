@@ -39,7 +39,7 @@ fn main(rt: HostRuntime) -> ExitCode {
         };
         let mut page = Page::new(rt.alloc());
         put_row(&rt, line.as_str(), &mut page);
-        if page.is_cut() || out.write_all(page.bytes()).is_err() {
+        if out.write_all(page.bytes()).is_err() {
             return ExitCode::from(2);
         }
     }

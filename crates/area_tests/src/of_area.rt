@@ -16,7 +16,7 @@ pub fn put_of_area(
     call: Call,
     bytes: &[u8],
     files: &[Vec<u8>],
-    words: &[&str],
+    words: &str,
     page: &mut Page,
 )
     requires { length bytes.now ≤ 8388608 }
@@ -31,7 +31,7 @@ fn put_asked(
     area: &Area,
     call: Call,
     files: &[Vec<u8>],
-    words: &[&str],
+    words: &str,
     page: &mut Page,
 ) {
     match call {

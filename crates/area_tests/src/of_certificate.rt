@@ -22,17 +22,17 @@ pub fn put_of_certificate(
     area: &Area,
     island: &Island,
     call: Call,
-    words: &[&str],
+    words: &str,
     page: &mut Page,
 )
     requires { Fits area.now island.now.graph island.now.link_of }
 {
     let (g, root) = (&island.graph, island.root);
     if root.get() >= g.node_count() {
-        return page.put("no root\n");
+        return;
     }
     let Ok(cert) = certificate(alloc, g, root) else {
-        return page.lacks_memory();
+        return;
     };
     match call {
         Call::Alternate => put_alternate(g, &cert, words, page),

@@ -20,12 +20,11 @@ pub fn put_of_island(
     area: &Area,
     call: Call,
     files: &[Vec<u8>],
-    words: &[&str],
+    words: &str,
     page: &mut Page,
 ) {
-    match island_of(alloc, area, file(files, 1), address(word(words, 0))) {
-        Some(island) => put_asked(alloc, area, &island, call, words, page),
-        None => page.put("no island\n"),
+    if let Some(island) = island_of(alloc, area, file(files, 1), address(word(words, 0))) {
+        put_asked(alloc, area, &island, call, words, page);
     }
 }
 
@@ -40,14 +39,7 @@ fn island_of(alloc: Global, area: &Area, profile: &[u8], router: u32) -> Option<
     }
 }
 
-fn put_asked(
-    alloc: Global,
-    area: &Area,
-    island: &Island,
-    call: Call,
-    words: &[&str],
-    page: &mut Page,
-)
+fn put_asked(alloc: Global, area: &Area, island: &Island, call: Call, words: &str, page: &mut Page)
     requires { Fits area.now island.now.graph island.now.link_of }
 {
     match call {

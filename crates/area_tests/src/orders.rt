@@ -9,18 +9,15 @@ use parts_of_tests::Page;
 use std::alloc::Global;
 
 /// `order_text FILE ROUTER`: the text of the router whose island it is.
-pub fn put_order_text(alloc: Global, island: &Island, words: &[&str], page: &mut Page) {
+pub fn put_order_text(alloc: Global, island: &Island, words: &str, page: &mut Page) {
     let (g, root) = (&island.graph, island.root);
     let Some(source) = g.find(NodeId::router(address(word(words, 0)))) else {
-        page.put("no router\n");
         return;
     };
     if root.get() >= g.node_count() || source.get() >= g.node_count() {
-        page.put("not asked: no such node\n");
         return;
     }
-    match directions(alloc, g, root) {
-        Ok(d) => page.made(order_text(alloc, g, root, &d, source)),
-        Err(_) => page.lacks_memory(),
+    if let Ok(d) = directions(alloc, g, root) {
+        page.made(order_text(alloc, g, root, &d, source));
     }
 }

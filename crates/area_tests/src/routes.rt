@@ -15,9 +15,8 @@ use std::alloc::Global;
 pub fn put_routes(alloc: Global, area: &Area, island: &Island, page: &mut Page)
     requires { Fits area.now island.now.graph island.now.link_of }
 {
-    match Routes::new(alloc, area, &island.graph, island.link_of.as_slice()) {
-        Ok(routes) => put_all(page, &routes, area, &island.graph),
-        Err(_) => page.lacks_memory(),
+    if let Ok(routes) = Routes::new(alloc, area, &island.graph, island.link_of.as_slice()) {
+        put_all(page, &routes, area, &island.graph);
     }
 }
 
@@ -56,7 +55,7 @@ fn put_nodes(page: &mut Page, routes: &Routes, count: u16)
             Some(node) => page.count(": ", node.get()),
             None => page.put(": none"),
         }
-        page.put("\n");
+        page.end();
     }
 }
 
@@ -85,6 +84,6 @@ fn put_links(page: &mut Page, routes: &Routes, count: u16)
             Some(link) => page.count(": ", link.get()),
             None => page.put(": none"),
         }
-        page.put("\n");
+        page.end();
     }
 }

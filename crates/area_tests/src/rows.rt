@@ -3,7 +3,7 @@
 use crate::calls::{Call, call_named};
 use crate::told::{after, file, number, word};
 use crate::{delivered, instances, islands, limits, lsas, of_area, surveys, written};
-use parts_of_tests::{Page, is_row, put_answer, words_of};
+use parts_of_tests::{Page, cut, is_row, put_answer};
 use std::alloc::Global;
 use std::fs;
 use std::rt::Files;
@@ -13,22 +13,18 @@ pub fn put_row<R: Files + AllocGlobal>(rt: &R, line: &str, page: &mut Page) {
     if !is_row(line) {
         return;
     }
-    let words = words_of(rt.alloc(), line, page);
-    match words.as_slice() {
-        [name, call, given @ ..] => {
-            let mut answer = Page::new(rt.alloc());
-            match call_named(call) {
-                Some(call) => put_answered(rt, call, given, &mut answer),
-                None => answer.put("no such call\n"),
-            }
-            put_answer(page, name, &answer);
-        }
-        _ => page.put("no call\n"),
+    let (name, rest) = cut(line);
+    let (call, given) = cut(rest);
+    let mut answer = Page::new(rt.alloc());
+    match call_named(call) {
+        Some(call) => put_answered(rt, call, given, &mut answer),
+        None => answer.put("no such call\n"),
     }
+    put_answer(page, name, answer.bytes());
 }
 
-fn put_answered<R: Files + AllocGlobal>(rt: &R, call: Call, given: &[&str], page: &mut Page) {
-    let files = files_of(rt, given, page);
+fn put_answered<R: Files + AllocGlobal>(rt: &R, call: Call, given: &str, page: &mut Page) {
+    let files = files_of(rt, given);
     let words = after(given, files.len());
     if is_file(word(words, 0)) {
         page.put("no such file\n");
@@ -38,18 +34,16 @@ fn put_answered<R: Files + AllocGlobal>(rt: &R, call: Call, given: &[&str], page
 }
 
 /// The files that the first words name.
-fn files_of<R: Files + AllocGlobal>(rt: &R, words: &[&str], page: &mut Page) -> Vec<Vec<u8>> {
+fn files_of<R: Files + AllocGlobal>(rt: &R, words: &str) -> Vec<Vec<u8>> {
     let mut files = Vec::new(rt.alloc());
-    for word in words {
+    for word in words.split(' ') {
         if !is_file(word) {
             break;
         }
-        let Ok(file) = fs::read(rt, *word) else {
+        let Ok(file) = fs::read(rt, word) else {
             break;
         };
-        if files.push(file).is_err() {
-            page.lacks_memory();
-        }
+        let _ = files.push(file);
     }
     files
 }
@@ -63,7 +57,7 @@ fn is_file(word: &str) -> bool {
 }
 
 /// Puts the answer to a call on files, or on what words tell.
-fn put_called(alloc: Global, call: Call, files: &[Vec<u8>], words: &[&str], page: &mut Page) {
+fn put_called(alloc: Global, call: Call, files: &[Vec<u8>], words: &str, page: &mut Page) {
     let bytes = file(files, 0);
     match call {
         Call::Bytes => lsas::put_bytes(page, bytes),

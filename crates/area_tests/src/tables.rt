@@ -31,29 +31,25 @@ fn router_at(g: &Graph, n: u16) -> Option<NodeNo>
 }
 
 /// `table_head FILE ROUTER NODE`: the first line of the table of the router that the second word numbers.
-pub fn put_table_head(alloc: Global, island: &Island, words: &[&str], page: &mut Page) {
+pub fn put_table_head(alloc: Global, island: &Island, words: &str, page: &mut Page) {
     let g = &island.graph;
     let Some(source) = router_at(g, number_16(word(words, 1))) else {
-        page.put("no router\n");
         return;
     };
-    match router_at(g, island.root.get()) {
-        Some(root) => page.made(table_head(alloc, g, root, source)),
-        None => page.put("no root\n"),
+    if let Some(root) = router_at(g, island.root.get()) {
+        page.made(table_head(alloc, g, root, source));
     }
 }
 
 /// `table_line FILE ROUTER NODE TO`: the line of that table on the node that the third word numbers.
-pub fn put_table_line(alloc: Global, area: &Area, island: &Island, words: &[&str], page: &mut Page)
+pub fn put_table_line(alloc: Global, area: &Area, island: &Island, words: &str, page: &mut Page)
     requires { Fits area.now island.now.graph island.now.link_of }
 {
     let Some(source) = router_at(&island.graph, number_16(word(words, 1))) else {
-        page.put("no router\n");
         return;
     };
-    match other_node(&island.graph, source, number_16(word(words, 2))) {
-        Some(to) => put_line(alloc, area, island, source, to, page),
-        None => page.put("no other node\n"),
+    if let Some(to) = other_node(&island.graph, source, number_16(word(words, 2))) {
+        put_line(alloc, area, island, source, to, page);
     }
 }
 
@@ -84,16 +80,13 @@ fn put_line(
     requires different { source ≢ to }
 {
     if island.root.get() >= island.graph.node_count() {
-        page.put("no root\n");
         return;
     }
     let Some(spot) = area.find(island.graph.id(source)) else {
-        page.put("no line\n");
         return;
     };
-    match primaries(alloc, area, spot) {
-        Ok(prim) => page.made(line_by(alloc, area, island, &prim, source, to)),
-        Err(_) => page.lacks_memory(),
+    if let Ok(prim) = primaries(alloc, area, spot) {
+        page.made(line_by(alloc, area, island, &prim, source, to));
     }
 }
 

@@ -3,7 +3,7 @@
 ghost use Rattle.std.specs.Prelude.{◌≤◌, length};
 
 use mrt_graph::{NodeId, read_address};
-use parts_of_tests::Page;
+use parts_of_tests::{Page, cut};
 use std::alloc::Global;
 
 /// The most bytes that are read of a file.
@@ -27,16 +27,19 @@ pub fn file(files: &[Vec<u8>], place: usize) -> &[u8]
 }
 
 /// The words after the first ones.
-pub fn after<'a>(words: &'a [&'a str], count: usize) -> &'a [&'a str] {
-    &words[count.min(words.len())..]
+pub fn after<'a>(words: &'a str, count: usize) -> &'a str {
+    let mut rest = words;
+    for _ in 0..count {
+        let (_, behind) = cut(rest);
+        rest = behind;
+    }
+    rest
 }
 
 /// The word at a place; an empty one where there is none.
-pub fn word<'a>(words: &[&'a str], place: usize) -> &'a str {
-    match words.get(place) {
-        Some(word) => *word,
-        None => "",
-    }
+pub fn word<'a>(words: &'a str, place: usize) -> &'a str {
+    let (word, _) = cut(after(words, place));
+    word
 }
 
 /// The field at a place of a word that is cut at colons; an empty one where there is none.
@@ -75,13 +78,8 @@ pub fn node(word: &str) -> NodeId {
 }
 
 /// The text that the words tell.
-pub fn text(alloc: Global, words: &[&str]) -> Page {
+pub fn text(alloc: Global, words: &str) -> Page {
     let mut text = Page::new(alloc);
-    for place in 0..words.len() {
-        if place > 0 {
-            text.put(" ");
-        }
-        text.put_told(words[place]);
-    }
+    text.put_told(words);
     text
 }

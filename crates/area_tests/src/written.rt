@@ -21,33 +21,28 @@ pub fn put_all_written(alloc: Global, lsas: &[Lsa], page: &mut Page)
         page.put("no LSA\n");
     }
     for lsa in lsas {
-        match write_lsa(alloc, lsa) {
-            Ok(bytes) => page.hex("", &bytes),
-            Err(_) => page.lacks_memory(),
+        if let Ok(bytes) = write_lsa(alloc, lsa) {
+            page.hex("", &bytes);
         }
-        page.put("\n");
+        page.end();
     }
 }
 
 /// `written_router AT AGE OPTIONS ROUTER SEQUENCE CHECKSUM FLAGS SPARE`: a router-LSA without links, written and read.
-pub fn put_router(alloc: Global, words: &[&str], page: &mut Page) {
-    let [at, age, options, router, sequence, checksum, flags, spare] = words else {
-        page.put("not asked: no eight fields\n");
-        return;
-    };
-    let router = address(router);
+pub fn put_router(alloc: Global, words: &str, page: &mut Page) {
+    let router = address(word(words, 3));
     let lsa = Lsa {
-        at: number(at),
-        age: number_16(age),
-        options: options.parse().unwrap_or(0),
+        at: number(word(words, 0)),
+        age: number_16(word(words, 1)),
+        options: word(words, 2).parse().unwrap_or(0),
         kind: 1,
         id: router,
         router,
-        sequence: sequence.parse().unwrap_or(0),
-        checksum: number_16(checksum),
+        sequence: word(words, 4).parse().unwrap_or(0),
+        checksum: number_16(word(words, 5)),
         body: Body::Router {
-            flags: flags.parse().unwrap_or(0),
-            spare: spare.parse().unwrap_or(0),
+            flags: word(words, 6).parse().unwrap_or(0),
+            spare: word(words, 7).parse().unwrap_or(0),
             links: Seq::from_vec(Vec::new(alloc)),
             tos: Seq::from_vec(Vec::new(alloc)),
         },
@@ -61,9 +56,8 @@ fn put_read_back(alloc: Global, lsa: &Lsa, page: &mut Page)
     requires entries { HasItsEntries lsa.now.body }
     requires fits { lsa_length lsa.now ≤ 65535 }
 {
-    match write_lsa(alloc, lsa) {
-        Ok(bytes) => put_read(alloc, Call::Lsas, &bytes, page),
-        Err(_) => page.lacks_memory(),
+    if let Ok(bytes) = write_lsa(alloc, lsa) {
+        put_read(alloc, Call::Lsas, &bytes, page);
     }
 }
 
@@ -88,16 +82,14 @@ fn longest(alloc: Global) -> Result<Vec<u8>, NoMemory> {
 }
 
 /// `longest COUNT LESS`: so many LSAs of the greatest length, written, and read but for so many bytes at the end.
-pub fn put_longest(alloc: Global, words: &[&str], page: &mut Page) {
+pub fn put_longest(alloc: Global, words: &str, page: &mut Page) {
     let Ok(record) = longest(alloc) else {
-        page.lacks_memory();
         return;
     };
     let mut file = Page::new(alloc);
     for _ in 0..number(word(words, 0)).min(100) {
         file.put_bytes(&record);
     }
-    page.heed(&file);
     let bytes = file.bytes();
     let kept = bytes.len() - bytes.len().min(number(word(words, 1)) as usize);
     put_read(alloc, Call::Lsas, &bytes[..kept.min(8_388_608)], page);

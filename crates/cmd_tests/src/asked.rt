@@ -15,6 +15,15 @@ pub struct Asked<'a> {
     pub lines: Words<'a>,
 }
 
+/// The words of a text.
+pub fn words_of<'a>(alloc: Global, text: &'a str) -> Vec<&'a str> {
+    let mut words = Vec::new(alloc);
+    for word in text.split_terminator(' ') {
+        let _ = words.push(word);
+    }
+    words
+}
+
 /// The words before a mark and those after it; all of them where it does not stand there.
 pub fn cut_at<'a>(words: Words<'a>, mark: &str) -> (Words<'a>, Words<'a>) {
     for at in 0..words.len() {

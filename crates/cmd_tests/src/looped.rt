@@ -19,25 +19,17 @@ enum Change<'a> {
 }
 
 /// `cuts FILE : WORDS` and `orders FILE : WORDS`, which name this file among others.
-pub fn answer<R: Files>(
-    rt: &R,
-    alloc: Global,
-    call: &str,
-    words: Words<'_>,
-    page: &mut Page,
-) -> bool {
+pub fn put_changed<R: Files>(rt: &R, alloc: Global, call: &str, words: Words<'_>, page: &mut Page) {
     let (names, asked) = with_settings(words);
     let name = names.first().copied().unwrap_or("");
     let file = read(rt, alloc, name).unwrap_or(Vec::new(alloc));
     match call {
         "cuts" => put_all(rt, alloc, &asked, name, Change::Cut(&file), page),
-        "orders" => {
+        _ => {
             let lsas = lsas_of(alloc, &file);
             put_all(rt, alloc, &asked, name, Change::Order(&lsas), page);
         }
-        _ => return false,
     }
-    true
 }
 
 /// How many changes there are.
@@ -85,7 +77,7 @@ fn put_all<R: Files>(
     let count = count_of(change);
     let mut last = Page::new(alloc);
     let mut first = 0;
-    page.put("\n");
+    page.end();
     for number in 0..count {
         let mut files = hold(rt, alloc, asked);
         replace(&mut files, name, changed(alloc, change, number));
@@ -102,7 +94,6 @@ fn put_all<R: Files>(
 
 /// Puts an answer that all changes of these numbers have.
 fn put_range(page: &mut Page, first: usize, last: usize, answer: &Page) {
-    page.heed(answer);
     page.number("  ", first as u64);
     if first != last {
         page.number(" to ", last as u64);

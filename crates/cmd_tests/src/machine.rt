@@ -10,25 +10,12 @@ use std::alloc::Global;
 use std::rt::Files;
 
 /// `run WORDS > FILE`.
-pub fn answer<R: Files>(
-    rt: &R,
-    alloc: Global,
-    call: &str,
-    words: Words<'_>,
-    page: &mut Page,
-) -> bool {
-    if call != "run" {
-        return false;
-    }
+pub fn put_run<R: Files>(rt: &R, alloc: Global, words: Words<'_>, page: &mut Page) {
     let asked = asked_of(words);
-    match new_streams(alloc, CALM) {
-        Ok(mut streams) => {
-            let exit = exit_of(rt, alloc, &asked, &mut streams);
-            put_seen(rt, alloc, asked.wanted, exit, &streams, page);
-        }
-        Err(_) => page.lacks_memory(),
+    if let Ok(mut streams) = new_streams(alloc, CALM) {
+        let exit = exit_of(rt, alloc, &asked, &mut streams);
+        put_seen(rt, alloc, asked.wanted, exit, &streams, page);
     }
-    true
 }
 
 fn exit_of<R: Files>(rt: &R, alloc: Global, asked: &Asked<'_>, streams: &mut Streams) -> Exit {

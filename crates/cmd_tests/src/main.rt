@@ -11,29 +11,39 @@ mod made;
 mod memory;
 mod telling;
 
-use asked::Words;
-use mrt_io::{StdSink, put_all};
-use parts_of_tests::{Page, is_row, words_of};
+use asked::{Words, words_of};
+use looped::put_changed;
+use machine::put_run;
+use memory::put_mem;
+use mrt_io::{Sink, StdSink, put_all};
+use parts_of_tests::{Page, cut, is_row};
 use std::alloc::Global;
 use std::process::ExitCode;
 use std::rt::Files;
 
 fn main(rt: HostRuntime) -> ExitCode {
     let mut out = StdSink::new(rt.stdout());
+    let mut status = 0;
     for line in rt.lines(rt.alloc()) {
-        let Ok(line) = line else {
-            return ExitCode::from(1);
+        status = match line {
+            Ok(line) => put_line(&rt, rt.alloc(), line.as_str(), &mut out),
+            Err(_) => 1,
         };
-        let mut page = Page::new(rt.alloc());
-        put_row(&rt, rt.alloc(), line.as_str(), &mut page);
-        if page.is_cut() {
-            return ExitCode::from(2);
-        }
-        if put_all(&mut out, page.bytes()).is_err() {
-            return ExitCode::from(3);
+        if status != 0 {
+            break;
         }
     }
-    ExitCode::from(0)
+    ExitCode::from(status)
+}
+
+/// Puts the answer to a line to the output; 0 where it is there.
+fn put_line<R: Files, K: Sink>(rt: &R, alloc: Global, line: &str, out: &mut K) -> u8 {
+    let mut page = Page::new(alloc);
+    put_row(rt, alloc, line, &mut page);
+    match put_all(out, page.bytes()) {
+        Ok(()) => 0,
+        Err(_) => 2,
+    }
 }
 
 /// Puts the answer to a line: none to one that is empty or a remark.
@@ -41,32 +51,19 @@ fn put_row<R: Files>(rt: &R, alloc: Global, line: &str, page: &mut Page) {
     if !is_row(line) {
         return;
     }
-    let words = words_of(alloc, line, page);
-    match words.as_slice() {
-        [name, call, others @ ..] => {
-            page.put(name);
-            put_answer(rt, alloc, call, others, page);
-        }
-        _ => page.put("a row without a call\n"),
-    }
+    let (name, rest) = cut(line);
+    let (call, words) = cut(rest);
+    page.put(name);
+    let words = words_of(alloc, words);
+    put_answer(rt, alloc, call, &words, page);
 }
 
 /// Puts the answer to a call.
 fn put_answer<R: Files>(rt: &R, alloc: Global, call: &str, words: Words<'_>, page: &mut Page) {
-    if !is_answered(rt, alloc, call, words, page) {
-        page.put(" no such call\n");
+    match call {
+        "run" => put_run(rt, alloc, words, page),
+        "mem" => put_mem(rt, alloc, words, page),
+        "cuts" | "orders" => put_changed(rt, alloc, call, words, page),
+        _ => page.put(" no such call\n"),
     }
-}
-
-/// Asks each module for the answer.
-fn is_answered<R: Files>(
-    rt: &R,
-    alloc: Global,
-    call: &str,
-    words: Words<'_>,
-    page: &mut Page,
-) -> bool {
-    machine::answer(rt, alloc, call, words, page)
-        || memory::answer(rt, alloc, call, words, page)
-        || looped::answer(rt, alloc, call, words, page)
 }

@@ -11,16 +11,7 @@ use std::alloc::Global;
 use std::rt::Files;
 
 /// `mem SETTINGS : WORDS > FILE << LINES`.
-pub fn answer<R: Files>(
-    rt: &R,
-    alloc: Global,
-    call: &str,
-    words: Words<'_>,
-    page: &mut Page,
-) -> bool {
-    if call != "mem" {
-        return false;
-    }
+pub fn put_mem<R: Files>(rt: &R, alloc: Global, words: Words<'_>, page: &mut Page) {
     let (settings, asked) = with_settings(words);
     match devices_of(settings) {
         Some(devices) => {
@@ -29,7 +20,6 @@ pub fn answer<R: Files>(
         }
         None => page.put(" no such setting\n"),
     }
-    true
 }
 
 /// Adds the answer over these files.
@@ -42,7 +32,7 @@ pub fn put_over_files<R: Files>(
     page: &mut Page,
 ) {
     let Ok(mut streams) = new_streams(alloc, devices) else {
-        return page.lacks_memory();
+        return;
     };
     match exit_over(alloc, asked.words, files, devices.read, &mut streams) {
         Some(exit) => put_seen(rt, alloc, asked.wanted, exit, &streams, page),

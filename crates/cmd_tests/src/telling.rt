@@ -20,7 +20,7 @@ pub fn put_seen<R: Files>(
     page: &mut Page,
 ) {
     page.number(" exit ", u64::from(exit.status()));
-    page.put("\n");
+    page.end();
     put_beside(rt, alloc, wanted, streams.out.bytes(), page);
     put_lines(page, "  ! ", streams.err.bytes());
     put_untold(page, exit.line().bytes(), streams.err.bytes());
@@ -52,7 +52,7 @@ fn put_compared(page: &mut Page, text: &[u8], name: &str, bytes: &[u8]) {
         page.put(" bytes of ");
     }
     page.put(name);
-    page.put("\n");
+    page.end();
 }
 
 /// Adds a text line by line; of a long one how many lines there are and the last one, and of bytes that are no text how many there
@@ -90,7 +90,7 @@ fn put_lines(page: &mut Page, mark: &str, text: &[u8]) {
         } else {
             page.put("  ~ ");
             page.put_bytes(line);
-            page.put("\n");
+            page.end();
         }
     }
 }
@@ -111,6 +111,6 @@ fn put_last(page: &mut Page, text: &[u8]) {
 fn put_hex(page: &mut Page, text: &[u8]) {
     for part in text.chunks(32) {
         page.hex("  x ", part);
-        page.put("\n");
+        page.end();
     }
 }

@@ -18,7 +18,7 @@ pub fn put_all_cuts(alloc: Global, bytes: &[u8], page: &mut Page) {
     }
     put_cut(alloc, bytes, bytes.len(), &mut last, page);
     page.number("to ", bytes.len() as u64);
-    page.put("\n");
+    page.end();
 }
 
 fn put_cut(alloc: Global, bytes: &[u8], cut: usize, last: &mut Page, page: &mut Page) {
@@ -46,10 +46,14 @@ fn from_two(alloc: Global, first: &[u8], second: &[u8]) -> Result<CertFile, Cert
 pub fn put_fed(alloc: Global, bytes: &[u8], size: u16, page: &mut Page) {
     let mut last = Page::new(alloc);
     let mut reader = CertReader::new(alloc);
-    let mut place = 0usize;
-    for piece in bytes.chunks(usize::from(size).max(1)) {
+    let mut rest = bytes;
+    for place in 0..bytes.len() {
+        if rest.is_empty() {
+            break;
+        }
+        let (piece, behind) = rest.split_at(rest.len().min(usize::from(size)));
         put_piece(alloc, &mut reader, piece, place, &mut last, page);
-        place = place.wrapping_add(1);
+        rest = behind;
     }
     page.put("end: ");
     match reader.finish() {

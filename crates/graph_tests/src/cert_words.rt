@@ -10,7 +10,7 @@ use std::alloc::Global;
 pub fn put_error(page: &mut Page, error: CertError) {
     match error {
         CertError::Fault { at, kind } => put_fault(page, CertFault { at, kind }),
-        CertError::NoMemory => page.lacks_memory(),
+        CertError::NoMemory => {}
     }
 }
 
@@ -25,21 +25,21 @@ pub fn put_fault(page: &mut Page, fault: CertFault) {
         CertKind::Heads => "heads",
     });
     page.number(" at ", u64::from(fault.at));
-    page.put("\n");
+    page.end();
 }
 
 /// All of a file: its version and root, and the certificate.
 pub fn put_file(alloc: Global, file: &CertFile, page: &mut Page) {
     page.tell("version=% root=", &[file.version]);
     page.name(NodeId::router(file.root));
-    page.put("\n");
+    page.end();
     put_cert(alloc, &file.cert, page);
 }
 
 pub fn put_cert(alloc: Global, cert: &Cert, page: &mut Page) {
     put_nodes(page, cert.nodes());
     put_links(page, cert.links());
-    let rows = rows_of(alloc, cert, page);
+    let rows = rows_of(alloc, cert);
     let others = usize::from(cert.node_count().saturating_sub(1));
     let mut s: u16 = 0;
     for rows in rows.chunks(others.max(1)) {
@@ -50,12 +50,12 @@ pub fn put_cert(alloc: Global, cert: &Cert, page: &mut Page) {
 }
 
 /// All rows of a certificate, those of one node after those of another one.
-pub fn rows_of(alloc: Global, cert: &Cert, page: &mut Page) -> Vec<Row> {
+pub fn rows_of(alloc: Global, cert: &Cert) -> Vec<Row> {
     let mut rows = Vec::new(alloc);
     for s in 0..cert.node_count() {
         for t in 0..cert.node_count() {
             if s != t {
-                page.note(rows.push(cert.row(NodeNo::new(s), NodeNo::new(t))));
+                let _ = rows.push(cert.row(NodeNo::new(s), NodeNo::new(t)));
             }
         }
     }
@@ -69,7 +69,7 @@ pub fn put_nodes(page: &mut Page, nodes: &[CertNode]) {
         page.name(node.id);
         page.tell("/%/%/%", &[node.order, node.head.get(), node.block.get()]);
     }
-    page.put("\n");
+    page.end();
 }
 
 pub fn put_links(page: &mut Page, links: &[CertLink]) {
@@ -78,7 +78,7 @@ pub fn put_links(page: &mut Page, links: &[CertLink]) {
         page.tell(" %-%/%/", &[link.a.get(), link.b.get(), link.block.get()]);
         page.put(role_word(link.role));
     }
-    page.put("\n");
+    page.end();
 }
 
 /// Rows in a line. A row that stands several times in succession is told once, with how many times.
@@ -94,7 +94,7 @@ pub fn put_row_list(page: &mut Page, rows: &[Row]) {
             times = 0;
         }
     }
-    page.put("\n");
+    page.end();
 }
 
 pub fn put_row(page: &mut Page, row: Row) {

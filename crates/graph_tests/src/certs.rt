@@ -17,14 +17,24 @@ use std::alloc::Global;
 use std::rt::Files;
 
 /// Puts what a call asks of the file that words tell.
-pub fn put_of_file<R: Files>(rt: &R, alloc: Global, call: Call, words: &[&str], page: &mut Page) {
-    let bytes = file_told(rt, alloc, words, page);
+pub fn put_of_file<R: Files + AllocGlobal>(
+    rt: &R,
+    alloc: Global,
+    call: Call,
+    words: &str,
+    page: &mut Page,
+) {
+    let bytes = file_told(rt, words);
+    put_of_bytes(alloc, call, &bytes, words, page);
+}
+
+fn put_of_bytes(alloc: Global, call: Call, bytes: &[u8], words: &str, page: &mut Page) {
     match call {
-        Call::ReadCert | Call::WriteCert => put_read(alloc, call, &bytes, page),
-        Call::ReadCertCut => put_fronts(alloc, &bytes, page),
-        Call::ReadInTwo => put_all_cuts(alloc, &bytes, page),
-        Call::Feed => put_fed(alloc, &bytes, number_or(words, "size", 1), page),
-        _ => put_of_cert(alloc, call, &bytes, words, page),
+        Call::ReadCert | Call::WriteCert => put_read(alloc, call, bytes, page),
+        Call::ReadCertCut => put_fronts(alloc, bytes, page),
+        Call::ReadInTwo => put_all_cuts(alloc, bytes, page),
+        Call::Feed => put_fed(alloc, bytes, number_or(words, "size", 1), page),
+        _ => put_of_cert(alloc, call, bytes, words, page),
     }
 }
 
@@ -53,9 +63,8 @@ pub fn put_read(alloc: Global, call: Call, bytes: &[u8], page: &mut Page) {
 pub fn put_beside(alloc: Global, file: &CertFile, bytes: &[u8], page: &mut Page)
     requires { IsCertFile file.now }
 {
-    match write_cert(alloc, file) {
-        Ok(written) => put_compared(page, &written, bytes),
-        Err(_) => page.lacks_memory(),
+    if let Ok(written) = write_cert(alloc, file) {
+        put_compared(page, &written, bytes);
     }
 }
 
@@ -88,7 +97,6 @@ fn put_front(alloc: Global, front: &[u8], last: &mut Page, page: &mut Page) {
 
 /// A line for an outcome that is not the last one.
 pub fn put_change(page: &mut Page, from: usize, told: &Page, last: &mut Page) {
-    page.heed(told);
     if told.bytes() != last.bytes() {
         page.number("from ", from as u64);
         page.put(": ");

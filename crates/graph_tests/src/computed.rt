@@ -1,8 +1,6 @@
 //! The calls that are given a graph and its root.
 
 ghost use Rattle.std.specs.Prelude.{◌<◌, length};
-ghost use Rattle.inc_dec_spf.specs.HasDirections.{HasDirections};
-ghost use Rattle.link_direction.specs.OrderedGadag.{SaysOrdered};
 
 use crate::calls::Call;
 use crate::gadags::{put_directions, put_ears};
@@ -12,13 +10,13 @@ use crate::paths::put_paths;
 use crate::tables::{put_column_each, put_columns, put_computed, put_near_rows, put_rows};
 use crate::told::{graph, node};
 use crate::trees::put_search;
-use mrt_graph::{Directed, Graph, NodeNo};
+use mrt_graph::{Graph, NodeNo};
 use mrt_rows::directions;
 use parts_of_tests::Page;
 use std::alloc::Global;
 
 /// Puts what a call asks of the graph and the root that words tell.
-pub fn put_of_graph(alloc: Global, call: Call, words: &[&str], page: &mut Page) {
+pub fn put_of_graph(alloc: Global, call: Call, words: &str, page: &mut Page) {
     if let Some(g) = graph(alloc, words, page) {
         match node(&g, words, "root") {
             Some(root) => put_asked(alloc, call, &g, root, page),
@@ -44,30 +42,14 @@ fn put_asked(alloc: Global, call: Call, g: &Graph, root: NodeNo, page: &mut Page
 fn put_ordered(alloc: Global, call: Call, g: &Graph, root: NodeNo, page: &mut Page)
     requires { root < length g.now.ids }
 {
-    match directions(alloc, g, root) {
-        Ok(d) => put_by_directions(alloc, call, g, root, &d, page),
-        Err(_) => page.lacks_memory(),
-    }
-}
-
-fn put_by_directions(
-    alloc: Global,
-    call: Call,
-    g: &Graph,
-    root: NodeNo,
-    d: &Directed,
-    page: &mut Page,
-)
-    requires root { root < length g.now.ids }
-    requires ordered { SaysOrdered g.now root d.now }
-    requires directed { HasDirections g.now d.now }
-{
-    match call {
-        Call::Direct => put_directions(page, g, d),
-        Call::Spf | Call::SpfTo => put_paths(alloc, call, g, d, page),
-        Call::RowsOf => put_rows(alloc, g, root, d, page),
-        Call::ColumnOf => put_column_each(alloc, g, root, d, page),
-        Call::OrderChoice => put_colors(alloc, g, d, page),
-        _ => put_walks(alloc, g, root, d, page),
+    if let Ok(d) = directions(alloc, g, root) {
+        match call {
+            Call::Direct => put_directions(page, g, &d),
+            Call::Spf | Call::SpfTo => put_paths(alloc, call, g, &d, page),
+            Call::RowsOf => put_rows(alloc, g, root, &d, page),
+            Call::ColumnOf => put_column_each(alloc, g, root, &d, page),
+            Call::OrderChoice => put_colors(alloc, g, &d, page),
+            _ => put_walks(alloc, g, root, &d, page),
+        }
     }
 }

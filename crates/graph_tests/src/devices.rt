@@ -8,19 +8,21 @@ use std::alloc::Global;
 use std::fs;
 use std::rt::Files;
 
-/// A word of these bytes.
-pub fn put_word(alloc: Global, words: &[&str], page: &mut Page) {
-    match Word::new(alloc, &bytes_told(alloc, words, "bytes", page)) {
-        Ok(word) => show_line(page, word.bytes()),
-        Err(_) => page.lacks_memory(),
+/// The word of a text.
+pub fn put_word(alloc: Global, words: &str, page: &mut Page) {
+    if let Ok(word) = Word::new(alloc, list(words, "bytes").as_bytes()) {
+        show_line(page, word.bytes());
     }
 }
 
-/// Puts bytes to a new file, and then an empty piece.
-pub fn put_to_file<R: Files>(rt: &R, alloc: Global, words: &[&str], page: &mut Page) {
-    let bytes = bytes_told(alloc, words, "bytes", page);
+/// Puts a text to a new file, and then an empty piece.
+pub fn put_to_file<R: Files>(rt: &R, words: &str, page: &mut Page) {
     match fs::create(rt, list(words, "name")) {
-        Ok(file) => put_twice(&mut StdSink::new(file), &bytes, page),
+        Ok(file) => put_twice(
+            &mut StdSink::new(file),
+            list(words, "bytes").as_bytes(),
+            page,
+        ),
         Err(_) => page.put("no file\n"),
     }
 }
@@ -45,21 +47,21 @@ pub fn put_outcome(page: &mut Page, answer: Result<(), PutError>) {
 }
 
 /// The numbers of the calls that fail: this one.
-pub fn only(alloc: Global, number: u16, page: &mut Page) -> Vec<u32> {
+pub fn only(alloc: Global, number: u16) -> Vec<u32> {
     let mut numbers = Vec::new(alloc);
-    page.note(numbers.push(u32::from(number)));
+    let _ = numbers.push(u32::from(number));
     numbers
 }
 
 /// Puts bytes to a sink with so much room, of so many bytes a call, whose call of this number fails.
-pub fn put_to_sink(alloc: Global, words: &[&str], page: &mut Page) {
-    let fails = only(alloc, number_or(words, "fails", u16::MAX), page);
+pub fn put_to_sink(alloc: Global, words: &str, page: &mut Page) {
+    let fails = only(alloc, number_or(words, "fails", u16::MAX));
     let room = number_or(words, "room", 0);
     let step = number_or(words, "step", 1).max(1);
     let Ok(mut sink) = MemSink::new(alloc, u32::from(room), u32::from(step), fails) else {
-        return page.lacks_memory();
+        return;
     };
-    let bytes = bytes_told(alloc, words, "bytes", page);
+    let bytes = bytes_told(alloc, words, "bytes");
     put_outcome(page, put_all(&mut sink, &bytes));
     page.put(", gained ");
     show_line(page, sink.bytes());

@@ -1,35 +1,55 @@
-//! Edits of a certificate file in words: `root:0.0.0.9`, `number:1:0.0.0.9`, `kind:1:network`, `node:1:2.2.0` with order, head
-//! and block, `link:2:0.2.0.closing` with both nodes, block and role, and `row:0.1:0.1.Sole`, the row of 0 for 1, with both
-//! links and tag.
+//! Edits of a certificate file in words: `22:1`, a place and the byte that is put there; `root:0.0.0.9`, `number:1:0.0.0.9`,
+//! `kind:1:network`, `node:1:2.2.0` with order, head and block, `link:2:0.2.0.closing` with both nodes, block and role, and
+//! `row:0.1:0.1.Sole`, the row of 0 for 1, with both links and tag. At its end a file grows by one.
 
 use crate::told::two;
-use parts_of_tests::Page;
+
+/// The words of kinds, roles and tags, and their bytes; all others have 0.
+const WORDS: [(&str, u8); 10] = [
+    ("router", 1),
+    ("sole", 1),
+    ("Head", 1),
+    ("network", 2),
+    ("closing", 2),
+    ("Top", 2),
+    ("Below", 3),
+    ("Above", 4),
+    ("Unordered", 5),
+    ("Carried", 6),
+];
+
+/// Puts what edits tell.
+pub fn put_edits(bytes: &mut Vec<u8>, edits: &str) {
+    for text in edits.split_terminator(',') {
+        edit(bytes, text);
+    }
+}
 
 /// Puts what an edit tells in its place in a file of version 1: numbers of two bytes where nodes, links and rows have
 /// them, and else of one, as words are.
-pub fn edit(bytes: &mut Vec<u8>, text: &str, page: &mut Page) {
+fn edit(bytes: &mut Vec<u8>, text: &str) {
     let (place, values) = text.rsplit_once(':').unwrap_or(("", ""));
     let (what, which) = place.split_once(':').unwrap_or((place, ""));
     let is_wide = matches!(what, "node" | "link" | "row");
     let mut at = place_of(counts(bytes), what, which);
     for value in values.split_terminator('.') {
-        at = put_value(bytes, at, value, is_wide, page);
+        at = put_value(bytes, at, value, is_wide);
     }
 }
 
 /// Puts a number or the byte of a word in its place, and tells the place behind it.
-fn put_value(bytes: &mut Vec<u8>, at: usize, value: &str, is_wide: bool, page: &mut Page) -> usize {
+fn put_value(bytes: &mut Vec<u8>, at: usize, value: &str, is_wide: bool) -> usize {
     let Ok(number) = value.parse::<u16>() else {
-        put_at(bytes, at, word_value(value), page);
+        put_at(bytes, at, word_value(value));
         return at.wrapping_add(1);
     };
     let [high, low] = number.to_be_bytes();
     if !is_wide {
-        put_at(bytes, at, low, page);
+        put_at(bytes, at, low);
         return at.wrapping_add(1);
     }
-    put_at(bytes, at, high, page);
-    put_at(bytes, at.wrapping_add(1), low, page);
+    put_at(bytes, at, high);
+    put_at(bytes, at.wrapping_add(1), low);
     at.wrapping_add(2)
 }
 
@@ -54,7 +74,8 @@ fn place_of((nodes, links): (u16, u16), what: &str, which: &str) -> usize {
         "number" => 15 + 11 * number,
         "node" => 19 + 11 * number,
         "link" => first_link + 7 * number,
-        _ => (first_link + 7 * usize::from(links)).wrapping_add(row_told(nodes, which)),
+        "row" => (first_link + 7 * usize::from(links)).wrapping_add(row_told(nodes, which)),
+        _ => usize::from(what.parse::<u16>().unwrap_or(0)),
     }
 }
 
@@ -70,22 +91,19 @@ fn row_told(nodes: u16, which: &str) -> usize {
 
 /// The byte of a kind, a role or a tag.
 fn word_value(word: &str) -> u8 {
-    match word {
-        "router" | "sole" | "Head" => 1,
-        "network" | "closing" | "Top" => 2,
-        "Below" => 3,
-        "Above" => 4,
-        "Unordered" => 5,
-        "Carried" => 6,
-        _ => 0,
+    for (name, value) in &WORDS {
+        if *name == word {
+            return *value;
+        }
     }
+    0
 }
 
 /// Puts a byte in its place. At the end it is one more.
-pub fn put_at(bytes: &mut Vec<u8>, place: usize, byte: u8, page: &mut Page) {
+fn put_at(bytes: &mut Vec<u8>, place: usize, byte: u8) {
     if place < bytes.len() {
         bytes[place] = byte;
     } else {
-        page.note(bytes.push(byte));
+        let _ = bytes.push(byte);
     }
 }

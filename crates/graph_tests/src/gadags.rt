@@ -27,7 +27,7 @@ pub fn put_ears(alloc: Global, g: &Graph, root: NodeNo, page: &mut Page)
     requires { root < length g.now.ids }
 {
     let Ok(gadag) = gadag_of(alloc, g, root) else {
-        return page.lacks_memory();
+        return;
     };
     put_ear_order(page, gadag.ear_order());
     put_places(page, &gadag, g.node_count());
@@ -39,7 +39,7 @@ fn put_ear_order(page: &mut Page, order: &[NodeNo]) {
     for n in order {
         page.node(" ", *n);
     }
-    page.put("\n");
+    page.end();
 }
 
 fn put_places(page: &mut Page, gadag: &Gadag, count: u16)
@@ -49,7 +49,7 @@ fn put_places(page: &mut Page, gadag: &Gadag, count: u16)
     for n in 0..count {
         put_place(page, gadag.place(NodeNo::new(n)));
     }
-    page.put("\n");
+    page.end();
 }
 
 fn put_marks(page: &mut Page, gadag: &Gadag, count: u16)
@@ -59,7 +59,7 @@ fn put_marks(page: &mut Page, gadag: &Gadag, count: u16)
     for e in 0..count {
         put_mark(page, gadag.mark(LinkNo::new(e)));
     }
-    page.put("\n");
+    page.end();
 }
 
 pub fn put_directions(page: &mut Page, g: &Graph, d: &Directed)
@@ -77,7 +77,7 @@ fn put_orders(page: &mut Page, d: &Directed, count: u16)
     for n in 0..count {
         page.count(" ", d.order(NodeNo::new(n)));
     }
-    page.put("\n");
+    page.end();
 }
 
 fn put_directed_places(page: &mut Page, d: &Directed, count: u16)
@@ -87,7 +87,7 @@ fn put_directed_places(page: &mut Page, d: &Directed, count: u16)
     for n in 0..count {
         put_place(page, d.place(NodeNo::new(n)));
     }
-    page.put("\n");
+    page.end();
 }
 
 fn put_directed_marks(page: &mut Page, d: &Directed, count: u16)
@@ -97,7 +97,7 @@ fn put_directed_marks(page: &mut Page, d: &Directed, count: u16)
     for e in 0..count {
         put_mark(page, d.mark(LinkNo::new(e)));
     }
-    page.put("\n");
+    page.end();
 }
 
 fn put_place(page: &mut Page, place: Place) {

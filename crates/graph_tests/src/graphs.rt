@@ -8,7 +8,7 @@ use std::alloc::Global;
 
 /// All of a graph: each node with its identifier, the node that is found by it and its ends; the identifier that comes next,
 /// and what is found by it; and each link.
-pub fn put_graph(alloc: Global, words: &[&str], page: &mut Page) {
+pub fn put_graph(alloc: Global, words: &str, page: &mut Page) {
     if let Some(g) = graph(alloc, words, page) {
         put_nodes(&g, page);
         put_links(&g, page);
@@ -23,7 +23,7 @@ fn put_nodes(g: &Graph, page: &mut Page) {
     }
     page.put("no node: ");
     put_id(g, NodeId::router(u32::from(g.node_count()) + 1), page);
-    page.put("\n");
+    page.end();
 }
 
 /// An identifier, and the node that is found by it.
@@ -45,7 +45,7 @@ fn put_ends(ends: &[End], page: &mut Page) {
         page.number(":", u64::from(end.link_data));
         before = ",";
     }
-    page.put("\n");
+    page.end();
 }
 
 fn put_links(g: &Graph, page: &mut Page) {
@@ -56,10 +56,10 @@ fn put_links(g: &Graph, page: &mut Page) {
 }
 
 /// The counts of the graph of so many routers in a row, each two neighbours with so many links.
-pub fn put_counts(alloc: Global, words: &[&str], page: &mut Page) {
+pub fn put_counts(alloc: Global, words: &str, page: &mut Page) {
     let routers = number_or(words, "routers", 0);
     let mut links = Vec::new(alloc);
-    push_line(&mut links, routers, number_or(words, "times", 0), page);
+    push_line(&mut links, routers, number_or(words, "times", 0));
     if let Some(g) = made(graph_with(alloc, routers, routers, links), page) {
         page.tell("nodes=% links=%\n", &[g.node_count(), g.link_count()]);
     }

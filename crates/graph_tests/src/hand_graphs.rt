@@ -121,9 +121,6 @@ fn are_connected(alloc: Global, count: u16, links: &[LinkIn]) -> Result<bool, No
     let mut marks = vec![in alloc; false; count as usize]?;
     marks[0] = true;
     for _ in 0..count {
-        if are_marked(&marks) {
-            return Ok(true);
-        }
         join_all(&mut marks, links);
     }
     Ok(are_marked(&marks))

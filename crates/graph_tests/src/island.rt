@@ -4,7 +4,6 @@
 ghost use Rattle.std.specs.Prelude.{IfSome, length};
 ghost use Rattle.mrt_plain.specs.Within.{AreWithin, IsLinkWithin};
 
-use crate::cert_words::put_error;
 use crate::told::{list, number_or, two};
 use cert_format::read_cert;
 use mrt_graph::{Cert, CertFile, Link, NodeNo};
@@ -27,11 +26,11 @@ impl Drop for Island {
 }
 
 /// All pairs of a text, as `0-1,0-2`.
-pub fn pairs_told(alloc: Global, text: &str, mark: char, page: &mut Page) -> Vec<Two> {
+pub fn pairs_told(alloc: Global, text: &str, mark: char) -> Vec<Two> {
     let mut pairs = Vec::new(alloc);
     for text in text.split_terminator(',') {
         if let Some(pair) = two(text, mark) {
-            page.note(pairs.push(pair));
+            let _ = pairs.push(pair);
         }
     }
     pairs
@@ -51,18 +50,16 @@ fn link_between(count: u16, pair: Two) -> Option<Link>
     })
 }
 
-/// Links between so many nodes, each by its two nodes. Where one is between others, it says so.
-pub fn links_between(alloc: Global, count: u16, pairs: &[Two], page: &mut Page) -> Option<Vec<Link>>
+/// Links between so many nodes, each by its two nodes; none where one is between others.
+pub fn links_between(alloc: Global, count: u16, pairs: &[Two]) -> Option<Vec<Link>>
     ensures { IfSome result (λ links. AreWithin count links.items) }
 {
     let mut links = Vec::new(alloc);
     for pair in pairs {
         let Some(link) = link_between(count, *pair) else {
-            page.put("not asked: a link between other nodes\n");
             return None;
         };
         let Ok(_) = links.push(link) else {
-            page.lacks_memory();
             return None;
         };
     }
@@ -70,29 +67,22 @@ pub fn links_between(alloc: Global, count: u16, pairs: &[Two], page: &mut Page) 
 }
 
 /// The island that words tell, as `nodes=3 links=0-1,0-2,1-2 rows=0/1,0/1,2/0,2/0,1/2,1/2`.
-pub fn island_told(alloc: Global, words: &[&str], page: &mut Page) -> Option<Island>
+pub fn island_told(alloc: Global, words: &str) -> Option<Island>
     ensures { IfSome result (λ island. AreWithin (length island.cert.nodes) island.links.items) }
 {
-    let count = number_or(words, "nodes", 0);
-    let pairs = pairs_told(alloc, list(words, "links"), '-', page);
-    let rows = pairs_told(alloc, list(words, "rows"), '/', page);
-    island_of(alloc, count, &pairs, &rows, page)
+    let pairs = pairs_told(alloc, list(words, "links"), '-');
+    let rows = pairs_told(alloc, list(words, "rows"), '/');
+    island_of(alloc, number_or(words, "nodes", 0), &pairs, &rows)
 }
 
 /// The island of so many nodes with these links and rows.
-pub fn island_of(
-    alloc: Global,
-    count: u16,
-    pairs: &[Two],
-    rows: &[Two],
-    page: &mut Page,
-) -> Option<Island>
+pub fn island_of(alloc: Global, count: u16, pairs: &[Two], rows: &[Two]) -> Option<Island>
     ensures { IfSome result (λ island. AreWithin (length island.cert.nodes) island.links.items) }
 {
-    let Some(links) = links_between(alloc, count, pairs, page) else {
+    let Some(links) = links_between(alloc, count, pairs) else {
         return None;
     };
-    let Some(cert) = cert_of(alloc, count, pairs.len(), rows, page) else {
+    let Some(cert) = cert_of(alloc, count, pairs.len(), rows) else {
         return None;
     };
     if cert.node_count() != count {
@@ -102,12 +92,9 @@ pub fn island_of(
 }
 
 /// The certificate of so many nodes and links with these rows.
-fn cert_of(alloc: Global, nodes: u16, links: usize, rows: &[Two], page: &mut Page) -> Option<Cert> {
+fn cert_of(alloc: Global, nodes: u16, links: usize, rows: &[Two]) -> Option<Cert> {
     let mut bytes = Page::new(alloc);
     put_cert(&mut bytes, nodes, links, rows);
-    if bytes.is_cut() {
-        page.lacks_memory();
-    }
     match read_cert(alloc, bytes.bytes()) {
         Ok(
             CertFile {
@@ -115,18 +102,17 @@ fn cert_of(alloc: Global, nodes: u16, links: usize, rows: &[Two], page: &mut Pag
                 root: _,
                 cert,
             },
-        ) => return Some(cert),
-        Err(error) => put_error(page, error),
+        ) => Some(cert),
+        Err(_) => None,
     }
-    None
 }
 
 /// Puts the bytes of a certificate of version 1: its header, the same for each node, the same for each link, and the rows.
 fn put_cert(bytes: &mut Page, nodes: u16, links: usize, rows: &[Two]) {
+    let [a, b] = nodes.to_be_bytes();
+    let [c, d] = ((links % 65536) as u16).to_be_bytes();
     bytes.put_bytes(b"MRTC\x00\x01");
-    bytes.put_bytes(&nodes.to_be_bytes());
-    bytes.put_bytes(&((links % 65536) as u16).to_be_bytes());
-    bytes.put_bytes(b"\x00\x00\x00\x01");
+    bytes.put_bytes(&[a, b, c, d, 0, 0, 0, 1]);
     for _ in 0..nodes {
         bytes.put_bytes(b"\x01\x00\x00\x00\x01\x00\x01\x00\x00\x00\x00");
     }
@@ -134,9 +120,8 @@ fn put_cert(bytes: &mut Page, nodes: u16, links: usize, rows: &[Two]) {
         bytes.put_bytes(b"\x00\x00\x00\x01\x00\x00\x00");
     }
     for row in rows {
-        let (blue, red) = *row;
-        bytes.put_bytes(&blue.to_be_bytes());
-        bytes.put_bytes(&red.to_be_bytes());
-        bytes.put_bytes(b"\x00");
+        let [a, b] = row.0.to_be_bytes();
+        let [c, d] = row.1.to_be_bytes();
+        bytes.put_bytes(&[a, b, c, d, 0]);
     }
 }

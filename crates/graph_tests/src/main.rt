@@ -30,23 +30,21 @@ mod told_bytes;
 mod told_files;
 mod trees;
 
-use mrt_io::{StdSink, put_all};
-use rows::answered;
+use mrt_io::StdSink;
+use rows::put_line;
 use std::process::ExitCode;
 
 fn main(rt: HostRuntime) -> ExitCode {
     let mut out = StdSink::new(rt.stdout());
+    let mut status = 0;
     for line in rt.lines(rt.alloc()) {
-        let Ok(line) = line else {
-            return ExitCode::from(1);
+        status = match line {
+            Ok(line) => put_line(&rt, rt.alloc(), line.as_str(), &mut out),
+            Err(_) => 1,
         };
-        let page = answered(&rt, rt.alloc(), line.as_str());
-        if page.is_cut() {
-            return ExitCode::from(2);
-        }
-        if put_all(&mut out, page.bytes()).is_err() {
-            return ExitCode::from(3);
+        if status != 0 {
+            break;
         }
     }
-    ExitCode::from(0)
+    ExitCode::from(status)
 }

@@ -14,9 +14,11 @@ pub fn put_paths(alloc: Global, call: Call, g: &Graph, d: &Directed, page: &mut 
     requires { HasDirections g.now d.now }
 {
     for n in 0..g.node_count() {
-        match call {
-            Call::Spf => put_from(alloc, g, d, NodeNo::new(n), page),
-            _ => put_to(alloc, g, d, NodeNo::new(n), page),
+        for dir in [Dir::Up, Dir::Down] {
+            match call {
+                Call::Spf => put_from(alloc, g, d, NodeNo::new(n), dir, page),
+                _ => put_to(alloc, g, d, NodeNo::new(n), dir, page),
+            }
         }
     }
 }
@@ -37,16 +39,13 @@ pub fn reach_of(
     Ok(reach)
 }
 
-fn put_from(alloc: Global, g: &Graph, d: &Directed, s: NodeNo, page: &mut Page)
+fn put_from(alloc: Global, g: &Graph, d: &Directed, s: NodeNo, dir: Dir, page: &mut Page)
     requires directed { HasDirections g.now d.now }
     requires source { s < length g.now.ids }
 {
-    for dir in [Dir::Up, Dir::Down] {
-        page.node("from ", s);
-        match reach_of(alloc, g, d, s, dir) {
-            Ok(reach) => put_reach(page, dir, &reach, g.node_count()),
-            Err(_) => page.lacks_memory(),
-        }
+    page.node("from ", s);
+    if let Ok(reach) = reach_of(alloc, g, d, s, dir) {
+        put_reach(page, dir, &reach, g.node_count());
     }
 }
 
@@ -60,16 +59,13 @@ fn reach_to(alloc: Global, g: &Graph, d: &Directed, t: NodeNo, dir: Dir) -> Resu
     Ok(reach)
 }
 
-fn put_to(alloc: Global, g: &Graph, d: &Directed, t: NodeNo, page: &mut Page)
+fn put_to(alloc: Global, g: &Graph, d: &Directed, t: NodeNo, dir: Dir, page: &mut Page)
     requires directed { HasDirections g.now d.now }
     requires target { t < length g.now.ids }
 {
-    for dir in [Dir::Up, Dir::Down] {
-        page.node("to ", t);
-        match reach_to(alloc, g, d, t, dir) {
-            Ok(reach) => put_reach(page, dir, &reach, g.node_count()),
-            Err(_) => page.lacks_memory(),
-        }
+    page.node("to ", t);
+    if let Ok(reach) = reach_to(alloc, g, d, t, dir) {
+        put_reach(page, dir, &reach, g.node_count());
     }
 }
 
@@ -83,7 +79,7 @@ fn put_reach(page: &mut Page, dir: Dir, reach: &Reach, count: u16)
     for n in 0..count {
         put_hop(page, reach.hop(NodeNo::new(n)));
     }
-    page.put("\n");
+    page.end();
 }
 
 fn put_hop(page: &mut Page, hop: Option<Hop>) {

@@ -12,8 +12,8 @@ use parts_of_tests::Page;
 use std::alloc::Global;
 
 /// Puts what a call asks of the rows of an island.
-pub fn put_of_island(alloc: Global, call: Call, words: &[&str], page: &mut Page) {
-    if let Some(island) = island_told(alloc, words, page) {
+pub fn put_of_island(alloc: Global, call: Call, words: &str, page: &mut Page) {
+    if let Some(island) = island_told(alloc, words) {
         match call {
             Call::Sound => put_sound(alloc, &island, page),
             _ => put_between(alloc, call, &island, words, page),
@@ -31,16 +31,16 @@ fn put_yes(page: &mut Page, before: &str, is_so: bool) {
 fn put_sound(alloc: Global, island: &Island, page: &mut Page)
     requires { AreWithin (length island.now.cert.nodes) island.now.links.items }
 {
-    let is_so = page.found(sound(alloc, &island.links, &island.cert));
+    let is_so = sound(alloc, &island.links, &island.cert).unwrap_or(false);
     put_yes(page, "", is_so);
-    page.put("\n");
+    page.end();
 }
 
 /// Puts what a call asks of the rows from one node of an island to another one.
-fn put_between(alloc: Global, call: Call, island: &Island, words: &[&str], page: &mut Page)
+fn put_between(alloc: Global, call: Call, island: &Island, words: &str, page: &mut Page)
     requires { AreWithin (length island.now.cert.nodes) island.now.links.items }
 {
-    if let Some((s, t)) = two_nodes(words, "from", "to", island.cert.node_count(), page) {
+    if let Some((s, t)) = two_nodes(words, "from", "to", island.cert.node_count()) {
         match call {
             Call::Follow => put_followed(alloc, island, color_told(words), s, t, page),
             _ => put_reaches(alloc, island, s, t, page),
@@ -54,14 +54,13 @@ fn put_followed(alloc: Global, island: &Island, color: Color, s: NodeNo, t: Node
     requires source { s < length island.now.cert.nodes }
     requires target { t < length island.now.cert.nodes }
 {
-    match follow(alloc, &island.links, &island.cert, color, s, t) {
-        Ok(course) => put_course(page, &course),
-        Err(_) => page.lacks_memory(),
+    if let Ok(course) = follow(alloc, &island.links, &island.cert, color, s, t) {
+        put_course(page, &course);
     }
 }
 
 /// The color that words tell; red where they tell another one.
-fn color_told(words: &[&str]) -> Color {
+fn color_told(words: &str) -> Color {
     match list(words, "color") {
         "blue" => Color::Blue,
         _ => Color::Red,
@@ -90,34 +89,28 @@ fn put_reaches(alloc: Global, island: &Island, s: NodeNo, t: NodeNo, page: &mut 
     requires source { s < length island.now.cert.nodes }
     requires target { t < length island.now.cert.nodes }
 {
-    let (blue, red, apart) = told_of(alloc, island, s, t, page);
+    let (blue, red, apart) = told_of(alloc, island, s, t);
     put_yes(page, "blue=", blue);
     put_yes(page, " red=", red);
     put_yes(page, " apart=", apart);
-    page.put("\n");
+    page.end();
 }
 
 /// Whether blue goes from `s` to `t`, whether red does, and whether they share only what separates the two.
-pub fn told_of(
-    alloc: Global,
-    island: &Island,
-    s: NodeNo,
-    t: NodeNo,
-    page: &mut Page,
-) -> (bool, bool, bool)
+pub fn told_of(alloc: Global, island: &Island, s: NodeNo, t: NodeNo) -> (bool, bool, bool)
     requires within { AreWithin (length island.now.cert.nodes) island.now.links.items }
     requires source { s < length island.now.cert.nodes }
     requires target { t < length island.now.cert.nodes }
 {
     let (links, cert) = (island.links.as_slice(), &island.cert);
-    let blue = page.found(reaches(alloc, links, cert, Color::Blue, s, t));
-    let red = page.found(reaches(alloc, links, cert, Color::Red, s, t));
-    let apart = page.found(apart(alloc, links, cert, s, t));
+    let blue = reaches(alloc, links, cert, Color::Blue, s, t).unwrap_or(false);
+    let red = reaches(alloc, links, cert, Color::Red, s, t).unwrap_or(false);
+    let apart = apart(alloc, links, cert, s, t).unwrap_or(false);
     (blue, red, apart)
 }
 
 /// The element that words tell, as `node=2` or `link=1`.
-fn element_told(words: &[&str]) -> Element {
+fn element_told(words: &str) -> Element {
     match number(words, "node") {
         Some(node) => Element::Node(NodeNo::new(node)),
         None => Element::Link(LinkNo::new(number_or(words, "link", u16::MAX))),
@@ -125,38 +118,37 @@ fn element_told(words: &[&str]) -> Element {
 }
 
 /// Whether an element separates two nodes.
-pub fn put_separates(alloc: Global, words: &[&str], page: &mut Page) {
+pub fn put_separates(alloc: Global, words: &str, page: &mut Page) {
     let count = number_or(words, "nodes", 0);
-    let pairs = pairs_told(alloc, list(words, "links"), '-', page);
-    if let Some(links) = links_between(alloc, count, &pairs, page) {
+    let pairs = pairs_told(alloc, list(words, "links"), '-');
+    if let Some(links) = links_between(alloc, count, &pairs) {
         put_separated(alloc, count, &links, words, page);
     }
 }
 
-fn put_separated(alloc: Global, count: u16, links: &[Link], words: &[&str], page: &mut Page)
+fn put_separated(alloc: Global, count: u16, links: &[Link], words: &str, page: &mut Page)
     requires { AreWithin count links.now }
 {
-    if let Some((s, t)) = two_nodes(words, "from", "to", count, page) {
-        let is_so = page.found(separates(alloc, links, count, element_told(words), s, t));
+    if let Some((s, t)) = two_nodes(words, "from", "to", count) {
+        let is_so = separates(alloc, links, count, element_told(words), s, t).unwrap_or(false);
         put_yes(page, "", is_so);
-        page.put("\n");
+        page.end();
     }
 }
 
 /// The links of a graph as a list.
-pub fn put_links_of(alloc: Global, words: &[&str], page: &mut Page) {
+pub fn put_links_of(alloc: Global, words: &str, page: &mut Page) {
     let Some(g) = graph(alloc, words, page) else {
         return;
     };
-    match links_of(alloc, &g) {
-        Ok(links) => put_pairs(page, &links),
-        Err(_) => page.lacks_memory(),
+    if let Ok(links) = links_of(alloc, &g) {
+        put_pairs(page, &links);
     }
 }
 
 fn put_pairs(page: &mut Page, links: &[Link]) {
     page.number("count=", links.len() as u64);
-    page.put("\n");
+    page.end();
     for link in links {
         page.tell("%-%\n", &[link.a.get(), link.b.get()]);
     }

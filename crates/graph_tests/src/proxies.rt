@@ -15,8 +15,6 @@ use parts_of_tests::Page;
 use proxy_rows::{Out, ProxyError, ProxyRow, proxy_rows, proxy_text};
 use std::alloc::Global;
 
-pub const NOT_ASKED: &str = "not asked: no accepted certificate, or no two nodes\n";
-
 pub fn is_accepted(g: &Graph, root: NodeNo, file: &CertFile) -> bool
     requires { root < length g.now.ids }
     ensures { IsTrue result → IsAcceptedFor g.now file.now.cert }
@@ -33,19 +31,18 @@ pub fn put_proxy_text(
     g: &Graph,
     root: NodeNo,
     c: &Cert,
-    words: &[&str],
+    words: &str,
     page: &mut Page,
 )
     requires accepted { IsAcceptedFor g.now c.now }
     requires root { root < length g.now.ids }
 {
-    if let Some((a, b)) = two_nodes(words, "a", "b", g.node_count(), page) {
-        if a == b || c.node_count() <= root.get() || c.node(root).order != 1 {
-            return page.put(NOT_ASKED);
-        }
-        match proxy_text(alloc, g, root, c, a, b) {
-            Ok(text) => page.put_bytes(&text),
-            Err(error) => put_error(page, error),
+    if let Some((a, b)) = two_nodes(words, "a", "b", g.node_count()) {
+        if a != b && root.get() < c.node_count() && c.node(root).order == 1 {
+            match proxy_text(alloc, g, root, c, a, b) {
+                Ok(text) => page.put_bytes(&text),
+                Err(error) => put_error(page, error),
+            }
         }
     }
 }
@@ -53,21 +50,20 @@ pub fn put_proxy_text(
 fn put_error(page: &mut Page, error: ProxyError) {
     match error {
         ProxyError::NoCommonBlock => page.put("no common block\n"),
-        ProxyError::NoMemory => page.lacks_memory(),
+        ProxyError::NoMemory => {}
     }
 }
 
 /// The rows for a prefix that is attached to two routers.
-pub fn put_proxy_rows(alloc: Global, g: &Graph, c: &Cert, words: &[&str], page: &mut Page)
+pub fn put_proxy_rows(alloc: Global, g: &Graph, c: &Cert, words: &str, page: &mut Page)
     requires { IsAcceptedFor g.now c.now }
 {
-    if let Some((a, b)) = two_nodes(words, "a", "b", g.node_count(), page) {
-        if a == b {
-            return page.put(NOT_ASKED);
-        }
-        match proxy_rows(alloc, g, c, a, b) {
-            Ok(rows) => put_rows(page, &rows),
-            Err(error) => put_error(page, error),
+    if let Some((a, b)) = two_nodes(words, "a", "b", g.node_count()) {
+        if a != b {
+            match proxy_rows(alloc, g, c, a, b) {
+                Ok(rows) => put_rows(page, &rows),
+                Err(error) => put_error(page, error),
+            }
         }
     }
 }
@@ -77,7 +73,7 @@ fn put_rows(page: &mut Page, rows: &[ProxyRow]) {
         page.number("node ", n as u64);
         put_out(page, ": blue=", rows[n].blue);
         put_out(page, " red=", rows[n].red);
-        page.put("\n");
+        page.end();
     }
 }
 
@@ -141,50 +137,48 @@ fn put_soundness(
     page: &mut Page,
 ) {
     let count = g.node_count();
-    let pairs = pairs_with(alloc, g, lower, upper, page);
-    let rows = rows_with(alloc, g.link_count(), lower, entries, page);
-    if let Some(island) = island_of(alloc, count.saturating_add(1), &pairs, &rows, page) {
-        let is_so = is_sound_to(alloc, &island, count, page);
+    let pairs = pairs_with(alloc, g, lower, upper);
+    let rows = rows_with(alloc, count, g.link_count(), lower, entries);
+    if let Some(island) = island_of(alloc, count.saturating_add(1), &pairs, &rows) {
+        let is_so = is_sound_to(alloc, &island, count);
         page.put(if is_so { "sound\n" } else { "not sound\n" });
     }
 }
 
 /// The two nodes of each link of a graph, and last those of two links to one node more.
-fn pairs_with(alloc: Global, g: &Graph, lower: u16, upper: u16, page: &mut Page) -> Vec<Two> {
+fn pairs_with(alloc: Global, g: &Graph, lower: u16, upper: u16) -> Vec<Two> {
     let mut pairs = Vec::new(alloc);
     for e in 0..g.link_count() {
         let link = g.link(LinkNo::new(e));
-        page.note(pairs.push((link.a.get(), link.b.get())));
+        let _ = pairs.push((link.a.get(), link.b.get()));
     }
-    page.note(pairs.push((lower, g.node_count())));
-    page.note(pairs.push((upper, g.node_count())));
+    let _ = pairs.push((lower, g.node_count()));
+    let _ = pairs.push((upper, g.node_count()));
     pairs
 }
 
-/// The rows of some nodes and one more: those for that one by their entries, and any for the others. The first link to the
-/// new node is that of the lower router.
-fn rows_with(
-    alloc: Global,
-    first: u16,
-    lower: u16,
-    entries: &[ProxyRow],
-    page: &mut Page,
-) -> Vec<Two> {
+/// The rows of so many nodes and one more: those for that one by their entries, and any for the others.
+fn rows_with(alloc: Global, count: u16, first: u16, lower: u16, entries: &[ProxyRow]) -> Vec<Two> {
     let mut rows = Vec::new(alloc);
-    for s in 0..entries.len() {
-        let own = first.saturating_add(if s == usize::from(lower) { 0 } else { 1 });
-        for _ in 1..entries.len() {
-            page.note(rows.push((0, 0)));
+    for s in 0..count.saturating_add(1) {
+        for t in 0..count.saturating_add(1) {
+            if s != t {
+                let _ = rows.push(row_with(entries, s, t, first, lower));
+            }
         }
-        page.note(rows.push((
-            link_out(entries[s].blue, own),
-            link_out(entries[s].red, own),
-        )));
-    }
-    for _ in entries {
-        page.note(rows.push((0, 0)));
     }
     rows
+}
+
+/// The row of `s` for `t`, by the number of the first link to the new node, which is that of the lower router.
+fn row_with(entries: &[ProxyRow], s: u16, t: u16, first: u16, lower: u16) -> Two {
+    let own = first.saturating_add(if s == lower { 0 } else { 1 });
+    match entries.get(usize::from(s)) {
+        Some(entry) if usize::from(t) == entries.len() => {
+            (link_out(entry.blue, own), link_out(entry.red, own))
+        }
+        _ => (0, 0),
+    }
 }
 
 fn link_out(out: Out, own: u16) -> u16 {
@@ -195,14 +189,14 @@ fn link_out(out: Out, own: u16) -> u16 {
 }
 
 /// Whether both colors reach `t` from each node below it, and share only what separates the two.
-fn is_sound_to(alloc: Global, island: &Island, t: u16, page: &mut Page) -> bool
+fn is_sound_to(alloc: Global, island: &Island, t: u16) -> bool
     requires { AreWithin (length island.now.cert.nodes) island.now.links.items }
 {
     if island.cert.node_count() <= t {
         return false;
     }
     for s in 0..t {
-        if told_of(alloc, island, NodeNo::new(s), NodeNo::new(t), page) != (true, true, true) {
+        if told_of(alloc, island, NodeNo::new(s), NodeNo::new(t)) != (true, true, true) {
             return false;
         }
     }

@@ -1,37 +1,49 @@
-//! The answer to a row: each call is answered by one function of a module.
+//! The answer to a row: each call is answered by one function of a module. What a call has no memory for, or what is not
+//! there, is left out of the answer, which is another one then.
 
 use crate::calls::{Call, call_named};
 use crate::{certs, computed, devices, graphs, plain, shelves, steps, streams, texts};
-use parts_of_tests::{Page, is_row, put_answer, words_of};
+use mrt_io::{Sink, put_all};
+use parts_of_tests::{Page, cut, is_row, put_answer};
 use std::alloc::Global;
 use std::rt::Files;
 
-/// The text for a line.
-pub fn answered<R: Files>(rt: &R, alloc: Global, line: &str) -> Page {
+/// Puts the answer to a line to the output; 0 where it is there.
+pub fn put_line<R: Files + AllocGlobal, K: Sink>(
+    rt: &R,
+    alloc: Global,
+    line: &str,
+    out: &mut K,
+) -> u8 {
     let mut page = Page::new(alloc);
     if is_row(line) {
         put_row(rt, alloc, line, &mut page);
     }
-    page
-}
-
-fn put_row<R: Files>(rt: &R, alloc: Global, line: &str, page: &mut Page) {
-    let words = words_of(alloc, line, page);
-    match words.as_slice() {
-        [name, call, given @ ..] => {
-            let mut answer = Page::new(alloc);
-            match call_named(call) {
-                Some(call) => put_answered(rt, alloc, call, given, &mut answer),
-                None => answer.put("no such call\n"),
-            }
-            put_answer(page, name, &answer);
-        }
-        _ => page.put("no call\n"),
+    match put_all(out, page.bytes()) {
+        Ok(()) => 0,
+        Err(_) => 2,
     }
 }
 
+fn put_row<R: Files + AllocGlobal>(rt: &R, alloc: Global, line: &str, page: &mut Page) {
+    let (name, rest) = cut(line);
+    let (call, words) = cut(rest);
+    let mut answer = Page::new(alloc);
+    match call_named(call) {
+        Some(call) => put_answered(rt, alloc, call, words, &mut answer),
+        None => answer.put("no such call\n"),
+    }
+    put_answer(page, name, answer.bytes());
+}
+
 /// The calls that are given words alone.
-fn put_answered<R: Files>(rt: &R, alloc: Global, call: Call, words: &[&str], page: &mut Page) {
+fn put_answered<R: Files + AllocGlobal>(
+    rt: &R,
+    alloc: Global,
+    call: Call,
+    words: &str,
+    page: &mut Page,
+) {
     match call {
         Call::Number | Call::Address | Call::Lines | Call::Rising => texts::put_read(
             alloc, call, words, page,
@@ -55,9 +67,15 @@ fn put_answered<R: Files>(rt: &R, alloc: Global, call: Call, words: &[&str], pag
 }
 
 /// The calls that are given files, or a graph and its root.
-fn put_of_files<R: Files>(rt: &R, alloc: Global, call: Call, words: &[&str], page: &mut Page) {
+fn put_of_files<R: Files + AllocGlobal>(
+    rt: &R,
+    alloc: Global,
+    call: Call,
+    words: &str,
+    page: &mut Page,
+) {
     match call {
-        Call::PutToFile => devices::put_to_file(rt, alloc, words, page),
+        Call::PutToFile => devices::put_to_file(rt, words, page),
         Call::ReadFile | Call::OpenFile => shelves::put_files(rt, alloc, call, words, page),
         Call::PutCert | Call::PutInSteps | Call::PutInStepsFailing => {
             steps::put_steps(rt, alloc, call, words, page)

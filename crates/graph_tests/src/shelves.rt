@@ -12,7 +12,7 @@ use std::alloc::Global;
 use std::rt::Files;
 
 /// Puts what a shelf gives, one in memory or that of the machine.
-pub fn put_files<R: Files>(rt: &R, alloc: Global, call: Call, words: &[&str], page: &mut Page) {
+pub fn put_files<R: Files>(rt: &R, alloc: Global, call: Call, words: &str, page: &mut Page) {
     match told(words, "holds") {
         Some(file) => put_held(alloc, file, call, words, page),
         None => put_each(alloc, &mut FileShelf::new(rt), call, words, page),
@@ -20,15 +20,12 @@ pub fn put_files<R: Files>(rt: &R, alloc: Global, call: Call, words: &[&str], pa
 }
 
 /// What a shelf gives that has one file and fails one call.
-fn put_held(alloc: Global, file: &str, call: Call, words: &[&str], page: &mut Page) {
-    match held(alloc, file) {
-        Ok(file) => {
-            let mut files = Vec::new(alloc);
-            page.note(files.push(file));
-            let fails = only(alloc, number_or(words, "fails", u16::MAX), page);
-            put_each(alloc, &mut MemShelf::new(files, fails), call, words, page);
-        }
-        Err(_) => page.lacks_memory(),
+fn put_held(alloc: Global, file: &str, call: Call, words: &str, page: &mut Page) {
+    if let Ok(file) = held(alloc, file) {
+        let mut files = Vec::new(alloc);
+        let _ = files.push(file);
+        let fails = only(alloc, number_or(words, "fails", u16::MAX));
+        put_each(alloc, &mut MemShelf::new(files, fails), call, words, page);
     }
 }
 
@@ -41,37 +38,25 @@ fn held(alloc: Global, file: &str) -> Result<(Word, Vec<u8>), NoMemory> {
 }
 
 /// What a shelf gives, for each name.
-fn put_each<S: Shelf>(alloc: Global, shelf: &mut S, call: Call, words: &[&str], page: &mut Page) {
+fn put_each<S: Shelf>(alloc: Global, shelf: &mut S, call: Call, words: &str, page: &mut Page) {
     let limit = number_or(words, "limit", 0);
     for name in list(words, "names").split(',') {
-        put_named(alloc, shelf, call, name, limit, page);
-    }
-}
-
-fn put_named<S: Shelf>(
-    alloc: Global,
-    shelf: &mut S,
-    call: Call,
-    name: &str,
-    limit: u16,
-    page: &mut Page,
-) {
-    match Word::new(alloc, name.as_bytes()) {
-        Ok(name) => match call {
-            Call::ReadFile => put_read(alloc, shelf, &name, u32::from(limit), page),
-            _ => put_opened(alloc, shelf, &name, page),
-        },
-        Err(_) => page.lacks_memory(),
+        if let Ok(name) = Word::new(alloc, name.as_bytes()) {
+            match call {
+                Call::ReadFile => put_read(alloc, shelf, &name, limit, page),
+                _ => put_opened(alloc, shelf, &name, page),
+            }
+        }
     }
 }
 
 /// The file of a name, of at most that many bytes.
-fn put_read<S: Shelf>(alloc: Global, shelf: &mut S, name: &Word, limit: u32, page: &mut Page) {
-    match shelf.read(alloc, name, limit) {
+fn put_read<S: Shelf>(alloc: Global, shelf: &mut S, name: &Word, limit: u16, page: &mut Page) {
+    match shelf.read(alloc, name, u32::from(limit)) {
         Ok(bytes) => show_line(page, &bytes),
         Err(ShelfError::Failed) => page.put("failed\n"),
         Err(ShelfError::TooLong) => page.put("too long\n"),
-        Err(ShelfError::NoMemory) => page.lacks_memory(),
+        Err(ShelfError::NoMemory) => {}
     }
 }
 
@@ -80,7 +65,7 @@ fn put_opened<S: Shelf>(alloc: Global, shelf: &mut S, name: &Word, page: &mut Pa
     match shelf.open(alloc, name) {
         Ok(()) => put_pieces(shelf, &mut Page::new(alloc), page),
         Err(OpenError::Failed) => page.put("not opened\n"),
-        Err(OpenError::NoMemory) => page.lacks_memory(),
+        Err(OpenError::NoMemory) => {}
     }
 }
 
@@ -95,7 +80,7 @@ fn put_pieces<S: Shelf>(shelf: &mut S, told: &mut Page, page: &mut Page)
             Ok(count) => told.put_bytes(&piece[..count as usize]),
             Err(ShelfFailed) => {
                 page.number("failed after ", told.bytes().len() as u64);
-                return page.put("\n");
+                return page.end();
             }
         }
     }

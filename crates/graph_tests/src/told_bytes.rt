@@ -6,10 +6,9 @@ use parts_of_tests::Page;
 use std::alloc::Global;
 
 /// The bytes after a name; none where it is not there.
-pub fn bytes_told(alloc: Global, words: &[&str], name: &str, page: &mut Page) -> Vec<u8> {
+pub fn bytes_told(alloc: Global, words: &str, name: &str) -> Vec<u8> {
     let mut told = Page::new(alloc);
     told.put_told(list(words, name));
-    page.heed(&told);
     told.into_bytes()
 }
 
@@ -30,5 +29,5 @@ pub fn show(page: &mut Page, bytes: &[u8]) {
 /// Shows bytes, and ends the line.
 pub fn show_line(page: &mut Page, bytes: &[u8]) {
     show(page, bytes);
-    page.put("\n");
+    page.end();
 }

@@ -10,9 +10,8 @@ use std::alloc::Global;
 pub fn put_search(alloc: Global, g: &Graph, root: NodeNo, page: &mut Page)
     requires { root < length g.now.ids }
 {
-    match search(alloc, g, root) {
-        Ok(tree) => put_tree(page, &tree, g.node_count()),
-        Err(_) => page.lacks_memory(),
+    if let Ok(tree) = search(alloc, g, root) {
+        put_tree(page, &tree, g.node_count());
     }
 }
 
@@ -27,7 +26,7 @@ fn put_tree(page: &mut Page, tree: &Tree, count: u16)
         page.count("/", node.low);
         put_link(page, node.low_link);
     }
-    page.put("\n");
+    page.end();
 }
 
 fn put_link(page: &mut Page, link: Option<LinkNo>) {

@@ -5,4 +5,4 @@ mod page;
 mod row;
 
 pub use page::Page;
-pub use row::{is_row, put_answer, words_of};
+pub use row::{cut, is_row, put_answer};

@@ -1,5 +1,5 @@
-//! The answer to a row, while it is put together. A piece for which there is no memory is left out, and the page keeps
-//! in mind that it lacks one; so what puts pieces has nothing to give back.
+//! The answer to a row, while it is put together. A piece for which there is no memory is left out, and the answer is another
+//! one then; so what puts pieces has nothing to give back.
 
 ghost use Rattle.std.specs.Prelude.{◌<◌};
 
@@ -7,15 +7,14 @@ use mrt_graph::{LinkNo, NodeId, NodeNo, NodeText};
 use std::alloc::Global;
 use text_parts::push_number;
 
-/// A text, and whether it lacks a piece.
+/// A text.
 pub struct Page {
     text: Vec<u8>,
-    is_cut: bool,
 }
 
 impl Drop for Page {
     fn drop(self) {
-        let Self { text: _, is_cut: _ } = self;
+        let Self { text: _ } = self;
     }
 }
 
@@ -24,53 +23,17 @@ impl Page {
     pub fn new(alloc: Global) -> Page {
         Page {
             text: Vec::new(alloc),
-            is_cut: false,
         }
     }
 
     /// All that was put on it.
     pub fn into_bytes(self) -> Vec<u8> {
-        let Self { text, is_cut: _ } = self;
+        let Self { text } = self;
         text
     }
 
     pub fn bytes(&self) -> &[u8] {
         self.text.as_slice()
-    }
-
-    /// Whether there was no memory for a piece of it.
-    pub fn is_cut(&self) -> bool {
-        self.is_cut
-    }
-
-    /// Keeps in mind that there was no memory.
-    pub fn lacks_memory(&mut self) {
-        self.is_cut = true;
-    }
-
-    /// Keeps in mind whether there was memory.
-    pub fn note<E: Drop>(&mut self, done: Result<(), E>) {
-        if done.is_err() {
-            self.is_cut = true;
-        }
-    }
-
-    /// What was found; no where there was no memory to look.
-    pub fn found<E: Drop>(&mut self, found: Result<bool, E>) -> bool {
-        match found {
-            Ok(is_so) => is_so,
-            Err(_) => {
-                self.is_cut = true;
-                false
-            }
-        }
-    }
-
-    /// Keeps in mind that there was no memory for another page.
-    pub fn heed(&mut self, other: &Page) {
-        if other.is_cut {
-            self.is_cut = true;
-        }
     }
 
     /// Takes all away that was put on it.
@@ -80,9 +43,7 @@ impl Page {
 
     /// Puts bytes.
     pub fn put_bytes(&mut self, bytes: &[u8]) {
-        if self.text.extend_from_slice(bytes).is_err() {
-            self.is_cut = true;
-        }
+        let _ = self.text.extend_from_slice(bytes);
     }
 
     /// Puts a text.
@@ -90,11 +51,15 @@ impl Page {
         self.put_bytes(text.as_bytes());
     }
 
-    /// Puts bytes that were made, if there was memory for them.
+    /// Ends a line.
+    pub fn end(&mut self) {
+        self.put_bytes(b"\n");
+    }
+
+    /// Puts bytes, if they could be made.
     pub fn made<E: Drop>(&mut self, bytes: Result<Vec<u8>, E>) {
-        match bytes {
-            Ok(bytes) => self.put_bytes(&bytes),
-            Err(_) => self.is_cut = true,
+        if let Ok(bytes) = bytes {
+            self.put_bytes(&bytes);
         }
     }
 
@@ -127,9 +92,7 @@ impl Page {
 
     /// Puts a text and a number.
     pub fn number(&mut self, before: &str, number: u64) {
-        if push_number(&mut self.text, before.as_bytes(), number).is_err() {
-            self.is_cut = true;
-        }
+        let _ = push_number(&mut self.text, before.as_bytes(), number);
     }
 
     /// The same with a smaller number.
