@@ -435,6 +435,7 @@ module _ (laws : ComingLaws) where
 
     are_parts : (island : Island) (file : CertFile) → IsComputedFile island.graph island.root file
         → ArePartsIn (area input) island (parts_of island file)
+    unfolding parts_of
     are_parts island file certificate = record {
       area_is = refl;
       island_is = refl;
@@ -445,6 +446,7 @@ module _ (laws : ComingLaws) where
     }
 
     traced_comes : (trace : PacketTrace) → HasAnswer (traced input trace)
+    unfolding parts_of
     traced_comes trace = in_island trace.from (λ island. such (IsTraceIn (area input) island trace)) (λ island held.
         let file = computed_file island.graph island.root held.graph held.root in
         let are = are_parts island file.0 file.1 in
@@ -453,6 +455,7 @@ module _ (laws : ComingLaws) where
         (Ok text.0, (parts_of island file.0, are, text.1)))
 
     scripted_comes : (script : Script) → HasAnswer (scripted input script)
+    unfolding parts_of
     scripted_comes script = in_island script.router (λ island. such (IsScriptIn (area input) island script)) (λ island held.
         let file = computed_file island.graph island.root held.graph held.root in
         let are = are_parts island file.0 file.1 in
