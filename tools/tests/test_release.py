@@ -522,7 +522,7 @@ class Releasing(Checkout):
         self.assertIn("left no libmrt_c.a here", self.refused())
         self.said("tools/build", "--library")
         self.assertIn("the gate has not passed", self.refused())
-        self.said(".ci/run")
+        self.said(".ci/run", "--library")
         write(self.at("crates/low/src/lib.rt"), "changed\n")
         self.assertIn("not committed", self.refused())
         self.commit()
@@ -533,14 +533,14 @@ class Releasing(Checkout):
         self.assertIn("was built from commit", self.refused())
 
     def test_refused_without_the_other_edits(self) -> None:
-        self.said(".ci/run")
+        self.said(".ci/run", "--library")
         self.assertIn("no whole run of tools/deep", self.refused())
         self.said("tools/deep", "low")
         self.assertIn("no whole run of tools/deep", self.refused())
         self.said("tools/deep")
         write(self.at("README.md"), "changed\n")
         self.commit()
-        self.said(".ci/run")
+        self.said(".ci/run", "--library")
         self.assertIn("tools/deep passed on commit", self.refused())
         write(self.at("edits/mrt/new.edit"), FILES["edits/mrt/three.edit"])
         self.said("tools/deep")
@@ -555,14 +555,14 @@ class Releasing(Checkout):
         self.assertIn("tools/deep has not passed", self.refused("--gate"))
 
     def test_refused_where_the_gate_failed(self) -> None:
-        self.said(".ci/run")
+        self.said(".ci/run", "--library")
         write(self.at("tools/test"), FAILED, 0o755)
         self.commit()
-        self.assertEqual(self.run_in(self.folder, ".ci/run").returncode, 1)
+        self.assertEqual(self.run_in(self.folder, ".ci/run", "--library").returncode, 1)
         self.assertIn("the gate has not passed", self.refused())
         self.assertIn("the gate has not passed", self.refused("--gate"))
         write(self.path("bin", "rt"), FAILED, 0o755)
-        done = self.run_in(self.folder, ".ci/run")
+        done = self.run_in(self.folder, ".ci/run", "--library")
         self.assertEqual((done.returncode, done.stdout), (1, "FAILED\n"))
         self.assertIn("left no mrt here", self.refused())
 
@@ -579,7 +579,7 @@ class Releasing(Checkout):
         self.assertEqual(self.builds(), 1)
 
     def test_twice_the_same_bytes(self) -> None:
-        self.said(".ci/run")
+        self.said(".ci/run", "--library")
         self.said("tools/deep")
         sums = self.release("one")
         self.assertEqual(self.release("two"), sums)
