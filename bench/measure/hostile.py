@@ -6,9 +6,9 @@ Without a ROW all run. `keys`: N keys (349,525: a database of 8 MiB) are picked 
 seed, puts them all into one run of places; a database, a profile and packets have them, and beside each stands the same with as many keys in a row.
 `old`, `equal`, `others` and `longest` are databases of 8 MiB: of old or equal instances, of LSAs of another type, of LSAs as long as they get. `lan`
 has networks with 16,000 routers, `network` one network with 80,000 LSAs, `parallel` bundles of links. `certificate` has the longest ones, which are
-wrong at the very end, `script` scripts and a profile of a million lines that are wrong in the last. `flood` has packets of one LSA of 65 kB, which
-reach 64 routers, `known` one such LSA that reaches a router 65,535 times, also from two places of the file, `fabric` 65,535 packets that each switch
-once on the largest ring. `stacks` runs each form with a stack of 64 KiB, `sizes` with a limit on the size of files.
+wrong at the very end, and short ones of chains of heads and of many blocks, wrong or cut, `script` scripts and a profile of a million lines that
+are wrong in the last. `flood` has packets of one LSA of 65 kB, which reach 64 routers, `known` one such LSA that reaches a router 65,535 times, also
+from two places of the file, `fabric` 65,535 packets that each switch once on the largest ring. `stacks` runs each form with a stack of 64 KiB, `sizes` with a limit on the size of files.
 
 A run has at most MB of memory (2,000) and S seconds (120). With --check the status is 1 where a run takes more than ten times sha256sum and 0.1 s, or
 has more than six times the files and 16 MB, or, where it floods, twice the packets and 64 bytes for each LSA in a packet or a database, whichever is
@@ -23,7 +23,7 @@ import tempfile
 from collections import namedtuple
 from itertools import count, islice
 
-from bench.areas import areas, ring
+from bench.areas import areas, ring, tree
 from bench.measure import timing
 from bench.reference.lsas import POINT_TO_POINT, TRANSIT, address, lsa, network_lsa, router_lsa, spelled, update, updates
 
@@ -36,6 +36,7 @@ STACK = 65536
 
 # limits of the program and of the formats
 DATABASE, CERTIFICATE = 8388608, 134217728
+CERTIFICATE_HEAD, CERTIFICATE_NODE, CERTIFICATE_LINK = 14, 11, 7
 LONGEST_LINKS, LONGEST_LISTED, PACKET_LINKS = 5459, 16377, 5456
 NODES, MOST_ROUTERS, MOST_DELIVERIES = 4096, 64, 65535
 LINES = 1000000
@@ -219,6 +220,22 @@ def certificate(_):
     ):
         areas.write("long", text)
         yield Row(f"certificate of {len(text)} bytes, {name}", check, status)
+    for shape, what in (("line", f"a chain of {NODES - 1} heads"), ("star", f"{NODES - 1} blocks under one head")):
+        tree.write_files(shape, NODES, "whole", "db")
+        with open("whole", "rb") as file:
+            whole = file.read()
+        links = CERTIFICATE_HEAD + CERTIFICATE_NODE * NODES
+        rows = links + CERTIFICATE_LINK * (NODES - 1)
+        for name, text, status in (
+            ("whole", whole, 0),
+            ("of a wrong tag in the last row", whole[:-1] + bytes([7]), 5),
+            ("of another tag in the last row", whole[:-1] + bytes([1]), 1),
+            ("of another role of the last link", whole[: rows - 1] + b"\0" + whole[rows:], 1),
+            ("cut after its nodes", whole[:links], 5),
+            ("cut after its links", whole[:rows], 5),
+        ):
+            areas.write("long", text)
+            yield Row(f"certificate of {what}, {len(text)} bytes, {name}", check, status)
 
 
 # scripts
