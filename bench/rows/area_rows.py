@@ -1,5 +1,4 @@
-"""Compares rows of crates/area_tests with the reference program: areas and what is found in them, islands, profiles, faults of LSAs, primaries and
-loop-free alternates, texts on alternates, on repairs by order and on floods, lines of tables.
+"""Compares rows of crates/area_tests with the reference program: areas and what is found in them, islands, profiles, faults of LSAs, texts on floods.
 
 usage: python3 -m bench.rows.area_rows --check
 
@@ -8,7 +7,7 @@ What nothing here computes is counted. The status is 1 where something differs.
 import re
 import sys
 
-from bench.reference import alternates, certify, lowpoint, table
+from bench.reference import certify
 from bench.reference.database import NETWORK, ROUTER, Id, Refused, area_of, newest, read_lsas, text_of
 from bench.reference.island import address_of, island_of, read_profile, supports
 from bench.reference.lsas import spelled
@@ -120,16 +119,6 @@ def lines_of(answer):
     return text.removesuffix("\n").split("\n") if text else []
 
 
-def of_island(area, profile, call, words):
-    """What is asked of the island of the router that the first word tells."""
-    island = island_of(area, read_profile(profile), address(words[0]))
-    if call == "table_head":
-        return [table.head(island, int(words[1]))]
-    if call == "table_line":
-        return [table.line(area, island, lowpoint.compute(island), int(words[1]), int(words[2]))]
-    raise Unknown
-
-
 def answer(call, words):
     files = []
     while words and "." in words[0] and words[0][0].islower() and ":" not in words[0]:
@@ -141,20 +130,15 @@ def answer(call, words):
         return lsas_fault(files[0])
     if call == "flood":
         return lines_of(certify.flood(files[0], b"", text(words)))
-    if call == "order_text":
-        return lines_of(certify.order(files[0], b"", address(words[0])))
-    if call not in ("area", "find", "named", "island", "lfa_text", "numbered", "table_head", "table_line"):
+    if call not in ("area", "find", "named", "island", "numbered"):
         raise Unknown
     area = area_in(files[0])
-    if call in ("table_head", "table_line"):
-        return of_island(area, files[1] if len(files) > 1 else b"", call, words)
     return {
         "area": lambda: area_lines(area),
         "find": lambda: [f"{words[0]}{place(area, id_of(words[0]))}"],
         "named": lambda: named(area, words),
         "island": lambda: island_lines(area, words),
         "numbered": lambda: ["  " + arc_line(arc) for arc in area.arcs if arc.tail == 0],
-        "lfa_text": lambda: alternates.text(area, area.ids[int(words[0])].number),
     }[call]()
 
 

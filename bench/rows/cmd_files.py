@@ -10,6 +10,7 @@ import struct
 import sys
 
 from bench.reference.lsas import FIRST_SEQUENCE, address, lsa, update
+from bench.rows.repair_files import FILES_OF_FORMS
 
 HERE = os.path.dirname(os.path.abspath(__file__))
 DATA = os.path.join(HERE, "..", "..", "crates", "cmd_tests", "data")
@@ -483,6 +484,8 @@ FILES |= {
     # a packet of the first LSA of the triangle, whose last byte is another, with the number of two
     "damaged.updates": changed(changed(packet("1.1.1.1", joined(1, 2, 3)), 27, "02"), 75, "0b"),
 }
+
+FILES |= FILES_OF_FORMS
 
 
 def differences():

@@ -1,5 +1,5 @@
-"""The databases of the rows on primaries, repairs and packets: networks.py and those below."""
-from bench.rows.networks import CROSSED, LAN, LINE, TRIANGLE, TWO_TRIANGLES
+"""The databases of the rows on primaries and repairs: networks.py and those below; and those of the rows of cmd_tests on small areas."""
+from bench.rows.networks import LAN, TRIANGLE
 from bench.rows.told import POINT_TO_POINT, TRANSIT, joined, network, router
 
 
@@ -117,15 +117,11 @@ MADE_7_10 = [
 FILES = {
     name: b"".join(lsas)
     for name, lsas in {
-        "alike.lsas": ALIKE,
-        "apart.lsas": APART,
         "between.lsas": BETWEEN,
-        "crossed.lsas": CROSSED,
         "equal.lsas": EQUAL,
         "gone.lsas": GONE,
         "lan.lsas": LAN,
         "lans.lsas": LANS,
-        "line.lsas": LINE,
         "listed.lsas": LISTED,
         "made_0_4.lsas": MADE_0_4,
         "made_7_10.lsas": MADE_7_10,
@@ -134,8 +130,14 @@ FILES = {
         "small_area.lsas": SMALL_AREA,
         "triangle.lsas": TRIANGLE,
         "triangles_at_5.lsas": TRIANGLES_AT_5,
-        "two_triangles.lsas": TWO_TRIANGLES,
     }.items()
 }
 # Router 5 of the small area does not support the profile.
 FILES["without_5.profile"] = b"no-mrt 0.0.0.5"
+
+# Those of cmd_tests, which has a ring of its own.
+FILES_OF_FORMS = {name: FILES[name] for name in ("between.lsas", "small_area.lsas", "without_5.profile")} | {
+    "alike.lsas": b"".join(ALIKE),
+    "apart.lsas": b"".join(APART),
+    "ring_of_1_to_4.lsas": FILES["ring.lsas"],
+}

@@ -4,7 +4,7 @@ ghost use Rattle.std.specs.Prelude.{◌<◌, length};
 ghost use Rattle.mrt_graph.specs.AcceptedFor.{IsAcceptedFor};
 ghost use Rattle.mrt_graph.specs.Column.{ColumnSound};
 
-use crate::told::{number_16, word};
+use crate::told::{number_16_at, word};
 use mrt_graph::{Cert, Color, Column, Element, Graph, LinkNo, NodeNo};
 use mrt_rows::{column_of, directions};
 use parts_of_tests::Page;
@@ -15,11 +15,11 @@ use std::alloc::Global;
 pub fn put_alternate(g: &Graph, cert: &Cert, words: &str, page: &mut Page)
     requires { IsAcceptedFor g.now cert.now }
 {
-    let (source, to) = (number_16(word(words, 1)), number_16(word(words, 2)));
+    let (source, to) = (number_16_at(words, 1), number_16_at(words, 2));
     if g.node_count() <= source || g.node_count() <= to {
         return;
     }
-    let failed = failed(word(words, 3), number_16(word(words, 4)));
+    let failed = failed(word(words, 3), number_16_at(words, 4));
     let color = alternate(g, cert, NodeNo::new(source), NodeNo::new(to), failed);
     put_color(page, color, "blue\n", "red\n", "none\n");
 }

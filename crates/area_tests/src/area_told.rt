@@ -3,6 +3,7 @@
 ghost use Rattle.std.specs.Prelude.{◌≤◌, length};
 
 use crate::lsas::put_error;
+use crate::told::spell;
 use area_graph::{Area, AreaError, build_area};
 use file_key::FileKey;
 use lsdb::{Conflict, Lsdb, database_of};
@@ -46,7 +47,9 @@ pub fn area_in(alloc: Global, database: &Lsdb, page: &mut Page) -> Option<Area> 
 
 /// Says which newest instances differ.
 pub fn put_conflict(page: &mut Page, conflict: Conflict) {
-    page.number("conflict at ", conflict.second as u64);
-    page.number(" with ", conflict.first as u64);
-    page.end();
+    spell(
+        page,
+        "conflict at % with %\n",
+        &[conflict.second, conflict.first],
+    );
 }

@@ -1,7 +1,7 @@
 //! Areas, and what is asked of one. `area FILE`; `find FILE NODE..`: a node by its name; `named FILE ROUTER DATA`: a bond by a
 //! router and link data; `numbered FILE`: the arcs of the first node, each by its number.
 
-use crate::told::{address, node, word};
+use crate::told::{address_at, node, spell};
 use area_graph::{Arc, ArcNo, Area, Bond, Spot};
 use parts_of_tests::Page;
 
@@ -32,24 +32,36 @@ fn put_place(page: &mut Page, spot: Option<Spot>) {
 }
 
 fn put_arc(page: &mut Page, arc: &Arc) {
-    page.tell(
-        "  % to % metric %",
-        &[arc.tail.get(), arc.to.get(), arc.metric],
+    let (tail, to, bond) = (arc.tail.get(), arc.to.get(), arc.bond.get());
+    spell(
+        page,
+        "  % to % metric % data @ bond %\n",
+        &[
+            tail as u32,
+            to as u32,
+            arc.metric as u32,
+            arc.link_data,
+            bond as u32,
+        ],
     );
-    page.address(" data ", arc.link_data);
-    page.tell(" bond %\n", &[arc.bond.get()]);
 }
 
 fn put_bonds(page: &mut Page, bonds: &[Bond]) {
     for number in 0..bonds.len() {
-        let bond = &bonds[number];
         page.number("bond ", number as u64);
-        page.put(if bond.paired { ": pair" } else { ": single" });
-        page.tell(" % %", &[bond.a.get(), bond.b.get()]);
-        page.address(" data ", bond.data_a);
-        page.address(" ", bond.data_b);
-        page.tell(" metric % %\n", &[bond.metric_a, bond.metric_b]);
+        put_bond(page, &bonds[number]);
     }
+}
+
+fn put_bond(page: &mut Page, bond: &Bond) {
+    let (a, b) = (bond.a.get() as u32, bond.b.get() as u32);
+    let (metric_a, metric_b) = (bond.metric_a as u32, bond.metric_b as u32);
+    page.put(if bond.paired { ": pair" } else { ": single" });
+    spell(
+        page,
+        " % % data @ @ metric % %\n",
+        &[a, b, bond.data_a, bond.data_b, metric_a, metric_b],
+    );
 }
 
 /// The place of each node that a word names.
@@ -62,7 +74,7 @@ pub fn put_found(page: &mut Page, area: &Area, words: &str) {
 
 /// The bond of a router's first arc with link data.
 pub fn put_named(page: &mut Page, area: &Area, words: &str) {
-    match area.named(address(word(words, 0)), address(word(words, 1))) {
+    match area.named(address_at(words, 0), address_at(words, 1)) {
         Some(bond) => page.count("bond ", bond.get()),
         None => page.put("none"),
     }

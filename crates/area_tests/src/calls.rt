@@ -22,7 +22,6 @@ pub enum Call {
     Ring,
     Apart,
     Made,
-    SurveyMade,
     Area,
     Find,
     Named,
@@ -30,18 +29,13 @@ pub enum Call {
     Island,
     Primaries,
     LoopFree,
-    LfaText,
     Routes,
-    OrderText,
-    TableHead,
-    TableLine,
     Alternate,
     Repairs,
-    Fabric,
     Survey,
 }
 
-const CALLS: [(&str, Call); 36] = [
+const CALLS: [(&str, Call); 30] = [
     ("bytes", Call::Bytes),
     ("lsas", Call::Lsas),
     ("copies", Call::Copies),
@@ -61,7 +55,6 @@ const CALLS: [(&str, Call); 36] = [
     ("ring", Call::Ring),
     ("apart", Call::Apart),
     ("made", Call::Made),
-    ("survey_made", Call::SurveyMade),
     ("area", Call::Area),
     ("find", Call::Find),
     ("named", Call::Named),
@@ -69,14 +62,9 @@ const CALLS: [(&str, Call); 36] = [
     ("island", Call::Island),
     ("primaries", Call::Primaries),
     ("loop_free", Call::LoopFree),
-    ("lfa_text", Call::LfaText),
     ("routes", Call::Routes),
-    ("order_text", Call::OrderText),
-    ("table_head", Call::TableHead),
-    ("table_line", Call::TableLine),
     ("alternate", Call::Alternate),
     ("repairs", Call::Repairs),
-    ("fabric", Call::Fabric),
     ("survey", Call::Survey),
 ];
 

@@ -7,8 +7,8 @@ ghost use Rattle.std.specs.Prelude.{◌≡◌, ◌≤◌, IfSome, length};
 
 use crate::lsa_text::put_lsas;
 use crate::lsas::kind_word;
-use crate::told::{front, number, number_16, text, word};
-use area_graph::build_area;
+use crate::told::{front, number_16_at, number_at, spell, text};
+use area_graph::{Area, build_area};
 use file_key::FileKey;
 use flood_core::{Answer, Flood, SharedLsdb, Update, UpdateError, UpdateKind, read_updates};
 use flood_script::{Compare, FloodLine, FloodScriptError, Verdict, flood_text, read_flood_script};
@@ -52,10 +52,11 @@ fn put_kind(page: &mut Page, kind: UpdateKind) {
 
 fn put_updates(page: &mut Page, updates: &[Update]) {
     for update in updates {
-        page.number("packet at ", update.at as u64);
-        page.address(": router ", update.router);
-        page.number(" area ", update.area as u64);
-        page.end();
+        spell(
+            page,
+            "packet at %: router @ area %\n",
+            &[update.at, update.router, update.area],
+        );
         put_lsas(page, update.lsas.as_slice());
     }
 }
@@ -77,7 +78,7 @@ pub fn put_delivery(alloc: Global, packets: &[u8], words: &str, page: &mut Page)
     let Some(flood) = flood_of(alloc, packets) else {
         return;
     };
-    if let Ok((_flood, answer)) = flood.deliver(number(word(words, 0)), number_16(word(words, 1))) {
+    if let Ok((_flood, answer)) = flood.deliver(number_at(words, 0), number_16_at(words, 1)) {
         put_answer(page, answer);
     }
 }
@@ -116,16 +117,14 @@ fn put_lines(page: &mut Page, lines: &[FloodLine]) {
     for line in lines {
         match *line {
             FloodLine::Deliver { packet, router } => {
-                page.number("deliver ", packet as u64);
-                page.count(" ", router);
+                spell(page, "deliver % %\n", &[packet, router as u32]);
             }
-            FloodLine::Same { one, other, router } => {
-                page.count("same ", one);
-                page.count(" ", other);
-                page.address(" ", router);
-            }
+            FloodLine::Same { one, other, router } => spell(
+                page,
+                "same % % @\n",
+                &[one as u32, other as u32, router],
+            ),
         }
-        page.end();
     }
 }
 
@@ -163,11 +162,16 @@ fn nodes(alloc: Global, database: &SharedLsdb, router: u32) -> Option<u16> {
         return None;
     };
     match build_area(alloc, &copy) {
-        Ok(area) => match area.find(NodeId::router(router)) {
-            Some(_) => Some(area.count()),
-            None => None,
-        },
+        Ok(area) => nodes_with(&area, router),
         Err(_) => None,
+    }
+}
+
+/// How many nodes an area has, if the router is one of them.
+fn nodes_with(area: &Area, router: u32) -> Option<u16> {
+    match area.find(NodeId::router(router)) {
+        Some(_) => Some(area.count()),
+        None => None,
     }
 }
 

@@ -5,17 +5,17 @@ ghost use Rattle.std.specs.Prelude.{◌<◌, IfSome, length};
 ghost use Rattle.mrt_graph.specs.GraphInvariant.{IsNetwork};
 
 use crate::calls::Call;
-use crate::told::{number_16, word};
+use crate::told::number_16_at;
 use area_graph::{ArcNo, Area, Spot};
-use lfa_alt::{Lfa, lfa_text, loop_free};
+use lfa_alt::{Lfa, loop_free};
 use mrt_graph::Kind;
 use parts_of_tests::Page;
 use primary_alt::{Primary, primaries};
 use std::alloc::Global;
 
-/// `primaries FILE ROUTER`, `loop_free FILE ROUTER` and `lfa_text FILE ROUTER`, with the router's number in the area.
+/// `primaries FILE ROUTER` and `loop_free FILE ROUTER`, with the router's number in the area.
 pub fn put_hops(alloc: Global, area: &Area, call: Call, words: &str, page: &mut Page) {
-    if let Some(source) = source(area, number_16(word(words, 0))) {
+    if let Some(source) = source(area, number_16_at(words, 0)) {
         put_of_router(alloc, area, call, source, page);
     }
 }
@@ -45,12 +45,11 @@ fn put_of_router(alloc: Global, area: &Area, call: Call, source: Spot, page: &mu
                 put_primaries(page, &entries);
             }
         }
-        Call::LoopFree => {
+        _ => {
             if let Ok(entries) = loop_free(alloc, area, source) {
                 put_alternates(page, &entries);
             }
         }
-        _ => page.made(lfa_text(alloc, area, source)),
     }
 }
 

@@ -21,7 +21,7 @@ fn put_told(alloc: Global, database: &mut Lsdb, at: u32, told: &str) -> Result<C
     requires { IsBehind database.old.greatest at }
     ensures { OnOk result (database.new.greatest ≡ Some at) }
 {
-    let to = addresses(alloc, field(told, 6))?;
+    let to = addresses(alloc, field(told, 6));
     let instance = Instance {
         router: address(field(told, 1)),
         sequence: field(told, 2).parse().unwrap_or(0),
@@ -33,14 +33,12 @@ fn put_told(alloc: Global, database: &mut Lsdb, at: u32, told: &str) -> Result<C
 }
 
 /// The addresses between commas.
-fn addresses(alloc: Global, list: &str) -> Result<Vec<u32>, NoMemory> {
+fn addresses(alloc: Global, list: &str) -> Vec<u32> {
     let mut addresses = Vec::new(alloc);
-    if !list.is_empty() {
-        for told in list.split(',') {
-            addresses.push(address(told))?;
-        }
+    for told in list.split_terminator(',') {
+        let _ = addresses.push(address(told));
     }
-    Ok(addresses)
+    addresses
 }
 
 /// Whether a place stands after the greatest one.
@@ -101,13 +99,15 @@ fn order(number: usize) -> [usize; 5] {
 }
 
 /// Five instances in this order.
-fn filled(alloc: Global, words: &str, order: [usize; 5]) -> Result<Lsdb, NoMemory> {
+fn filled(alloc: Global, words: &str, order: [usize; 5]) -> Lsdb {
     let mut database = Lsdb::new(alloc);
     for place in 0..5 {
         let told = word(words, order[place as usize]);
-        put_told(alloc, &mut database, place, told)?;
+        let Ok(_) = put_told(alloc, &mut database, place, told) else {
+            break;
+        };
     }
-    Ok(database)
+    database
 }
 
 /// How many of these LSAs have a lower link state ID.
@@ -134,10 +134,9 @@ fn put_by_id(page: &mut Page, lsas: &[Lsa]) {
 
 /// What the database of an order says.
 fn put_order(alloc: Global, words: &str, number: usize, page: &mut Page) {
-    if let Ok(database) = filled(alloc, words, order(number)) {
-        put_by_id(page, database.newest());
-        put_settled(page, &database);
-    }
+    let database = filled(alloc, words, order(number));
+    put_by_id(page, database.newest());
+    put_settled(page, &database);
 }
 
 /// What comes of five instances, after each number of an order from which on it is another.

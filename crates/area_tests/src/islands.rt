@@ -2,7 +2,7 @@
 
 ghost use Rattle.std.specs.Prelude.{◌<◌, length};
 
-use crate::told::{address, after, front, text, word};
+use crate::told::{address_at, after, front, spell, text};
 use area_graph::Area;
 use mrt_graph::{Graph, LinkNo, NodeNo};
 use mrt_island::{
@@ -14,7 +14,7 @@ use std::alloc::Global;
 /// `profile ROUTER DATA TEXT..`: what a profile says of a router and of its links with link data.
 pub fn put_profile(alloc: Global, words: &str, page: &mut Page) {
     if let Some(profile) = profile(alloc, after(words, 2), page) {
-        let (router, data) = (address(word(words, 0)), address(word(words, 1)));
+        let (router, data) = (address_at(words, 0), address_at(words, 1));
         page.number("priority ", profile.priority(router) as u64);
         page.truth(" supports ", profile.supports(router));
         page.truth(" eligible ", profile.eligible(router, data));
@@ -58,7 +58,7 @@ fn kind_word(kind: ProfileKind) -> &'static str {
 /// The island of a router of the area, which the first word names, under the profile of the others.
 pub fn put_island_of(alloc: Global, area: &Area, words: &str, page: &mut Page) {
     if let Some(profile) = profile(alloc, after(words, 1), page) {
-        match find_island(alloc, area, &profile, address(word(words, 0))) {
+        match find_island(alloc, area, &profile, address_at(words, 0)) {
             Ok(island) => put_island(page, &island),
             Err(error) => put_error(page, error),
         }
@@ -94,9 +94,12 @@ fn put_node(page: &mut Page, graph: &Graph, node: NodeNo)
     page.name(graph.id(node));
     page.end();
     for end in graph.ends(node) {
-        page.tell("  to % metric %", &[end.to.get(), end.metric]);
-        page.address(" data ", end.link_data);
-        page.tell(" link %\n", &[end.link.get()]);
+        let (to, link) = (end.to.get() as u32, end.link.get() as u32);
+        spell(
+            page,
+            "  to % metric % data @ link %\n",
+            &[to, end.metric as u32, end.link_data, link],
+        );
     }
 }
 

@@ -3,29 +3,26 @@
 use crate::area_told::area_in;
 use crate::islands::put_error;
 use crate::kept::{Instance, put};
-use crate::told::{number, word};
+use crate::told::number_at;
 use lsdb::Lsdb;
-use mrt_graph::NoMemory;
 use mrt_island::{Profile, find_island};
 use parts_of_tests::Page;
 use std::alloc::Global;
 
 /// `ring ROUTERS`: so many routers in a ring.
 pub fn put_ring(alloc: Global, words: &str, page: &mut Page) {
-    put_counts(alloc, number(word(words, 0)), None, page);
+    put_counts(alloc, number_at(words, 0), None, page);
 }
 
 /// `apart ROUTERS LINKS`: so many routers, of which the first two have so many links to each other.
 pub fn put_apart(alloc: Global, words: &str, page: &mut Page) {
-    let links = number(word(words, 1)) as usize;
-    put_counts(alloc, number(word(words, 0)), Some(links), page);
+    let links = number_at(words, 1) as usize;
+    put_counts(alloc, number_at(words, 0), Some(links), page);
 }
 
 /// Puts the counts of an area, and of the island of router 0.
 fn put_counts(alloc: Global, routers: u32, links: Option<usize>, page: &mut Page) {
-    if let Ok(database) = database_of(alloc, routers, links) {
-        put_area(alloc, &database, page);
-    }
+    put_area(alloc, &database_of(alloc, routers, links), page);
 }
 
 /// The two routers beside one, around a ring of so many.
@@ -40,22 +37,23 @@ fn beside(number: u32, count: u32) -> [u32; 2] {
 }
 
 /// The routers that a router has links to, one for each link: in a ring, or where the first two have so many links to each other.
-fn neighbours(
-    alloc: Global,
-    routers: u32,
-    links: Option<usize>,
-    number: u32,
-) -> Result<Vec<u32>, NoMemory> {
-    let neighbours = match links {
-        None => Vec::from_slice(alloc, &beside(number, routers))?,
-        Some(links) if number < 2 => vec![in alloc; 1 - number; links]?,
-        Some(_) => Vec::new(alloc),
-    };
-    Ok(neighbours)
+fn neighbours(alloc: Global, routers: u32, links: Option<usize>, number: u32) -> Vec<u32> {
+    let mut neighbours = Vec::new(alloc);
+    match links {
+        None => {
+            let _ = neighbours.extend_from_slice(&beside(number, routers));
+        }
+        Some(links) => {
+            if number < 2 {
+                let _ = neighbours.resize(links, 1 - number);
+            }
+        }
+    }
+    neighbours
 }
 
 /// The database of so many routers, each installed at the place of its own number.
-fn database_of(alloc: Global, routers: u32, links: Option<usize>) -> Result<Lsdb, NoMemory> {
+fn database_of(alloc: Global, routers: u32, links: Option<usize>) -> Lsdb {
     let mut database = Lsdb::new(alloc);
     for number in 0..routers {
         let instance = Instance {
@@ -65,10 +63,12 @@ fn database_of(alloc: Global, routers: u32, links: Option<usize>) -> Result<Lsdb
             checksum: 0,
             flags: 0,
         };
-        let to = neighbours(alloc, routers, links, number)?;
-        put(alloc, &mut database, number, instance, &to)?;
+        let to = neighbours(alloc, routers, links, number);
+        let Ok(_) = put(alloc, &mut database, number, instance, &to) else {
+            break;
+        };
     }
-    Ok(database)
+    database
 }
 
 fn put_area(alloc: Global, database: &Lsdb, page: &mut Page) {

@@ -1,5 +1,6 @@
 //! LSAs, whole: the header in one line, and after it what stands in the body.
 
+use crate::told::spell;
 use ospf_lsa::{Body, Lsa, RouterLink};
 use parts_of_tests::Page;
 
@@ -15,19 +16,19 @@ pub fn put_lsas(page: &mut Page, lsas: &[Lsa]) {
 
 /// The lines of an LSA.
 pub fn put_lsa(page: &mut Page, lsa: &Lsa) {
-    page.number("at ", lsa.at as u64);
-    page.put(": ");
+    spell(page, "at %: ", &[lsa.at]);
     put_placeless(page, lsa);
 }
 
 /// The lines of an LSA but for its place.
 pub fn put_placeless(page: &mut Page, lsa: &Lsa) {
-    page.count("age ", lsa.age);
-    page.number(" options ", lsa.options as u64);
-    page.number(" type ", lsa.kind as u64);
-    page.address(" id ", lsa.id);
-    page.address(" router ", lsa.router);
-    page.hex(" sequence ", &lsa.sequence.to_be_bytes());
+    let (age, options, kind) = (lsa.age as u32, lsa.options as u32, lsa.kind as u32);
+    spell(
+        page,
+        "age % options % type % id @ router @ sequence ",
+        &[age, options, kind, lsa.id, lsa.router],
+    );
+    page.hex("", &lsa.sequence.to_be_bytes());
     page.hex(" checksum ", &lsa.checksum.to_be_bytes());
     put_body(page, &lsa.body);
 }
@@ -40,8 +41,7 @@ fn put_body(page: &mut Page, body: &Body) {
             links,
             tos,
         } => {
-            page.number(" flags ", *flags as u64);
-            page.number(" spare ", *spare as u64);
+            spell(page, " flags % spare %\n", &[*flags as u32, *spare as u32]);
             put_links(page, links.as_slice(), tos.as_slice());
         }
         Body::Network { mask, routers } => put_network(page, *mask, routers.as_slice()),
@@ -50,14 +50,13 @@ fn put_body(page: &mut Page, body: &Body) {
 }
 
 fn put_links(page: &mut Page, links: &[RouterLink], tos: &[u32]) {
-    page.end();
     for link in links {
-        page.address("  link ", link.id);
-        page.address(" data ", link.link_data);
-        page.number(" type ", link.kind as u64);
-        page.number(" entries ", link.entries as u64);
-        page.count(" metric ", link.metric);
-        page.end();
+        let (kind, entries, metric) = (link.kind as u32, link.entries as u32, link.metric as u32);
+        spell(
+            page,
+            "  link @ data @ type % entries % metric %\n",
+            &[link.id, link.link_data, kind, entries, metric],
+        );
     }
     for entry in tos {
         page.hex("  entry ", &entry.to_be_bytes());

@@ -5,6 +5,7 @@ ghost use Rattle.std.specs.Prelude.{◌≤◌, length};
 
 use crate::calls::Call;
 use crate::lsa_text::{put_lsa, put_lsas};
+use crate::told::spell;
 use crate::written::put_all_written;
 use ospf_lsa::{Lsa, LsaError, LsaKind, read_lsas, sums};
 use parts_of_tests::Page;
@@ -115,7 +116,5 @@ fn put_last_alike(page: &mut Page, lsas: &[Lsa], others: &[Lsa]) {
 /// The sums of the bytes of a file from a place on.
 pub fn put_sums(page: &mut Page, bytes: &[u8], from: usize) {
     let (first, second) = sums(&bytes[bytes.len().min(from)..]);
-    page.number("", first as u64);
-    page.number(" ", second as u64);
-    page.end();
+    spell(page, "% %\n", &[first as u32, second as u32]);
 }

@@ -1,5 +1,5 @@
-//! Rows on LSAs, packets, databases, areas and islands, and on primaries, repairs, the packets of a failure and surveys: each
-//! line of input has a name, a call and what that is given; each answer is printed below its name.
+//! Rows on LSAs, packets, databases, areas and islands, and on primaries, repairs and surveys: each line of input has a name,
+//! a call and what that is given; each answer is printed below its name.
 #![tactic(auto)]
 
 mod alternates;
@@ -7,7 +7,6 @@ mod area_told;
 mod areas;
 mod calls;
 mod delivered;
-mod failures;
 mod hops;
 mod instances;
 mod islands;
@@ -18,11 +17,9 @@ mod lsas;
 mod of_area;
 mod of_certificate;
 mod of_island;
-mod orders;
 mod routes;
 mod rows;
 mod surveys;
-mod tables;
 mod told;
 mod written;
 

@@ -40,9 +40,7 @@ fn put_asked(
         Call::Named => areas::put_named(page, area, words),
         Call::Numbered => areas::put_numbered(page, area),
         Call::Island => put_island_of(alloc, area, words, page),
-        Call::Primaries | Call::LoopFree | Call::LfaText => hops::put_hops(
-            alloc, area, call, words, page,
-        ),
+        Call::Primaries | Call::LoopFree => hops::put_hops(alloc, area, call, words, page),
         _ => of_island::put_of_island(alloc, area, call, files, words, page),
     }
 }

@@ -1,14 +1,11 @@
 //! The certificate of an island, and what is asked of it.
 
 ghost use Rattle.std.specs.Prelude.{◌<◌, IfOk, length};
-ghost use Rattle.area_graph.specs.Fits.{Fits};
 ghost use Rattle.mrt_graph.specs.AcceptedFor.{IsAcceptedAt, IsAcceptedFor};
 
 use crate::alternates::{put_alternate, put_repairs};
 use crate::calls::Call;
-use crate::failures::put_packets;
-use crate::told::{number, word};
-use area_graph::Area;
+use crate::told::number_at;
 use mrt_graph::{Cert, Graph, NoMemory, NodeNo};
 use mrt_island::Island;
 use mrt_rows::compute;
@@ -19,14 +16,11 @@ use std::alloc::Global;
 /// Puts what a call asks of the certificate of an island. A survey's number is the second word.
 pub fn put_of_certificate(
     alloc: Global,
-    area: &Area,
     island: &Island,
     call: Call,
     words: &str,
     page: &mut Page,
-)
-    requires { Fits area.now island.now.graph island.now.link_of }
-{
+) {
     let (g, root) = (&island.graph, island.root);
     if root.get() >= g.node_count() {
         return;
@@ -37,8 +31,7 @@ pub fn put_of_certificate(
     match call {
         Call::Alternate => put_alternate(g, &cert, words, page),
         Call::Repairs => put_repairs(alloc, g, root, &cert, page),
-        Call::Fabric => put_packets(alloc, area, island, &cert, words, page),
-        Call::Survey => page.made(survey_text(alloc, number(word(words, 1)), g, root, &cert)),
+        Call::Survey => page.made(survey_text(alloc, number_at(words, 1), g, root, &cert)),
         _ => page.put("no such call\n"),
     }
 }

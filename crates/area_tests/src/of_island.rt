@@ -5,10 +5,8 @@ ghost use Rattle.area_graph.specs.Fits.{Fits};
 
 use crate::calls::Call;
 use crate::of_certificate::put_of_certificate;
-use crate::orders::put_order_text;
 use crate::routes::put_routes;
-use crate::tables::{put_table_head, put_table_line};
-use crate::told::{address, file, word};
+use crate::told::{address_at, file};
 use area_graph::Area;
 use mrt_island::{Island, find_island, read_profile};
 use parts_of_tests::Page;
@@ -23,7 +21,7 @@ pub fn put_of_island(
     words: &str,
     page: &mut Page,
 ) {
-    if let Some(island) = island_of(alloc, area, file(files, 1), address(word(words, 0))) {
+    if let Some(island) = island_of(alloc, area, file(files, 1), address_at(words, 0)) {
         put_asked(alloc, area, &island, call, words, page);
     }
 }
@@ -44,9 +42,6 @@ fn put_asked(alloc: Global, area: &Area, island: &Island, call: Call, words: &st
 {
     match call {
         Call::Routes => put_routes(alloc, area, island, page),
-        Call::OrderText => put_order_text(alloc, island, words, page),
-        Call::TableHead => put_table_head(alloc, island, words, page),
-        Call::TableLine => put_table_line(alloc, area, island, words, page),
-        _ => put_of_certificate(alloc, area, island, call, words, page),
+        _ => put_of_certificate(alloc, island, call, words, page),
     }
 }

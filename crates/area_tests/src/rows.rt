@@ -1,7 +1,7 @@
 //! The answer to a row: its call is given files and then other words.
 
 use crate::calls::{Call, call_named};
-use crate::told::{after, file, number, word};
+use crate::told::{after, file, number_at, word};
 use crate::{delivered, instances, islands, limits, lsas, of_area, surveys, written};
 use parts_of_tests::{Page, cut, is_row, put_answer};
 use std::alloc::Global;
@@ -64,7 +64,7 @@ fn put_called(alloc: Global, call: Call, files: &[Vec<u8>], words: &str, page: &
         Call::Lsas | Call::Copies | Call::Written => lsas::put_read(alloc, call, bytes, page),
         Call::Cuts => lsas::put_cuts(alloc, bytes, page),
         Call::Alike => lsas::put_alike(alloc, bytes, file(files, 1), page),
-        Call::Sums => lsas::put_sums(page, bytes, number(word(words, 0)) as usize),
+        Call::Sums => lsas::put_sums(page, bytes, number_at(words, 0) as usize),
         Call::WrittenRouter => written::put_router(alloc, words, page),
         Call::Longest => written::put_longest(alloc, words, page),
         Call::Install => instances::put_installed(alloc, words, page),
@@ -77,7 +77,6 @@ fn put_called(alloc: Global, call: Call, files: &[Vec<u8>], words: &str, page: &
         Call::Ring => limits::put_ring(alloc, words, page),
         Call::Apart => limits::put_apart(alloc, words, page),
         Call::Made => surveys::put_made(alloc, bytes, words, page),
-        Call::SurveyMade => surveys::put_survey_made(alloc, words, page),
         _ => of_area::put_of_area(alloc, call, bytes, files, words, page),
     }
 }

@@ -69,11 +69,55 @@ pub fn address(word: &str) -> u32 {
     read_address(word.as_bytes()).unwrap_or(0)
 }
 
+/// The number that the word at a place tells.
+pub fn number_at(words: &str, place: usize) -> u32 {
+    number(word(words, place))
+}
+
+/// The same in 16 bits.
+pub fn number_16_at(words: &str, place: usize) -> u16 {
+    number_16(word(words, place))
+}
+
+/// The same in 8 bits.
+pub fn byte_at(words: &str, place: usize) -> u8 {
+    word(words, place).parse().unwrap_or(0)
+}
+
+/// The address that the word at a place tells.
+pub fn address_at(words: &str, place: usize) -> u32 {
+    address(word(words, place))
+}
+
 /// The node that a word names, as `1.1.1.1` or `net:10.0.0.4`.
 pub fn node(word: &str) -> NodeId {
     match word.strip_prefix("net:") {
         Some(network) => NodeId::network(address(network)),
         None => NodeId::router(address(word)),
+    }
+}
+
+/// Puts a text with these numbers in the places of its `%`, and as addresses in those of its `@`.
+pub fn spell(page: &mut Page, form: &str, numbers: &[u32]) {
+    let mut place = 0usize;
+    for byte in form.as_bytes() {
+        let number = told_at(numbers, place);
+        match *byte {
+            b'%' => page.number("", number as u64),
+            b'@' => page.address("", number),
+            byte => {
+                page.put_bytes(&[byte]);
+                continue;
+            }
+        }
+        place = place.wrapping_add(1);
+    }
+}
+
+fn told_at(numbers: &[u32], place: usize) -> u32 {
+    match numbers.get(place) {
+        Some(number) => *number,
+        None => 0,
     }
 }
 

@@ -7,7 +7,7 @@ ghost use Rattle.ospf_lsa.specs.Written.{HasItsEntries};
 
 use crate::calls::Call;
 use crate::lsas::put_read;
-use crate::told::{address, number, number_16, word};
+use crate::told::{address_at, byte_at, number_16_at, number_at, word};
 use mrt_graph::{NoMemory, Seq};
 use ospf_lsa::{Body, Lsa, write_lsa};
 use parts_of_tests::Page;
@@ -30,19 +30,19 @@ pub fn put_all_written(alloc: Global, lsas: &[Lsa], page: &mut Page)
 
 /// `written_router AT AGE OPTIONS ROUTER SEQUENCE CHECKSUM FLAGS SPARE`: a router-LSA without links, written and read.
 pub fn put_router(alloc: Global, words: &str, page: &mut Page) {
-    let router = address(word(words, 3));
+    let router = address_at(words, 3);
     let lsa = Lsa {
-        at: number(word(words, 0)),
-        age: number_16(word(words, 1)),
-        options: word(words, 2).parse().unwrap_or(0),
+        at: number_at(words, 0),
+        age: number_16_at(words, 1),
+        options: byte_at(words, 2),
         kind: 1,
         id: router,
         router,
         sequence: word(words, 4).parse().unwrap_or(0),
-        checksum: number_16(word(words, 5)),
+        checksum: number_16_at(words, 5),
         body: Body::Router {
-            flags: word(words, 6).parse().unwrap_or(0),
-            spare: word(words, 7).parse().unwrap_or(0),
+            flags: byte_at(words, 6),
+            spare: byte_at(words, 7),
             links: Seq::from_vec(Vec::new(alloc)),
             tos: Seq::from_vec(Vec::new(alloc)),
         },
@@ -87,10 +87,10 @@ pub fn put_longest(alloc: Global, words: &str, page: &mut Page) {
         return;
     };
     let mut file = Page::new(alloc);
-    for _ in 0..number(word(words, 0)).min(100) {
+    for _ in 0..number_at(words, 0).min(100) {
         file.put_bytes(&record);
     }
     let bytes = file.bytes();
-    let kept = bytes.len() - bytes.len().min(number(word(words, 1)) as usize);
+    let kept = bytes.len() - bytes.len().min(number_at(words, 1) as usize);
     put_read(alloc, Call::Lsas, &bytes[..kept.min(8_388_608)], page);
 }
