@@ -8,36 +8,30 @@ use Rattle.lsdb.specs.Disagreements.{IsFirstConflictOf}
 use Rattle.mrt_graph.specs.NodeIds.{router}
 use Rattle.mrt_graph.specs.Topology.{Topology}
 use Rattle.mrt_graph.specs.declared.node_id.NodeId.{NodeId}
-use Rattle.mrt_island.specs.declared.island_error.IslandError.TheVariants as islands
 use Rattle.next_hops.specs.NextHops.{HasIsland}
 use Rattle.next_hops.specs.declared.failure.Failure.{Failure}
-use Rattle.next_hops.specs.declared.failure.Failure.TheVariants.{Lsa, Conflict, Area, Island, NotThere, NoMemory}
+use Rattle.next_hops.specs.declared.failure.Failure.TheVariants.{Lsa, Conflict, TooLarge, NoIsland, NotThere, NoMemory}
 use Rattle.ospf_lsa.specs.Outcome.{IsFirstFault}
-use Rattle.ospf_lsa.specs.declared.error.LsaError.TheVariants as lsas
 use Rattle.ospf_lsa.specs.declared.lsa.Lsa.{Lsa as Advertisement}
 
 -- the destination is none of these nodes, or there was no memory
 abbrev pub IsMissed : List NodeId → ℕ → Failure → Type 0
 IsMissed ids other NotThere = Contains ids (router other) → ⊥
-IsMissed ids other (NoMemory _) = Unit {0}
+IsMissed ids other NoMemory = Unit {0}
 IsMissed ids other failure = ⊥
 
 -- what the failure tells: the first record with a fault, and its first fault; the conflict with the least second place; that the area
 -- is too large; that the router is none of its nodes; that the destination is none of the nodes of the router's island. Under the
 -- defaults each router supports the profile
 abbrev pub IsCause : List ℕ → ℕ → ℕ → Failure → Type 0
-IsCause bytes number other (Lsa (lsas.Fault at kind)) = IsFirstFault bytes at kind
-IsCause bytes number other (Lsa lsas.NoMemory) = Unit {0}
+IsCause bytes number other (Lsa at kind) = IsFirstFault bytes at kind
 IsCause bytes number other (Conflict conflict) =
     (those : List Advertisement) × HoldsLsas bytes those × IsFirstConflictOf (entering those) conflict
-IsCause bytes number other (Area (areas.TooLarge nodes arcs)) =
+IsCause bytes number other (TooLarge nodes arcs) =
     (newest : List Advertisement) × IsDatabase bytes newest
     × TellsTooLarge (length (area_of newest).ids) (length (area_of newest).arcs) (areas.TooLarge nodes arcs)
-IsCause bytes number other (Area areas.NoMemory) = Unit {0}
-IsCause bytes number other (Island islands.NotThere) =
+IsCause bytes number other NoIsland =
     (newest : List Advertisement) × IsDatabase bytes newest × (Contains (area_of newest).ids (router number) → ⊥)
-IsCause bytes number other (Island islands.Unsupported) = ⊥
-IsCause bytes number other (Island islands.NoMemory) = Unit {0}
 IsCause bytes number other NotThere =
     (graph : Topology) × (root : ℕ) × HasIsland bytes number graph root × (Contains graph.ids (router other) → ⊥)
-IsCause bytes number other (NoMemory _) = Unit {0}
+IsCause bytes number other NoMemory = Unit {0}

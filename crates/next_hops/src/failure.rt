@@ -1,37 +1,40 @@
 //! Why there are no next hops.
 
 ghost use Rattle.std.specs.Prelude.{◌≡◌};
-ghost use Rattle.next_hops.specs.declared.failure.Failure.TheVariants.{Area as no_area, Conflict as conflict, Island as no_island, Lsa as fault, NoMemory as no_memory};
+ghost use Rattle.next_hops.specs.{Failures.area_failure, Failures.island_failure, Failures.lsa_failure, declared.failure.Failure.TheVariants.Conflict as conflict, declared.failure.Failure.TheVariants.NoMemory as no_memory};
 
 use area_graph::AreaError;
 use lsdb::Conflict;
 use mrt_graph::NoMemory;
 use mrt_island::IslandError;
-use ospf_lsa::LsaError;
+use ospf_lsa::{LsaError, LsaKind};
 use thiserror::Error;
 
 /// Why a router has no next hops for another one.
 #[derive(Clone, Copy, Debug, Error)]
 pub enum Failure {
-    #[error("no database: {0}")]
-    Lsa(LsaError),
+    #[error("no database: {kind:?} at {at}")]
+    Lsa { at: u32, kind: LsaKind },
     #[error("two newest instances differ")]
     Conflict(Conflict),
-    #[error("no area")]
-    Area(AreaError),
+    #[error("the area is too large")]
+    TooLarge { nodes: u32, arcs: u32 },
     #[error("no island of the router")]
-    Island(IslandError),
+    NoIsland,
     #[error("the destination is not in the router's island")]
     NotThere,
     #[error("no memory")]
-    NoMemory(NoMemory),
+    NoMemory,
 }
 
 impl From<LsaError> for Failure {
-    ghost from_gives = { λ error failure. failure ≡ fault error };
+    ghost from_gives = { λ error failure. failure ≡ lsa_failure error };
 
     fn from(error: LsaError) -> Failure {
-        Failure::Lsa(error)
+        match error {
+            LsaError::Fault { at, kind } => Failure::Lsa { at, kind },
+            LsaError::NoMemory => Failure::NoMemory,
+        }
     }
 }
 
@@ -44,25 +47,31 @@ impl From<Conflict> for Failure {
 }
 
 impl From<AreaError> for Failure {
-    ghost from_gives = { λ error failure. failure ≡ no_area error };
+    ghost from_gives = { λ error failure. failure ≡ area_failure error };
 
     fn from(error: AreaError) -> Failure {
-        Failure::Area(error)
+        match error {
+            AreaError::TooLarge { nodes, arcs } => Failure::TooLarge { nodes, arcs },
+            AreaError::NoMemory => Failure::NoMemory,
+        }
     }
 }
 
 impl From<IslandError> for Failure {
-    ghost from_gives = { λ error failure. failure ≡ no_island error };
+    ghost from_gives = { λ error failure. failure ≡ island_failure error };
 
     fn from(error: IslandError) -> Failure {
-        Failure::Island(error)
+        match error {
+            IslandError::NotThere | IslandError::Unsupported => Failure::NoIsland,
+            IslandError::NoMemory => Failure::NoMemory,
+        }
     }
 }
 
 impl From<NoMemory> for Failure {
-    ghost from_gives = { λ error failure. failure ≡ no_memory error };
+    ghost from_gives = { λ _ failure. failure ≡ no_memory };
 
-    fn from(error: NoMemory) -> Failure {
-        Failure::NoMemory(error)
+    fn from(_: NoMemory) -> Failure {
+        Failure::NoMemory
     }
 }
