@@ -2,6 +2,7 @@
 from __future__ import annotations
 
 import struct
+from collections import Counter
 from itertools import accumulate
 from typing import NamedTuple
 
@@ -86,11 +87,9 @@ class Certificate(NamedTuple):
         """The nodes without which others are not connected: the heads of blocks, and the root where it is the head of
         several."""
         root = self.nodes.index(self.root)
-        headed = [
-            {self.blocks[node] for node in range(len(self.nodes)) if node != root and self.heads[node] == head}
-            for head in range(len(self.nodes))
-        ]
-        return {self.nodes[head] for head, blocks in enumerate(headed) if len(blocks) > (head == root)}
+        blocks = {each for node, each in enumerate(zip(self.heads, self.blocks)) if node != root}
+        counts = Counter(head for head, _ in blocks)
+        return {self.nodes[head] for head, count in counts.items() if count > (head == root)}
 
 
 def read(data: bytes) -> Certificate:

@@ -12,9 +12,11 @@ import tempfile
 import time
 from collections import deque
 from concurrent import futures
-from typing import IO, Iterator, Sequence
+from contextlib import closing
+from typing import IO, Collection, Generator, Iterator, Sequence, TypeVar
 
 from . import library
+from .area import Node
 from .exits import READ_FAULT, REFUSED, ToolFault
 from .signals import alive
 
@@ -64,6 +66,10 @@ def library_for(path: str) -> library.Library | None:
 
 # What asks the library, one for each processor: who waits for an answer can go on without it.
 WORKERS = futures.ThreadPoolExecutor(os.cpu_count() or 1)
+# How many prefixes at two routers the library is asked for at once: few enough for all processors to have some.
+SHARE = 32
+
+T = TypeVar("T")
 
 
 class Program:
@@ -129,17 +135,37 @@ class Program:
         asked = {
             WORKERS.submit(library.answer, own, [*given, *words], files): place for place, words in enumerate(each)
         }
-        try:
-            for one in futures.as_completed(asked, self.limit):
+        with closing(self.as_completed(asked)) as done:
+            for one in done:
                 said = one.result()
                 if said.status not in (0, untold):
                     raise ToolFault(f"mrt {command} ended with status {said.status}", said.status)
                 yield asked[one], None if said.status else said.text
+
+    def as_completed(self, asked: Collection[futures.Future[T]]) -> Generator[futures.Future[T], None, None]:
+        """What the library has answered, as it comes."""
+        try:
+            yield from futures.as_completed(asked, self.limit)
         except futures.TimeoutError:
             pass
         finally:
             for one in asked:
                 one.cancel()
+
+    def own_rows(
+        self, router: Node, pairs: Sequence[library.Pair]
+    ) -> dict[library.Pair, library.OwnRow | None]:
+        """What a router itself installs for prefixes at two routers each, none for two that have no common block: by
+        the library, which makes one island for many of them. What it does not answer, in time or at all, is left out;
+        where there is no library, that is all."""
+        if not self.library or not library.are_plain([self.database, self.profile]):
+            return {}
+        alive()
+        words = [self.database] if self.profile == "-" else [self.database, self.profile]
+        given = self.library, words, library.files_of(words), router
+        shares = [pairs[first : first + SHARE] for first in range(0, len(pairs), SHARE)]
+        asked = [WORKERS.submit(library.own_rows, *given, share) for share in shares]
+        return {pair: row for one in self.as_completed(asked) for pair, row in one.result().items()}
 
     def many_by_shells(
         self, command: str, each: Sequence[tuple[str, ...]], untold: int

@@ -11,8 +11,10 @@ from unittest import mock
 from mrttools import library, program
 from mrttools.agent import batch
 from mrttools.agent.batch import Linux, Refusal
+from mrttools.area import Node
 from mrttools.exits import ToolFault
 from mrttools.library import libmrt
+from mrttools.lsas import NETWORK, ROUTER
 from mrttools.program import Program
 
 STAND_IN = """#!/bin/sh
@@ -116,6 +118,22 @@ class StandIn:
             raise libmrt.Refused(libmrt.Status.BAD_DATABASE, "mrt: bad database: length at 0")
         return b" ".join(files.get(word, word) for word in words)
 
+    def proxy(
+        self, given: libmrt.Area, router: int, pairs: Sequence[tuple[int, int]]
+    ) -> list[libmrt.ProxyRow | libmrt.Refused]:
+        """The hop over which a pair goes has its numbers, and the length of the LSAs as its link data."""
+        if (9, 9) in pairs:
+            time.sleep(2)
+        if (8, 8) in pairs:
+            raise libmrt.Refused(libmrt.Status.NO_MEMORY, "mrt: no memory")
+        return [self.proxy_row(router, len(given.lsas), *pair) for pair in pairs]
+
+    def proxy_row(self, router: int, data: int, one: int, other: int) -> libmrt.ProxyRow | libmrt.Refused:
+        if one == 0:
+            return libmrt.Refused(libmrt.Status(other), "mrt: no row")
+        hop = libmrt.Hop(libmrt.Node(libmrt.Kind.NETWORK, other), data)
+        return libmrt.ProxyRow(None if one == router else hop, hop)
+
 
 class Here(unittest.TestCase):
     """The same by the library."""
@@ -150,6 +168,27 @@ class Here(unittest.TestCase):
         with self.assertRaises(ToolFault) as caught:
             list(self.mrt().many("proxy", [("a", "fault")], untold=13))
         self.assertEqual(caught.exception.status, 3)
+
+    def test_own_rows(self) -> None:
+        """Many are asked for in parts; two without a common block have none, and what else is refused is left out."""
+        router, node = Node(1, ROUTER), [Node(n, ROUTER) for n in range(100)]
+        hop = [(Node(n, NETWORK), 4) for n in range(100)]
+        wanted: dict[library.Pair, library.OwnRow | None] = {
+            (node[n % 7 + 1], node[n]): (None if n % 7 == 0 else hop[n], hop[n]) for n in range(1, 100)
+        }
+        refused = {(node[0], node[status]): None for status in (7, 13)}
+        pairs = [*wanted, *refused]
+        self.assertGreater(len(pairs), 2 * program.SHARE)
+        self.assertEqual(self.mrt().own_rows(router, pairs), {**wanted, (node[0], node[13]): None})
+        self.assertEqual(self.mrt().own_rows(router, []), {})
+        both = [(node[2], node[3])] * program.SHARE
+        for last in (8, 9):
+            found = self.mrt(0.5).own_rows(router, [*both, (node[last], node[last])])
+            self.assertEqual(found, {(node[2], node[3]): (hop[3], hop[3])})
+
+    def test_without_a_library_there_are_no_own_rows(self) -> None:
+        with mock.patch.object(program, "library_for", lambda path: None):
+            self.assertEqual(self.mrt().own_rows(Node(1, ROUTER), [(Node(1, ROUTER), Node(2, ROUTER))]), {})
 
     def test_what_takes_too_long(self) -> None:
         found = dict(self.mrt(0.5).many("proxy", [("a", "b"), ("a", "hang")], untold=13))

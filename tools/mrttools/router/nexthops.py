@@ -15,7 +15,7 @@ from mrttools.paths import Graph
 from mrttools.program import Program
 
 if TYPE_CHECKING:
-    from .prefixes import Proxied
+    from .prefixes import Ends, Proxied
 
 NO_REPAIR = "-"
 # Link data below this is the number of an interface without an address.
@@ -87,7 +87,12 @@ class Ways:
                 self.by_data.setdefault((near, far, bond.data_of(near)), bond)
         self.after = self.routers_after_networks()
         # What prefixes of two routers have, as far as it was asked for.
-        self.proxied: dict[tuple[Node, Node], Proxied | None] = {}
+        self.proxied: dict[Ends, Proxied | None] = {}
+
+    @cached_property
+    def cuts(self) -> set[Node]:
+        """The cut nodes of the island."""
+        return self.certificate.cut_nodes()
 
     # links as addresses
 

@@ -2,60 +2,48 @@
 for two routers."""
 from __future__ import annotations
 
+from contextlib import suppress
+
 from mrttools import area, lsas
 from mrttools.area import Bond, Node
 from mrttools.exits import REFUSED, ToolFault
+from mrttools.library import NO_COMMON_BLOCK, OwnRow, Step
 from mrttools.lsas import NETWORK, ROUTER
 from .host_entries import after_daemon, entry_of
 from .kernel import FOR_PORT, FOR_WORD, Entry
 from .nexthops import Hop, Route, Unfit, Ways
 from .owners import HOST, Daemon, Owners, Prefix, owners_of
 
-NO_COMMON_BLOCK = 13
-
-# The next hop of a node on a color, and its link data there; none where the prefix hangs on it.
-Step = tuple[Node, int] | None
-Pair = tuple[Node, Node]
 Element = Bond | Node
+# The two routers by whose rows a prefix goes, and the owner that is nearest to the router itself.
+Ends = tuple[Node, Node, Node]
 ATTACHED = b"attached"
 
 
 # two routers
 
 
-class Proxied:
-    """What a router has for a prefix that hangs on two routers: its next hop on each color, or none where the prefix
-    hangs on it; and, by which of the two its primary goes, the colors that repair it for word and for its own port.
-    """
+class Untold(Exception):
+    """The router's own row does not tell."""
 
-    def __init__(self, ways: Ways, text: bytes, hops: dict[Node, list[Element]]) -> None:
+
+class Colors:
+    """The ways of a router's packets on both colors to a prefix that hangs on two routers."""
+
+    def __init__(self, ways: Ways) -> None:
         self.ways = ways
-        # (the rows of all nodes in the certificate's order, each to be read when it is met: there are many prefixes)
-        self.lines = text.split(b"\n")
-        self.unfit: Unfit | None = None
-        self.hops: list[Hop | None] = []
-        try:
-            self.hops = [self.hop(color) for color in (0, 1)]
-        except Unfit as why:
-            self.unfit = why
-        self.met = [self.met_on(color) for color in (0, 1)]
-        self.repairs = {to: (self.past(found[:1:-1]), self.past(found[1::-1])) for to, found in hops.items()}
-        self.lines, self.met = [], []
-
-    def word(self, node: bytes, color: int) -> bytes:
-        """What a row of the text says: a next hop and link data, or that the prefix hangs there."""
-        line = self.lines[1 + self.ways.names[node]].split(b" ")
-        if line[0] != node:
-            raise ToolFault(f"mrt proxy has no row of {node.decode()}", REFUSED)
-        return line[2 + 2 * color]
 
     def step(self, node: Node, color: int) -> Step:
-        """The same as a node and its link data."""
-        word = self.word(node.text.encode(), color)
-        if word == ATTACHED:
-            return None
-        far, data = word.decode().split("/")
-        return area.node_of(far), lsas.address(data)
+        """Where a node sends."""
+        raise NotImplementedError
+
+    def meets(self, color: int, element: Element) -> bool:
+        """Whether a packet goes over a link or to a node."""
+        raise NotImplementedError
+
+    def bond(self, node: Node, step: tuple[Node, int]) -> Bond:
+        far, data = step
+        return self.ways.bond_to(node, far) if node.kind == NETWORK else self.ways.by_data[node, far, data]
 
     def hop(self, color: int) -> Hop | None:
         """The next hop of the router itself."""
@@ -73,9 +61,63 @@ class Proxied:
             bond, far = self.ways.bond_to(far, beyond[0]), beyond[0]
         return Hop(own, self.ways.address_on(bond, far))
 
-    def bond(self, node: Node, step: tuple[Node, int]) -> Bond:
-        far, data = step
-        return self.ways.bond_to(node, far) if node.kind == NETWORK else self.ways.by_data[node, far, data]
+    def past(self, elements: list[Element]) -> int | None:
+        """The color that goes round the first of the elements that one goes round."""
+        for element in elements:
+            for color in (0, 1):
+                if not self.meets(color, element):
+                    return color
+        return None
+
+
+class ByOwnRow(Colors):
+    """The same by the router's own row alone, as the library gives it: as far as it tells."""
+
+    def __init__(self, ways: Ways, row: OwnRow) -> None:
+        super().__init__(ways)
+        self.row = row
+
+    def step(self, node: Node, color: int) -> Step:
+        if node != self.ways.router:
+            raise Untold
+        return self.row[color]
+
+    def meets(self, color: int, element: Element) -> bool:
+        """A packet comes to no node twice, and packets of both colors to a node only where each way leads over it."""
+        own, other = self.row[color], self.row[1 - color]
+        if own is None or other is None:
+            raise Untold
+        if isinstance(element, Bond) and self.ways.router in (element.a, element.b):
+            return self.bond(self.ways.router, own) == element
+        if element == own[0]:
+            return True
+        if element == other[0] and element not in self.ways.cuts:
+            return False
+        raise Untold
+
+
+class ByRows(Colors):
+    """The same by the rows of all nodes, as `mrt proxy` has them."""
+
+    def __init__(self, ways: Ways, text: bytes) -> None:
+        super().__init__(ways)
+        # (in the certificate's order, each to be read when it is met: there are many prefixes)
+        self.lines = text.split(b"\n")
+        self.met = [self.met_on(color) for color in (0, 1)]
+
+    def word(self, node: bytes, color: int) -> bytes:
+        """What a row of the text says: a next hop and link data, or that the prefix hangs there."""
+        line = self.lines[1 + self.ways.names[node]].split(b" ")
+        if line[0] != node:
+            raise ToolFault(f"mrt proxy has no row of {node.decode()}", REFUSED)
+        return line[2 + 2 * color]
+
+    def step(self, node: Node, color: int) -> Step:
+        word = self.word(node.text.encode(), color)
+        if word == ATTACHED:
+            return None
+        far, data = word.decode().split("/")
+        return area.node_of(far), lsas.address(data)
 
     def met_on(self, color: int) -> dict[bytes, bytes]:
         """The nodes from which a packet of the router goes on on a color, each with the one that it goes to."""
@@ -87,7 +129,6 @@ class Proxied:
         return next_of
 
     def meets(self, color: int, element: Element) -> bool:
-        """Whether the packet goes over a link or to a node."""
         next_of = self.met[color]
         if isinstance(element, Node):
             return element.text.encode() in next_of.values()
@@ -98,13 +139,22 @@ class Proxied:
                     return True
         return False
 
-    def past(self, elements: list[Element]) -> int | None:
-        """The color that goes round the first of the elements that one goes round."""
-        for element in elements:
-            for color in (0, 1):
-                if not self.meets(color, element):
-                    return color
-        return None
+
+class Proxied:
+    """What a router has for a prefix that hangs on two routers: its next hop on each color, or none where the prefix
+    hangs on it; and the colors that repair its primary for word and for its own port."""
+
+    def __init__(self, colors: Colors, elements: list[Element]) -> None:
+        self.unfit: Unfit | None = None
+        self.hops: list[Hop | None] = []
+        self.repairs: list[int | None] = []
+        try:
+            self.hops = [colors.hop(color) for color in (0, 1)]
+        except Unfit as why:
+            self.unfit = why
+            return
+        if all(self.hops):
+            self.repairs = [colors.past(elements[:1:-1]), colors.past(elements[1::-1])]
 
 
 # what is installed
@@ -150,14 +200,14 @@ class Prefixes:
         """What is installed, prefix by prefix."""
         every = sorted(self.owners.items())
         owners_of_prefix = {prefix: owners for prefix, owners in every if self.is_wanted(prefix, owners)}
-        pairs = {prefix: pair for prefix, owners in owners_of_prefix.items() if (pair := self.pair_of(owners))}
-        proxied = self.proxied(sorted(set(pairs.values())))
+        ends = {prefix: each for prefix, owners in owners_of_prefix.items() if (each := self.ends_of(owners))}
+        proxied = self.proxied(sorted(set(ends.values())))
         entries = []
         for prefix, owners in owners_of_prefix.items():
             try:
-                if prefix in pairs and pairs[prefix] not in proxied:
+                if prefix in ends and ends[prefix] not in proxied:
                     raise LeftOut("mrt proxy took too long")
-                entry, how = self.entry(prefix, owners, proxied[pairs[prefix]] if prefix in pairs else None)
+                entry, how = self.entry(prefix, owners, proxied[ends[prefix]] if prefix in ends else None)
                 entry.look_at(self.daemon.interfaces)
                 entries.append(entry)
                 self.told[prefix.text] = how
@@ -182,18 +232,27 @@ class Prefixes:
         near = {bond.far(self.ways.router) for bond in self.ways.graph.links[self.ways.router]}
         return any(node == self.ways.router or (node.kind == NETWORK and node in near) for node in owners)
 
-    def pair_of(self, owners: Owners) -> Pair | None:
-        """The two routers by whose rows a prefix goes, if there are two."""
-        first = self.inside(owners)[:2]
-        return (first[0], first[1]) if [node.kind for node in first] == [ROUTER, ROUTER] else None
+    def ends_of(self, owners: Owners) -> Ends | None:
+        """The two routers by whose rows a prefix goes, if there are two, with the nearest owner."""
+        near, first = self.nearest(self.ways.router, owners), self.inside(owners)[:2]
+        are_two = near and [node.kind for node in first] == [ROUTER, ROUTER]
+        return (first[0], first[1], near[0]) if are_two else None
 
-    def proxied(self, pairs: list[Pair]) -> dict[Pair, Proxied | None]:
-        """What there is for each two routers that have a common block. They are asked for once."""
-        pairs = [pair for pair in pairs if pair not in self.ways.proxied]
-        known, words = self.ways.proxied, [(self.ways.router.text, one.text, other.text) for one, other in pairs]
-        for place, text in self.ways.mrt.many("proxy", words, untold=NO_COMMON_BLOCK) if words else ():
-            hops = {to: self.elements(to) for to in pairs[place] if to in self.lines}
-            known[pairs[place]] = Proxied(self.ways, text, hops) if text else None
+    def proxied(self, ends: list[Ends]) -> dict[Ends, Proxied | None]:
+        """What there is for each two routers that have a common block. They are asked for once: for the router's own
+        rows, if the library gives them, and where these do not tell for the rows of all nodes."""
+        ways, known = self.ways, self.ways.proxied
+        ends = [each for each in ends if each not in known]
+        rows = ways.mrt.own_rows(ways.router, sorted({(one, other) for one, other, _ in ends}))
+        for each in ends:
+            if each[:2] in rows:
+                row = rows[each[:2]]
+                with suppress(Untold):
+                    known[each] = Proxied(ByOwnRow(ways, row), self.elements(each[2])) if row else None
+        ends = [each for each in ends if each not in known]
+        words = [(ways.router.text, one.text, other.text) for one, other, _ in ends]
+        for place, text in ways.mrt.many("proxy", words, untold=NO_COMMON_BLOCK) if words else ():
+            known[ends[place]] = Proxied(ByRows(ways, text), self.elements(ends[place][2])) if text else None
         return known
 
     def entry(self, prefix: Prefix, owners: Owners, proxied: Proxied | None) -> tuple[Entry, str]:
@@ -234,13 +293,15 @@ class Prefixes:
             return Entry(prefix.text, None, None, others[:1], rows)
         if route is None:
             return Entry(prefix.text, None, None, [], rows)
-        colors = zip((FOR_WORD, FOR_PORT), proxied.repairs[nearest])
+        colors = zip((FOR_WORD, FOR_PORT), proxied.repairs)
         repairs = [(metric, color, hop) for metric, color in colors if color is not None and (hop := rows[color])]
         return Entry(prefix.text, route.primary, after_daemon(route), repairs, rows)
 
     def elements(self, to: Node) -> list[Element]:
-        """The links and nodes of the primary's hop to a router: the link, its far node and, after a LAN, both
-        again."""
+        """The links and nodes of the primary's hop to a node: the link, its far node and, after a LAN, both again; none
+        where it has no primary."""
+        if to not in self.lines:
+            return []
         line, ways = self.lines[to], self.ways
         elements: list[Element] = [ways.by_data[ways.router, line.primary_far, line.primary_data], line.primary_far]
         if to in ways.after:
