@@ -6,7 +6,7 @@ from datetime import datetime
 from unittest import mock
 
 from mrttools.lab import dropped
-from mrttools.lab.dropped import AGENTS, DAEMONS, FAILURE, OTHER, SECOND, Down, Judge, Kernel, Lost
+from mrttools.lab.dropped import AGENTS, DAEMONS, FAILURE, OTHER, SECOND, Down, Happened, Judge, Kernel, Lost
 from mrttools.lab.network import PLAN
 from mrttools.lab.pings import Counted
 from mrttools.lab.running_network import LabFault
@@ -68,7 +68,7 @@ class Causes(unittest.TestCase):
 
     def judged(self, made: Made, kernel: Kernel, *down: Down, lost: int = 1) -> Lost:
         kernels = {router: Kernel("", "") for router in PLAN.routers} | {2: kernel}
-        judge = Judge(mock.Mock(plan=PLAN), kernels, list(down))
+        judge = Judge(mock.Mock(plan=PLAN), kernels, Happened(list(down), {}))
         found = judge.all(made.data, PORTS, Counted({(1, 4): lost}, 9, 9, 9, 0))
         self.assertEqual(len(found), 1)
         return found[0]
@@ -139,6 +139,28 @@ class Causes(unittest.TestCase):
         came_back = Kernel(ROW, told((4, f"Deleted {ROW}"), (4.5, ROW)))
         self.assertEqual(self.at_r2(came_back, *self.down(2, 3, 1), color=6).cause, SECOND)
 
+    def test_a_color_of_a_router_whose_daemon_has_begun_anew(self) -> None:
+        """Without its agent, which has the table from before, it has no way either as long as the daemon has put none there.
+        A daemon that lost its route, or had one since, and one of another router are no such."""
+        gone = (4.2, f"Deleted {ROUTE}")
+        cases: list[tuple[str, list[tuple[float, str]], dict[int, float], str]] = [
+            (REPAIR, [], {2: 4.0}, DAEMONS),
+            (f"{ROUTE}\n{REPAIR}", [gone], {2: 4.0}, DAEMONS),
+            (f"{ROUTE}\n{REPAIR}", [gone], {}, AGENTS),
+            (f"{ROUTE}\n{REPAIR}", [gone], {1: 4.0, 5: 4.0}, AGENTS),
+            (f"{ROUTE}\n{REPAIR}", [gone], {2: 5.1}, AGENTS),
+            (REPAIR, [(4.1, ROUTE), gone], {2: 4.0}, AGENTS),
+            (f"{ROUTE}\n{REPAIR}", [], {2: 4.0}, AGENTS),
+        ]
+        for had, events, anew, cause in cases:
+            made = Made()
+            made.hop(START + 5, (1, 2), (1, 4, 2))
+            made.hop(START + 5.001, (2, 5), (1, 4, 2), color=6)
+            kernels = {router: Kernel("", "") for router in PLAN.routers} | {2: Kernel(had, told(*events))}
+            happened = Happened([], {router: START + at for router, at in anew.items()})
+            (found,) = Judge(mock.Mock(plan=PLAN), kernels, happened).all(made.data, PORTS, Counted({(1, 4): 1}, 9, 9, 9, 0))
+            self.assertEqual((found.router, found.color, found.cause), (5, 6, cause), (events, anew))
+
     def test_a_repair_that_is_taken_away(self) -> None:
         """By an agent, a moment ago, or as the only way that there was."""
         gone = (4.0, f"Deleted {ROUTE}")
@@ -187,7 +209,7 @@ class Causes(unittest.TestCase):
         made = Made()
         for place in range(10):
             made.there_and_back(START + place, (1, 2), (1, 4, place))
-        judge = Judge(mock.Mock(plan=PLAN), {}, [])
+        judge = Judge(mock.Mock(plan=PLAN), {}, Happened([], {}))
         self.assertEqual(judge.all(made.data, PORTS, Counted({(1, 4): 0}, 9, 9, 9, 0)), [])
         # (one that was counted as lost, and came late)
         (late,) = judge.all(made.data, PORTS, Counted({(1, 4): 1}, 9, 9, 9, 0))
@@ -206,10 +228,10 @@ class Causes(unittest.TestCase):
                     with open(watch.name("tcpdump.log"), "w", encoding="ascii") as log:
                         log.write(f"90 packets captured\n90 packets received by filter\n{number} packets dropped by kernel\n")
                     if is_whole:
-                        self.assertEqual(watch.end([], counted), [])
+                        self.assertEqual(watch.end(Happened([], {}), counted), [])
                         continue
                     with self.assertRaisesRegex(LabFault, "12 packets were not captured"):
-                        watch.end([], counted)
+                        watch.end(Happened([], {}), counted)
 
     def test_sums(self) -> None:
         lost = [Lost(1, 1, 4, False, 2, None, cause, "") for cause in (AGENTS, DAEMONS, DAEMONS)]

@@ -17,7 +17,7 @@ from mrttools.exits import ToolFault
 from mrttools.program import ROOT
 from mrttools.router import kernel
 from . import outcomes
-from .dropped import Down, Watch
+from .dropped import Down, Happened, Watch
 from .failures import FAILING, STANDING, failures, pairs
 from .forwarding import Batch, do_at_once, line_of
 from .network import router_id
@@ -57,9 +57,10 @@ class Agents:
     def __init__(self, lab: Lab, mrt: str, folder: str) -> None:
         self.lab, self.mrt, self.folder, self.network = lab, mrt, folder, lab.spaces
         self.running: dict[int, subprocess.Popen[bytes]] = {}
-        # What all agents are told besides, and the ends of wires that are or were down.
+        # What all agents are told besides, the ends of wires that are or were down, and when daemons began anew.
         self.options: list[str] = []
         self.down: list[Down] = []
+        self.anew: dict[int, float] = {}
         # (each change in the profile's folder wakes all agents)
         self.profile = self.name("profile/area.profile")
         os.makedirs(os.path.dirname(self.profile), exist_ok=True)
@@ -191,6 +192,7 @@ def changes(agents: Agents) -> list[Change]:
 
     def again() -> None:
         for router in (LEFT, STRICT):
+            agents.anew[router] = time.time()
             lab.start(router)
 
     return [
@@ -215,7 +217,7 @@ def pinged(agents: Agents, change: Change) -> Pinged:
     change.do()
     agents.wait(change.out)
     counted = pinging.end()
-    return Pinged(began, counted, watch.end(agents.down, counted))
+    return Pinged(began, counted, watch.end(Happened(agents.down, agents.anew), counted))
 
 
 def tried(agents: Agents, change: Change, without: Pinged) -> Row:

@@ -2,8 +2,9 @@
 the time.
 
 A ping is lost by the failure itself, on a wire that goes down or at its end before that is seen there; by the daemons,
-whose routes lead nowhere or in a circle; on a color, where a second failure is met; or by the agents: on a color for
-which a router has no row, in a circle on colors, or where a repair was taken away that nothing stood for."""
+whose routes lead nowhere or in a circle, or that have begun anew and have none; on a color, where a second failure is met;
+or by the agents: on a color for which a router has no row, in a circle on colors, or where a repair was taken away that
+nothing stood for."""
 from __future__ import annotations
 
 import os
@@ -152,6 +153,11 @@ class Kernel:
         events = self.events[MAIN, prefix]
         return [each.at for each in events if is_ours(each.line) and not each.came and each.at <= at]
 
+    def lacks(self, prefix: str, since: float, at: float) -> bool:
+        """Whether the daemon has no route at a time, and has had none since an earlier one."""
+        came = [each.line for each in self.events[MAIN, prefix] if each.came and since <= each.at <= at]
+        return since <= at and all(map(is_ours, came + self.routes(MAIN, prefix, at)))
+
     def last(self, prefix: str, at: float) -> str:
         """What was told last of the daemon's route to a prefix."""
         before = [each for each in self.events[MAIN, prefix] if 0 < each.at <= at and not is_ours(each.line)]
@@ -192,11 +198,19 @@ class Lost(NamedTuple):
     why: str
 
 
+class Happened(NamedTuple):
+    """What was done: the ends of wires that were down, and when daemons began anew, by their routers."""
+
+    down: list[Down]
+    anew: dict[int, float]
+
+
 class Judge:
     """Says by what pings were lost."""
 
-    def __init__(self, network: Network, kernels: dict[int, Kernel], down: list[Down]) -> None:
-        self.network, self.kernels, self.down = network, kernels, down
+    def __init__(self, network: Network, kernels: dict[int, Kernel], happened: Happened) -> None:
+        self.network, self.kernels = network, kernels
+        self.down, self.anew = happened
 
     def is_down(self, wire: int, router: int, at: float) -> bool:
         return any(each.port == port(wire, router) and each.since <= at <= each.until for each in self.down)
@@ -224,7 +238,9 @@ class Judge:
             return self.circled(hops, prefix)
         if self.just_failed(last.router, last.at):
             return FAILURE, "at the end of a link that has just failed"
-        return self.at_router(last.router, prefix, color, last.at)
+        if color is None:
+            return self.at_router(last.router, prefix, last.at)
+        return self.on_color(hops, prefix, color)
 
     def circled(self, hops: list[Hop], prefix: str) -> tuple[str, str]:
         """By what a packet went in a circle: on a color, or by a primary of an agent where there was none of the daemon, it
@@ -247,16 +263,22 @@ class Judge:
         """How many failures there are that came one after another of late."""
         return len({each.since for each in self.down if each.since <= at <= each.until and at - each.since < LATE})
 
-    def at_router(self, router: int, prefix: str, color: int | None, at: float) -> tuple[str, str]:
-        """By what a packet was lost in a router."""
-        kernel = self.kernels[router]
-        if color is None:
-            told = kernel.last(prefix, at)
-            return (AGENTS, f"its repair was taken: {told}") if self.took(router, prefix, at) else (DAEMONS, told)
-        row = kernel.row(color, prefix, at)
-        if row is None:
-            return AGENTS, "no row of its color"
-        return (OTHER, f"there is {row}") if self.is_usable(router, row, at) else (SECOND, f"no carrier for {row}")
+    def at_router(self, router: int, prefix: str, at: float) -> tuple[str, str]:
+        """By what a packet on no color was lost in a router."""
+        told = self.kernels[router].last(prefix, at)
+        return (AGENTS, f"its repair was taken: {told}") if self.took(router, prefix, at) else (DAEMONS, told)
+
+    def on_color(self, hops: list[Hop], prefix: str, color: int) -> tuple[str, str]:
+        """By what a packet on a color was lost in the router that it came to last."""
+        last, put = hops[-1], put_on(hops)
+        row = self.kernels[last.router].row(color, prefix, last.at)
+        if row is not None:
+            is_usable = self.is_usable(last.router, row, last.at)
+            return (OTHER, f"there is {row}") if is_usable else (SECOND, f"no carrier for {row}")
+        # (without an agent, which has its table from before, that router has no way)
+        if put and put.router in self.anew and self.kernels[put.router].lacks(prefix, self.anew[put.router], put.at):
+            return DAEMONS, f"no row of its color, by r{put.router}, whose daemon has begun anew and has no route"
+        return AGENTS, "no row of its color"
 
     def is_usable(self, router: int, line: str, at: float) -> bool:
         """Whether a link of a route has a carrier."""
@@ -291,10 +313,18 @@ class Judge:
         if at is None:
             return Lost(0.0, source, target, False, source, None, OTHER, "its answer came late, or it was not seen")
         just = self.just_failed(source, at)
-        cause, why = (
-            (FAILURE, "at its sender") if just else self.at_router(source, loopback(target), None, at)
-        )
+        cause, why = (FAILURE, "at its sender") if just else self.at_router(source, loopback(target), at)
         return Lost(at, source, target, False, source, None, cause, why)
+
+
+def put_on(hops: list[Hop]) -> Hop | None:
+    """The hop with which a router put a packet on the color that it has at its end."""
+    first = hops[-1]
+    for hop in hops[::-1]:
+        if hop.color != first.color:
+            break
+        first = hop
+    return first if first.is_sent else None
 
 
 def gaps(times: list[float]) -> list[float]:
@@ -340,8 +370,8 @@ class Watch:
         words = ["ip", "-n", self.network.of(router), "-N", "-4", "-o", "route", "show", "table", "all"]
         return subprocess.run(words, stdout=subprocess.PIPE, text=True, check=True).stdout
 
-    def end(self, down: list[Down], counted: Counted) -> list[Lost]:
-        """Ends it; by what each ping was lost, where some wires were down at times."""
+    def end(self, happened: Happened, counted: Counted) -> list[Lost]:
+        """Ends it; by what each ping was lost, by what happened."""
         # (tcpdump writes what it has each second)
         time.sleep(WRITTEN)
         for process in self.running:
@@ -355,7 +385,7 @@ class Watch:
         kernels = {router: Kernel(had, self.read(f"r{router}.routes")) for router, had in self.had.items()}
         for name in os.listdir(self.folder):
             os.unlink(self.name(name))
-        return Judge(self.network, kernels, down).all(data, ports_of(self.network), counted)
+        return Judge(self.network, kernels, happened).all(data, ports_of(self.network), counted)
 
 
 def sums(lost: list[Lost]) -> Iterator[tuple[str, int]]:
