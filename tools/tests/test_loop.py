@@ -104,6 +104,19 @@ class Changes(WithAgent):
         self.assertIn('iifname != { "to-r2", "to-r3", "to-r4" } ip dscp set 0', self.router.nft)
         self.assertNotIn("to-r2", agent.devices)
 
+    def test_an_interface_that_was_of_the_area(self) -> None:
+        """It counts on while it is down, and not when it has another address: then it may be a customer's."""
+        agent, ours = self.agent(), self.router.addresses()
+        self.settle(agent)
+        self.without_link(1, 2)
+        given = ours[0] | {"addr_info": [{"local": "192.0.2.1", "prefixlen": 24}]}
+        self.assertEqual(given["ifname"], "to-r2")
+        for said, inside in ((ours[1:], '"to-r2", "to-r3", "to-r4"'), ([given, *ours[1:]], '"to-r3", "to-r4"')):
+            self.stands("addresses", lambda said=said: said)
+            self.router.told = News(interfaces=True)
+            self.settle(agent)
+            self.assertIn(f"iifname != {{ {inside} }} ip dscp set 0", self.router.nft)
+
     def test_a_repair_without_another_one_stays_with_its_rows(self) -> None:
         agent = self.agent()
         self.settle(agent)

@@ -62,8 +62,8 @@ class Agent:
         self.state: State = NOTHING
         self.news = News()
         self.nft, self.marks, self.devices = "", "", set[str]()
-        # The interfaces that had links of the area since the agent began.
-        self.inside: set[str] = set()
+        # The interfaces that had links of the area since the agent began, by their addresses there.
+        self.inside: dict[int, str] = {}
         # The prefixes to which no repair is to be, as the daemon has lost its route.
         self.gone: frozenset[str] = frozenset()
         # When it was looked at next and last, and when it was changed last.
@@ -262,12 +262,19 @@ class Agent:
         if line:
             tell(line)
         self.links, self.devices = links, self.inputs.interfaces.of(ways.own_addresses())
-        # (a link that is away may come back before there is a table with it: what comes by it on a color is to end then)
-        self.inside |= self.devices
-        self.mark(kernel.marking(self.args.dscp, self.inside))
+        self.inside = self.inside_by(ways)
+        self.mark(kernel.marking(self.args.dscp, set(self.inside.values())))
         self.set()
         self.put_or_refuse(now)
         self.status.installed(made, digest, is_other, self.left_out(made))
+
+    def inside_by(self, ways: Ways) -> dict[int, str]:
+        """The interfaces of the area. One whose link is away counts on, as that may come back before there is a table with
+        it, and what comes by it on a color is to end then; but not one that has other addresses now."""
+        names, own = self.inputs.interfaces.names or {}, ways.own_addresses()
+        found = self.inside | {address: name for address, name in names.items() if address in own}
+        there = set(names.values())
+        return {address: name for address, name in found.items() if names.get(address) == name or name not in there}
 
     def left_out(self, made: Table) -> dict[str, str]:
         """What has no repair, and why."""
