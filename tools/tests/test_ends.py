@@ -341,6 +341,14 @@ class OfItself(WithAgent):
                 )
                 self.assertTrue(done.stdout.startswith(first), done.stdout)
 
+    def test_another_source(self) -> None:
+        """It is told though nothing else changes: FRR's own word may come after the first table."""
+        agent = self.agent()
+        self.settle(agent)
+        with mock.patch.object(self.source, "name", lambda: "another one"):
+            self.step(agent)
+        self.assertEqual(status.read(self.folder)["source"], "another one")
+
     def test_a_table_that_is_gone(self) -> None:
         """At the end with --strict, after --remove, and before an agent that is started anew has made one."""
         for strict in (True, False):

@@ -409,6 +409,8 @@ class Agent:
                 self.put_or_refuse(now)
             self.look_after(news, now)
             self.keep(now)
+            if self.status.facts["source"] != self.surroundings.source.name():
+                self.write_status(now)
 
     def next(self, now: float) -> float:
         """When something is to be done, whatever comes."""
