@@ -29,6 +29,9 @@ from .running_network import Lab, LabFault
 LINGER, PATIENCE = 3, 90
 # Pings of each pair while something changes, how far they are apart in milliseconds, and the seconds before it.
 PINGS, EVERY, BEFORE = 1500, 20, 0.5
+# Seconds between the starts of two daemons: BIRD finds new ways once a second from its start on, and without agents all
+# would do it at one time.
+APART = 0.12
 # Whose daemons die: the first one's agent leaves its table, the second one's takes it away.
 LEFT, STRICT = 6, 9
 
@@ -270,6 +273,7 @@ def begin(agents: Agents, routers: list[int]) -> None:
         agents.start(router)
     for router in agents.network.plan.routers:
         agents.lab.start(router)
+        time.sleep(APART)
     agents.wait()
 
 
