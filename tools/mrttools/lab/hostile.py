@@ -29,7 +29,8 @@ GOOD = "203.0.113.0/24"
 TAKEN = "10.255.0.9"
 # What it says of its end of the link: an address that is on another network, and none.
 OFF, UNNUMBERED = "10.99.99.8", "0.0.0.8"
-PATIENCE = 60
+# Its neighbor, how long is waited for what is to come, and the seconds in which FRR finds new ways at the latest.
+NEIGHBOR, PATIENCE, SETTLED = 5, 60, 6
 OURS = str(PROTOCOL)
 # Sends a payload as an IP datagram of OSPF.
 SEND = (
@@ -91,7 +92,7 @@ def told(agents: Agents, what: str, daemon: str) -> Told:
 
 def record_of(agents: Agents) -> Lsa | None:
     """The router's own LSA, if the agent of its neighbor uses it."""
-    with open(agents.name("r5/area.lsas"), "rb") as file:
+    with open(agents.name(f"r{NEIGHBOR}/area.lsas"), "rb") as file:
         records = list(lsas.split(file.read()))
     return next((lsa for lsa in records if lsa.kind == ROUTER and lsas.spelled(lsa.router) == IDENTIFIER), None)
 
@@ -163,6 +164,11 @@ def is_on_primary(agents: Agents, router: int, prefix: str) -> bool | None:
     return len(hops) == 1 and hops <= repairs if repairs else None
 
 
+def agrees(agents: Agents, daemon: str, router: int) -> bool:
+    """Whether an agent has the network where its daemon has it."""
+    return (GOOD in routes_to(agents, router, daemon)) == (GOOD in routes_to(agents, router, OURS))
+
+
 def begin(agents: Agents) -> None:
     """Starts the agents anew, with all prefixes, and puts the other daemon in the place of the router's."""
     agents.stop()
@@ -186,9 +192,12 @@ def repairs_of(agents: Agents) -> list[int]:
 
 def networks(agents: Agents, say: Callable[[str], None]) -> bool:
     """Networks that never are destinations, and a router ID; whether no agent installed one."""
-    until("networks that never are destinations", has_left(agents, NETWORKS[1]))
-    until("a network of its own", lambda: all(GOOD in routes_to(agents, each, OURS) for each in agents.running))
     daemon = agents.lab.daemon.name.lower().replace("frr", "ospf")
+    until("networks that never are destinations", has_left(agents, NETWORKS[1]))
+    until("a network of its own", lambda: GOOD in routes_to(agents, NEIGHBOR, OURS))
+    # (zebra of FRR 8.4.4 may have lost the group of next hops that a new route would have, and the kernel has none then)
+    time.sleep(SETTLED)
+    until("a network of its own, where its daemon has it", lambda: all(map(partial(agrees, agents, daemon), agents.running)))
     rows = [told(agents, what, daemon) for what in (*NETWORKS, f"{IDENTIFIER}/32", GOOD)]
     for row in rows:
         say(
@@ -212,9 +221,9 @@ def neighbors(agents: Agents, say: Callable[[str], None]) -> bool:
     agreed = True
     for data in (OFF, UNNUMBERED):
         until(f"a neighbor at {data}", partial(has_told, agents, partial(changed, data=lsas.address(data))))
-        why = next((each["why"] for each in agents.facts(5)["left_out"] if each["what"] == GOOD), "NOT LEFT OUT")
-        say(f"hostile: {IDENTIFIER} tells of {data} as its end of the link: r5 leaves out {GOOD}: {why}")
-        agreed = GOOD not in routes_to(agents, 5, OURS) and all(repairs_of(agents)) and agreed
+        why = next((each["why"] for each in agents.facts(NEIGHBOR)["left_out"] if each["what"] == GOOD), "NOT LEFT OUT")
+        say(f"hostile: {IDENTIFIER} tells of {data} as its end of the link: r{NEIGHBOR} leaves out {GOOD}: {why}")
+        agreed = GOOD not in routes_to(agents, NEIGHBOR, OURS) and all(repairs_of(agents)) and agreed
     return agreed
 
 
