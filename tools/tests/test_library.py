@@ -1,6 +1,7 @@
 """The library's header beside the sources, and what is built on it."""
 from __future__ import annotations
 
+import atexit
 import ctypes
 import os
 import re
@@ -166,7 +167,8 @@ def made() -> str | None:
     if not shutil.which("gcc") or done(BUILDS, "--library", "--is").returncode:
         return None
     folder = tempfile.TemporaryDirectory()
-    unittest.addModuleCleanup(folder.cleanup)
+    # (a clean-up of the module would come when the first module has ended, since all are read before any runs)
+    atexit.register(folder.cleanup)
     subprocess.run([os.path.join(ROOT, "tools", "library"), folder.name], check=True)
     return folder.name
 
