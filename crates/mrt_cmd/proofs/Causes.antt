@@ -1,26 +1,26 @@
 -- From what the steps of the top call say to the causes of its exit.
 use Rattle.std.proofs.Common.{◌≡◌, ◌⊎◌, ◌↔◌, ℕ, List, Option, Some, None, Result, Ok, Err, refl, sym, subst, inl, inr}
-use Rattle.std.specs.Prelude.{IfErr, IsNone, IsSome}
+use Rattle.std.specs.Prelude.{IfErr, IsSome}
 use Rattle.mrt_io.specs.Holding.{Files}
 use Rattle.mrt_io.specs.Writing.{Gained}
 use Rattle.mrt_exit.specs.declared.exit.Exit.{Exit}
 use Rattle.mrt_exit.specs.declared.exit.Exit.TheVariants as exits
 use Rattle.mrt_cmd.specs.Causes.{HasCause, HasNoText, IsAnswered, IsOfBytes, IsOutputCalm, IsShelfCalm, IsTold, ShelfInCall, SinkInCall}
-use Rattle.mrt_cmd.specs.Comes.{Comes, FailsAt, GivesText, IsRefused, NamesHeld, of_form, read_as_form}
+use Rattle.mrt_cmd.specs.Comes.{AreOfNoForm, Comes, FailsAt, GivesText, IsRefused, NamesHeld, of_form, read_as_form}
 use Rattle.mrt_exit.specs.Exits.{line_of}
-use Rattle.mrt_words.specs.Files.{MayFail, files_of}
+use Rattle.mrt_words.specs.Files.{files_of}
 use Rattle.mrt_words.specs.declared.form.Form.{Form}
 use Rattle.mrt_words.specs.Form.{form_of}
+use Rattle.mrt_words.specs.Spellings.{AreWordsOf}
 use Rattle.mrt_cmd.specs.Headline.{IsPassed}
 use Rattle.mrt_words.specs.Reading.{IsDueOrFault}
 use Rattle.mrt_words.proofs.Readings.{if_err}
 use Rattle.mrt_exit.specs.Telling.{GainedLine, IsCutShort}
 use Rattle.mrt_cmd.specs.Run.{IsHealthyForText, WritesNothing}
 use Rattle.mrt_cmd.proofs.Exactly.{ComesOnce, exactly as exactly_one, exactly_missing, none_missing, refusal_comes, text_comes}
-use Rattle.mrt_cmd.proofs.FormSays.{form_says, of_some, only_verdict}
+use Rattle.mrt_cmd.proofs.FormSays.{form_says, only_verdict}
 use Rattle.mrt_cmd.proofs.Held.{given_held, refused_held}
-use Rattle.mrt_cmd.proofs.WordsOfForm.{none_spelled, words_are}
-use Rattle.mrt_cmd.proofs.WrittenPasses.{no_form}
+use Rattle.mrt_cmd.proofs.WordsOfForm.{words_are}
 
 -- a refusal of the form of the words says why they give no text
 module _ (words : List (List ℕ)) (shelf : ShelfInCall) (form : Form) (is : Some form ≡ form_of words) where
@@ -32,9 +32,8 @@ module _ (words : List (List ℕ)) (shelf : ShelfInCall) (form : Form) (is : Som
   refused_words exits.Done (inl refused) = absurd (form_says shelf.held form exits.Done refused)
   refused_words exits.Usage (inl refused) = absurd (form_says shelf.held form exits.Usage refused)
   refused_words (exits.WriteFault taken) (inl refused) = absurd (form_says shelf.held form (exits.WriteFault taken) refused)
-  refused_words (exits.ReadFault word) said =
-      (of_some (form_of words) (λ f. MayFail shelf.held (files_of f) word) form (sym is) said.0, said.1)
-  refused_words exits.NoMemory said = subst (λ (it : Option Form). IsSome it) is refl
+  refused_words (exits.ReadFault word) said = ((form, words_are words form (sym is), said.0), said.1)
+  refused_words exits.NoMemory said = (form, words_are words form (sym is))
   refused_words (exits.No rule a b) (inl refused) =
       let of : IsRefused shelf.held words (exits.No rule a b) = inr (form, words_are words form (sym is), refused) in
       (of, only_verdict shelf.held words rule a b of)
@@ -47,11 +46,11 @@ module _ (words : List (List ℕ)) (shelf : ShelfInCall) (form : Form) (is : Som
 -- why the words give no text, in short: memory was wanted, a file was not read, or they are refused
 abbrev HasReason : List (List ℕ) → ShelfInCall → Exit → Type 0
 HasReason words shelf exit =
-    ((exit ≡ exits.NoMemory) × IsSome (form_of words))
+    ((exit ≡ exits.NoMemory) × ((form : Form) × AreWordsOf form words))
     ⊎ ((word : ℕ) × (exit ≡ exits.ReadFault word) × FailsAt shelf.held words word) ⊎ IsRefused shelf.held words exit
 
 stopped_by : (words : List (List ℕ)) (shelf : ShelfInCall) (exit : Exit) → HasNoText words shelf exit → HasReason words shelf exit
-stopped_by words shelf exits.Usage said = inr (inr (inl (none_spelled words said.0)))
+stopped_by words shelf exits.Usage said = inr (inr (inl said.0))
 stopped_by words shelf (exits.ReadFault word) said = inr (inl (word, refl, said.0))
 stopped_by words shelf (exits.No rule a b) said = inr (inr said.0)
 stopped_by words shelf exits.NoMemory said = inl (refl, said)
@@ -60,16 +59,16 @@ stopped_by words shelf (exits.WriteFault taken) said = absurd said
 stopped_by words shelf exit said = inr (inr said)
 
 -- words of no form are answered with the usage
-none_is_usage : (words : List (List ℕ)) (shelf : ShelfInCall) (exit : Exit) → HasReason words shelf exit → IsNone (form_of words)
+none_is_usage : (words : List (List ℕ)) (shelf : ShelfInCall) (exit : Exit) → HasReason words shelf exit → AreOfNoForm words
     → exit ≡ exits.Usage
-none_is_usage words shelf exit (inl (is, some)) none = absurd cc
-none_is_usage words shelf exit (inr (inl (word, is, fails))) none = absurd (no_form (form_of words) _ none fails)
+none_is_usage words shelf exit (inl (is, (form, are))) none = absurd (none form are)
+none_is_usage words shelf exit (inr (inl (word, is, (form, are, fails)))) none = absurd (none form are)
 none_is_usage words shelf exit (inr (inr (inl usage))) none = is_usage exit usage
   where
     is_usage : (exit : Exit) → read_as_form words (Err exit) → exit ≡ exits.Usage
     is_usage exits.Usage usage = refl
     is_usage exit usage = absurd usage
-none_is_usage words shelf exit (inr (inr (inr (form, are, refused)))) none = absurd (none_spelled words none form are)
+none_is_usage words shelf exit (inr (inr (inr (form, are, refused)))) none = absurd (none form are)
 
 cause_of : (words : List (List ℕ)) (shelf : ShelfInCall) (out : SinkInCall) (exit : Exit) → HasNoText words shelf exit
     → out.untouched → HasCause words shelf out exit
@@ -170,8 +169,8 @@ told_of err exits.Done silent line = silent refl
 told_of err exit silent line = line (λ is. cc)
 
 -- words that give a text are a form
-text_has_form : (held : Option Files) (words : List (List ℕ)) (text : List ℕ) → GivesText held words text → IsNone (form_of words) → ⊥
-text_has_form held words text (form, are, given) none = none_spelled words none form are
+text_has_form : (held : Option Files) (words : List (List ℕ)) (text : List ℕ) → GivesText held words text → AreOfNoForm words → ⊥
+text_has_form held words text (form, are, given) none = none form are
 
 -- where the words give a text
 pub written : (once : ComesOnce) (words : List (List ℕ)) (shelf : ShelfInCall) (out err : SinkInCall) (exit : Exit)

@@ -1,7 +1,6 @@
 -- Where one exit comes of the words, each exit comes exactly where it is that.
 use Rattle.std.proofs.Common.{◌≡◌, ◌⊎◌, ◌↔◌, ℕ, List, Option, Some, None, Ok, Err, refl, subst, sym, inl, inr}
 use Rattle.std.specs.Prelude.{IsSome}
-use Rattle.std.specs.Option.{IsSomeAnd}
 use Rattle.mrt_io.specs.Holding.{Files}
 use Rattle.mrt_exit.specs.declared.exit.Exit.{Exit}
 use Rattle.mrt_exit.specs.declared.exit.Exit.TheVariants as exits
@@ -10,10 +9,7 @@ use Rattle.mrt_cmd.specs.Comes.{Comes, GivesText, IsRefused, MissesAt, of_form}
 use Rattle.mrt_words.specs.Files.{IsFirstMissing, files_of}
 use Rattle.mrt_words.specs.declared.form.Form.{Form}
 use Rattle.mrt_words.specs.declared.form.Form.TheVariants.{OfFiles, Survey, Flood}
-use Rattle.mrt_words.specs.Form.{form_of}
 use Rattle.mrt_cmd.specs.Run.{WritesNothing}
-use Rattle.mrt_cmd.proofs.FormSays.{of_some}
-use Rattle.mrt_cmd.proofs.WordsOfForm.{read_as, words_are}
 
 -- one exit comes of the words at most
 abbrev pub ComesOnce : Type 0
@@ -59,17 +55,11 @@ comes_missing files (Flood form) word missing = inl missing
 misses_of : (files : Files) (words : List (List ℕ)) (word : ℕ) → IsRefused (Some files) words (exits.ReadFault word)
     → MissesAt (Some files) words word
 misses_of files words word (inl usage) = absurd usage
-misses_of files words word (inr (form, is, refused)) =
-    of_some (form_of words) (λ it. IsFirstMissing (Some files) (files_of it) word) form (read_as words form is) (first_missing files form word refused)
+misses_of files words word (inr (form, are, refused)) = (form, are, first_missing files form word refused)
 
 missing_refused : (files : Files) (words : List (List ℕ)) (word : ℕ) → MissesAt (Some files) words word
     → IsRefused (Some files) words (exits.ReadFault word)
-missing_refused files words word missing = go (form_of words) refl missing
-  where
-    go : (o : Option Form) → form_of words ≡ o → IsSomeAnd o (λ it. IsFirstMissing (Some files) (files_of it) word)
-        → IsRefused (Some files) words (exits.ReadFault word)
-    go None is missing = absurd missing
-    go (Some form) is missing = inr (form, words_are words form is, comes_missing files form word missing)
+missing_refused files words word (form, are, missing) = inr (form, are, comes_missing files form word missing)
 
 pub exactly_missing : (held : Option Files) (words : List (List ℕ)) (result : Exit) → ComesOnce
     → Comes held words result ⊎ (result ≡ exits.NoMemory) → IsSome held

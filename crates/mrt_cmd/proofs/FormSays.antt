@@ -1,7 +1,7 @@
 -- Which exits come of a form: no only of one that asks for a verdict, and never done, the usage, a fault of the output or want of memory.
 use Rattle.std.proofs.Common.{◌≡◌, ◌+◌, ℕ, Bool, true, false, List, [], ◌∷◌, Option, Some, None, length, sym, subst, inl, inr}
 use Rattle.std.specs.Prelude.{nat_lt, if◌then◌else◌}
-use Rattle.std.specs.Option.{IsSomeAnd, option_map_or}
+use Rattle.std.specs.Option.{option_map_or}
 use Rattle.std.proofs.lemmas.Option.{same_Some}
 use Rattle.mrt_io.specs.Holding.{Files}
 use Rattle.mrt_exit.specs.Steps.{EndsAs}
@@ -10,14 +10,9 @@ use Rattle.mrt_exit.specs.declared.exit.Exit.TheVariants as exits
 use Rattle.mrt_words.specs.Files.{NamedFile, Names, SaysOneOf, files_in, flood_names, refusal_of, task_names}
 use Rattle.mrt_words.specs.declared.form.Form.{Form}
 use Rattle.mrt_words.specs.declared.form.Form.TheVariants.{OfFiles, Survey, Flood}
-use Rattle.mrt_words.specs.Form.{AsksVerdict, form_of}
+use Rattle.mrt_words.specs.Form.{AsksVerdict}
 use Rattle.mrt_answer.proofs.TaskSays.{MaySay, flooded_says, over_says}
-use Rattle.mrt_cmd.specs.Comes.{IsRefused, of_form, reading}
-use Rattle.mrt_cmd.proofs.WordsOfForm.{read_as}
-
--- what holds of the form of the words
-pub of_some : (o : Option Form) (P : Form → Type 0) (form : Form) → o ≡ Some form → P form → IsSomeAnd o P
-of_some o P form is held = subst (λ (it : Option Form). IsSomeAnd it P) (sym is) held
+use Rattle.mrt_cmd.specs.Comes.{AreOfForm, IsRefused, of_form, reading}
 
 -- a file that is not read is missing or too large
 one_of_first : (file : NamedFile) (rest : List NamedFile) (exit : Exit) (after : Option Exit)
@@ -59,7 +54,6 @@ form_says held (Flood form) exit (inr (bytes, read, said)) = flooded_says (Unit 
 
 -- only a verdict says no
 pub only_verdict : (held : Option Files) (words : List (List ℕ)) (rule a b : ℕ) → IsRefused held words (exits.No rule a b)
-    → IsSomeAnd (form_of words) AsksVerdict
+    → AreOfForm AsksVerdict words
 only_verdict held words rule a b (inl usage) = absurd usage
-only_verdict held words rule a b (inr (form, is, refused)) =
-    of_some (form_of words) AsksVerdict form (read_as words form is) (form_says held form (exits.No rule a b) refused)
+only_verdict held words rule a b (inr (form, are, refused)) = (form, are, form_says held form (exits.No rule a b) refused)

@@ -1,6 +1,6 @@
 -- An exit that speaks of the bytes of files comes where each file that the words name is held.
-use Rattle.std.proofs.Common.{◌+◌, ◌++◌, ℕ, List, [], ◌∷◌, Option, Some, None, Ok, Err, ◌≡◌, ap, subst, sym, inl, inr}
-use Rattle.std.specs.Prelude.{IfSome, IsSome, is_some}
+use Rattle.std.proofs.Common.{◌+◌, ◌++◌, ℕ, List, [], ◌∷◌, Option, Some, None, Ok, Err, ap, subst, inl, inr}
+use Rattle.std.specs.Prelude.{IsSome, is_some}
 use Rattle.std.specs.List.{AllByRecursion}
 use Rattle.std.specs.Option.{option_map, option_to_list}
 use Rattle.mrt_io.specs.Holding.{Files}
@@ -17,9 +17,10 @@ use Rattle.mrt_words.specs.declared.form.FloodForm.{FloodForm}
 use Rattle.mrt_words.specs.declared.form.Form.{Form}
 use Rattle.mrt_words.specs.declared.form.Form.TheVariants.{OfFiles, Survey, Flood}
 use Rattle.mrt_words.specs.declared.task.Task.TheVariants.{Check, Fabric, Upgrade, OfRouter}
-use Rattle.mrt_words.specs.Form.{Task, form_of}
+use Rattle.mrt_words.specs.Form.{Task}
+use Rattle.mrt_words.specs.Spellings.{AreWordsOf}
 use Rattle.mrt_cmd.proofs.FormSays.{unread_says_one}
-use Rattle.mrt_cmd.proofs.WordsOfForm.{read_as}
+use Rattle.mrt_cmd.proofs.WordsOfForm.{spelled_once}
 
 -- files that were read are held
 read_held : (files : Files) (names : Names) (bytes : FileBytes) → AreRead (Some files) names bytes
@@ -89,16 +90,16 @@ refused_form files (Flood form) exit of (inl unread) =
 refused_form files (Flood form) exit of (inr said) = read_held files (flood_names form) said.0 said.1
 
 -- so those that the words name
-names_held : (held : Option Files) (words : List (List ℕ)) (form : Form) → form_of words ≡ Some form → AreThere held (files_of form)
+names_held : (held : Option Files) (words : List (List ℕ)) (form : Form) → AreWordsOf form words → AreThere held (files_of form)
     → NamesHeld held words
-names_held held words form is there = subst (λ (it : Option Form). IfSome it (λ f. AreThere held (files_of f))) (sym is) there
+names_held held words form are there = λ other also.
+    subst (λ (f : Form). AreThere held (files_of f)) (spelled_once words form other are also) there
 
 -- of words that give a text
 pub given_held : (held : Option Files) (words : List (List ℕ)) (text : List ℕ) → GivesText held words text
     → IsSome held → NamesHeld held words
 given_held None words text given told = absurd cc
-given_held (Some files) words text (form, is, given) told =
-    names_held (Some files) words form (read_as words form is) (text_held files form text given)
+given_held (Some files) words text (form, are, given) told = names_held (Some files) words form are (text_held files form text given)
 
 -- of words that are refused
 pub refused_held : (held : Option Files) (words : List (List ℕ)) (exit : Exit) → IsRefused held words exit
@@ -109,5 +110,5 @@ refused_held (Some files) words exit (inl usage) told of = absurd (not_usage exi
     not_usage : (exit : Exit) → read_as_form words (Err exit) → IsOfBytes exit → ⊥
     not_usage exits.Usage usage of = of
     not_usage exit usage of = usage
-refused_held (Some files) words exit (inr (form, is, refused)) told of =
-    names_held (Some files) words form (read_as words form is) (refused_form files form exit of refused)
+refused_held (Some files) words exit (inr (form, are, refused)) told of =
+    names_held (Some files) words form are (refused_form files form exit of refused)

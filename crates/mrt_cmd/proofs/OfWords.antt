@@ -1,7 +1,6 @@
 -- What is said of the form of the words, said of the words.
 use Rattle.std.proofs.Common.{◌≡◌, ◌⊎◌, ℕ, List, Option, Some, Result, Ok, Err, refl, sym, subst, inl, inr}
-use Rattle.std.specs.Prelude.{IfErr, IfOk, IfSome}
-use Rattle.std.specs.Option.{IsSomeAnd}
+use Rattle.std.specs.Prelude.{IfErr, IfOk}
 use Rattle.mrt_io.specs.Holding.{Files}
 use Rattle.mrt_exit.specs.Due.{IsDue}
 use Rattle.mrt_exit.specs.declared.exit.Exit.{Exit}
@@ -13,8 +12,8 @@ use Rattle.mrt_words.proofs.Readings.{if_err}
 use Rattle.mrt_answer.specs.declared.text.Text.{Text}
 use Rattle.mrt_answer.specs.TextBytes.{HasText}
 use Rattle.mrt_answer.proofs.TextsHeld.{answer_has_also}
-use Rattle.mrt_cmd.specs.Comes.{Comes, GivesText, NamesHeld, of_form}
-use Rattle.mrt_cmd.proofs.WordsOfForm.{words_are}
+use Rattle.mrt_cmd.specs.Comes.{AreOfForm, Comes, GivesText, NamesHeld, of_form}
+use Rattle.mrt_cmd.proofs.WordsOfForm.{spelled_once, words_are}
 
 module _ (held : Option Files) (words : List (List ℕ)) (form : Form) (is : Some form ≡ form_of words) where
   pub text_of_words : (answer : Result Text Exit) → IfOk answer (HasText (λ text. of_form held form (Ok text)))
@@ -31,7 +30,7 @@ module _ (held : Option Files) (words : List (List ℕ)) (form : Form) (is : Som
       go exit (inr memory) = inr memory
 
   pub there_of_words : NamesHeld held words → AreThere held (files_of form)
-  there_of_words there = subst (λ (it : Option Form). IfSome it (λ f. AreThere held (files_of f))) (sym is) there
+  there_of_words there = there form (words_are words form (sym is))
 
-  pub survey_of_words : IsSomeAnd (form_of words) IsSurvey → IsSurvey form
-  survey_of_words surveys = subst (λ (it : Option Form). IsSomeAnd it IsSurvey) (sym is) surveys
+  pub survey_of_words : AreOfForm IsSurvey words → IsSurvey form
+  survey_of_words (other, are, survey) = subst IsSurvey (spelled_once words other form are (words_are words form (sym is))) survey

@@ -9,13 +9,12 @@ use Rattle.mrt_words.specs.FileBytes.{FileBytes}
 use Rattle.mrt_words.specs.Files.{flood_names, task_names}
 use Rattle.mrt_words.specs.declared.form.Form.{Form}
 use Rattle.mrt_words.specs.declared.form.Form.TheVariants.{OfFiles, Survey, Flood}
-use Rattle.mrt_words.specs.Form.{Task, form_of}
+use Rattle.mrt_words.specs.Form.{Task}
 use Rattle.mrt_answer.specs.Forms.{flooded, over}
 use Rattle.mrt_answer.specs.Surveyed.{IsSurveyed}
-use Rattle.mrt_answer.proofs.OneReading.{held_once}
 use Rattle.mrt_cmd.specs.Comes.{Comes, exit_of, of_form, of_words, read_as_form, reading}
 use Rattle.mrt_cmd.proofs.FromFiles.{one_reading}
-use Rattle.mrt_cmd.proofs.WordsOfForm.{read_as}
+use Rattle.mrt_cmd.proofs.WordsOfForm.{spelled_once}
 
 -- the laws of the layer below on answers
 pub record AnswerLaws : Type 0 where
@@ -25,7 +24,7 @@ pub record AnswerLaws : Type 0 where
       → IsSurveyed number nodes other → text ≡ other
 
 one_form : (words : List (List ℕ)) → IsOne (read_as_form words)
-one_form words = one_value_or_exit (read_as_form words) (λ form other one two. held_once form other (form_of words) (read_as words form one) (read_as words other two)) ends no
+one_form words = one_value_or_exit (read_as_form words) (spelled_once words) ends no
   where
     ends : (e d : Exit) → read_as_form words (Err e) → read_as_form words (Err d) → e ≡ d
     ends exits.Usage exits.Usage one two = refl

@@ -1,7 +1,7 @@
 -- What `certify` wrote passes `check` and `upgrade`.
 use Rattle.std.proofs.Common.{◌≡◌, ◌∙◌, ◌≤◌, ◌<◌, ◌∷◌, [], ℕ, Bool, true, false, List, Option, Some, None, Ok, length, refl, sym, ap, subst, inl, inr, arith}
-use Rattle.std.specs.Prelude.{◌&&◌, IsNone, codes, nat_lt, if◌then◌else◌}
-use Rattle.std.specs.Option.{IsSomeAnd, option_map, option_map_or, option_or}
+use Rattle.std.specs.Prelude.{◌&&◌, codes, nat_lt, if◌then◌else◌}
+use Rattle.std.specs.Option.{option_map, option_map_or, option_or}
 use Rattle.std.proofs.lemmas.Bool.{lt-ltb}
 use Rattle.std.proofs.lemmas.Option.{same_Some}
 use Rattle.mrt_io.specs.Holding.{Files}
@@ -133,11 +133,6 @@ written_passes laws files words w =
         ),
       )
     ]
-
--- nothing holds of a form that there is not
-pub no_form : (form : Option Form) (P : Form → Type 0) → IsNone form → IsSomeAnd form P → ⊥
-no_form None P none some = some
-no_form (Some form) P none some = absurd cc
 
 -- what is written to a sink says nothing against the certificate
 pub passed_written : (exit : Exit) → (WritesNothing exit → ⊥) → IsPassed exit

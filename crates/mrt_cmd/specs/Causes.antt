@@ -1,15 +1,16 @@
 -- Why the top call ends with each exit, and what the devices gained: over all forms, as one.
-use Rattle.std.specs.Prelude.{◌≡◌, ◌⊎◌, ◌↔◌, ℕ, List, Option, IsNone, IsSome}
-use Rattle.std.specs.Option.{IsSomeAnd}
+use Rattle.std.specs.Prelude.{◌≡◌, ◌⊎◌, ◌↔◌, ℕ, List, Option, IsSome}
 use Rattle.mrt_io.specs.Counts.{Rose}
 use Rattle.mrt_io.specs.Holding.{Files}
 use Rattle.mrt_io.specs.Writing.{Gained}
 use Rattle.mrt_exit.specs.declared.exit.Exit.{Exit}
 use Rattle.mrt_exit.specs.declared.exit.Exit.TheVariants.{Done, No, Usage, TooLarge, ReadFault, WriteFault, NoMemory}
 use Rattle.mrt_exit.specs.declared.exit.What.TheVariants.{DatabaseFile, UpdatesFile, ProfileFile, CertificateFile, ScriptFile}
-use Rattle.mrt_cmd.specs.Comes.{Comes, FailsAt, GivesText, IsRefused, MissesAt, NamesHeld}
+use Rattle.mrt_cmd.specs.Comes.{AreOfForm, AreOfNoForm, Comes, FailsAt, GivesText, IsRefused, MissesAt, NamesHeld}
 use Rattle.mrt_exit.specs.Exits.{line_of}
-use Rattle.mrt_words.specs.Form.{AsksVerdict, form_of}
+use Rattle.mrt_words.specs.Form.{AsksVerdict}
+use Rattle.mrt_words.specs.Spellings.{AreWordsOf}
+use Rattle.mrt_words.specs.declared.form.Form.{Form}
 use Rattle.mrt_exit.specs.Telling.{GainedLine, IsCutShort}
 use Rattle.mrt_cmd.specs.Run.{IsHealthyForText, IsUndisturbed, WritesNothing}
 
@@ -57,10 +58,10 @@ sink_over healthy_for faults written before now = record {
 -- block of two routers), and no is so where the words ask for a verdict alone; or memory was wanted, which may be at any
 -- place once the words are a form
 abbrev pub HasNoText : List (List ℕ) → ShelfInCall → Exit → Type 0
-HasNoText words shelf Usage = IsNone (form_of words) × shelf.untouched
+HasNoText words shelf Usage = AreOfNoForm words × shelf.untouched
 HasNoText words shelf (ReadFault word) = FailsAt shelf.held words word × Rose shelf.faults shelf.faults_now
-HasNoText words shelf (No rule a b) = IsRefused shelf.held words (No rule a b) × IsSomeAnd (form_of words) AsksVerdict
-HasNoText words shelf NoMemory = IsSome (form_of words)
+HasNoText words shelf (No rule a b) = IsRefused shelf.held words (No rule a b) × AreOfForm AsksVerdict words
+HasNoText words shelf NoMemory = (form : Form) × AreWordsOf form words
 HasNoText words shelf Done = ⊥
 HasNoText words shelf (WriteFault taken) = ⊥
 HasNoText words shelf exit = IsRefused shelf.held words exit
@@ -107,7 +108,7 @@ pub record IsAnswered (words : List (List ℕ)) (shelf : ShelfInCall) (out err :
   pub cause : HasCause words shelf out exit
   pub told : IsTold err exit
   -- the usage, exactly where the words are no form
-  pub usage : (exit ≡ Usage) ↔ IsNone (form_of words)
+  pub usage : (exit ≡ Usage) ↔ AreOfNoForm words
   -- over a shelf that tells what it holds, an exit that speaks of bytes only where each file that the words name is
   -- held
   pub held : IsSome shelf.held → IsOfBytes exit → NamesHeld shelf.held words

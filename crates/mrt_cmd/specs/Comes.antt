@@ -1,6 +1,5 @@
 -- What comes of the words over the files that they name, where memory suffices and no device fails.
-use Rattle.std.specs.Prelude.{◌≡◌, ℕ, List, Option, Result, Ok, Err, IfSome}
-use Rattle.std.specs.Option.{IsSomeAnd}
+use Rattle.std.specs.Prelude.{◌≡◌, ℕ, List, Option, Result, Ok, Err}
 use Rattle.mrt_io.specs.Holding.{Files}
 use Rattle.mrt_exit.specs.Steps.{Step, such, ◌▸◌}
 use Rattle.mrt_exit.specs.declared.exit.Exit.{Exit}
@@ -9,15 +8,22 @@ use Rattle.mrt_words.specs.FileBytes.{FileBytes, AreRead}
 use Rattle.mrt_words.specs.Files.{Names, files_in, files_of, flood_names, task_names, IsFirstMissing, IsRefusedBy, MayFail, AreThere}
 use Rattle.mrt_words.specs.declared.form.Form.{Form}
 use Rattle.mrt_words.specs.declared.form.Form.TheVariants.{OfFiles, Survey, Flood}
-use Rattle.mrt_words.specs.Form.{form_of}
 use Rattle.mrt_words.specs.Spellings.{AreWordsOf}
 use Rattle.mrt_answer.specs.Forms.{flooded, over}
 use Rattle.mrt_answer.specs.Surveyed.{IsSurveyed}
 
+-- the words spell a form of which this holds
+abbrev pub AreOfForm : (Form → Type 0) → List (List ℕ) → Type 0
+AreOfForm Is words = (form : Form) × AreWordsOf form words × Is form
+
+-- the words spell no form
+abbrev pub AreOfNoForm : List (List ℕ) → Type 0
+AreOfNoForm words = (form : Form) → AreWordsOf form words → ⊥
+
 -- the form that the words spell, or the usage, where they spell none
 abbrev pub read_as_form : List (List ℕ) → Step Form
 read_as_form words (Ok form) = AreWordsOf form words
-read_as_form words (Err Usage) = (form : Form) → AreWordsOf form words → ⊥
+read_as_form words (Err Usage) = AreOfNoForm words
 read_as_form words (Err _) = ⊥
 
 -- the bytes of the files of these names, or what comes of reading them, where not all of them are read
@@ -54,12 +60,12 @@ Comes held words exit = (answer : Result (List ℕ) Exit) × of_words held words
 
 -- the words may fail at this one: it names a file, and those before it could be read
 abbrev pub FailsAt : Option Files → List (List ℕ) → ℕ → Type 0
-FailsAt held words word = IsSomeAnd (form_of words) (λ form. MayFail held (files_of form) word)
+FailsAt held words word = AreOfForm (λ form. MayFail held (files_of form) word) words
 
 -- it is told that each file that the words name is held; words of no form name none
 abbrev pub NamesHeld : Option Files → List (List ℕ) → Type 0
-NamesHeld held words = IfSome (form_of words) (λ form. AreThere held (files_of form))
+NamesHeld held words = (form : Form) → AreWordsOf form words → AreThere held (files_of form)
 
 -- it is told that the file that this word names is the first that is not held, and none before it is over its limit
 abbrev pub MissesAt : Option Files → List (List ℕ) → ℕ → Type 0
-MissesAt held words word = IsSomeAnd (form_of words) (λ form. IsFirstMissing held (files_of form) word)
+MissesAt held words word = AreOfForm (λ form. IsFirstMissing held (files_of form) word) words

@@ -1,7 +1,6 @@
 //! The top call.
 
-ghost use Rattle.std.specs.Prelude.{◌≡◌, ◌≤◌, ◌⊎◌, ◌↔◌, ℕ, List, Err, IfErr, IfOk, IsNone, IsSome, Ok, Some, length};
-ghost use Rattle.std.specs.Option.{IsSomeAnd};
+ghost use Rattle.std.specs.Prelude.{◌≡◌, ◌≤◌, ◌⊎◌, ◌↔◌, ℕ, List, Err, IfErr, IfOk, IsSome, Ok, Some, length};
 ghost use Rattle.mrt_io.specs.{Counts.Rose, Holding.Files, Writing.Gained};
 ghost use Rattle.cert_format.specs.declared.error.CertKind.{CertKind};
 ghost use Rattle.flood_core.specs.declared.error.UpdateKind.{UpdateKind};
@@ -9,10 +8,10 @@ ghost use Rattle.flood_verdict.specs.{Alike.IsToldAlike, Says.Says};
 ghost use Rattle.mrt_island.specs.declared.profile_error.ProfileKind.{ProfileKind};
 ghost use Rattle.mrt_exit.specs.{declared.exit.DbKind.DbKind, declared.exit.What.What, Exits.line_of, Telling.GainedLine, Telling.IsCutShort};
 ghost use Rattle.mrt_cmd.specs.Causes.{HasNoText, IsAnswered, shelf_over, sink_over};
-ghost use Rattle.mrt_cmd.specs.Comes.{Comes, FailsAt, GivesText, IsRefused, MissesAt, NamesHeld, of_form};
+ghost use Rattle.mrt_cmd.specs.Comes.{AreOfForm, AreOfNoForm, Comes, FailsAt, GivesText, IsRefused, MissesAt, NamesHeld, of_form};
 ghost use Rattle.mrt_words.specs.Files.{files_in, files_of, flood_names, task_names};
 ghost use Rattle.mrt_words.specs.{declared.form.Form.TheVariants.Flood, declared.form.Form.TheVariants.OfFiles, Reading.ReadsAs};
-ghost use Rattle.mrt_words.specs.Form.{AsksVerdict, IsSurvey, IsWithin, form_of};
+ghost use Rattle.mrt_words.specs.Form.{AsksVerdict, IsSurvey, IsWithin};
 ghost use Rattle.mrt_cmd.specs.Headline.{ChecksWritten, FloodsAlike, IsPassed};
 ghost use Rattle.mrt_answer.specs.TextBytes.{HasText, IsTextOf};
 ghost use Rattle.mrt_cmd.specs.Run.{IsExitOfSurvey, IsHealthyForText, IsUndisturbed, WritesNothing};
@@ -51,9 +50,8 @@ pub fn run<F: Shelf, K: Sink, E: Sink>(
         (sink_over K.healthy_for K.faults K.written out.old out.new)
         (sink_over E.healthy_for E.faults E.written err.old err.new) result }
 
-    // `Usage` comes just where the words are none of the forms (`words_spell_one_form` has the table of these), and nothing is read
-    // then.
-    ensures usage { (result ≡ Exit.Usage) ↔ IsNone (form_of words.now) }
+    // `Usage` comes just where the words spell none of the forms, and nothing is read then.
+    ensures usage { (result ≡ Exit.Usage) ↔ AreOfNoForm words.now }
     ensures usage_reads_nothing { result ≡ Exit.Usage → shelf.new ≡ shelf.old }
 
     // `ReadFault` comes only where the shelf's count of faults rose in this call; over a healthy shelf that tells what it holds
@@ -88,7 +86,7 @@ pub fn run<F: Shelf, K: Sink, E: Sink>(
     ensures no { (rule a b : ℕ) → result ≡ Exit.No rule a b
         → IsRefused (F.held shelf.old) words.now (Exit.No rule a b) }
     ensures no_from_a_verdict_alone { (rule a b : ℕ) → result ≡ Exit.No rule a b
-        → IsSomeAnd (form_of words.now) AsksVerdict }
+        → AreOfForm AsksVerdict words.now }
 
     // On `Done` the output gained just the text; on `WriteFault` it was cut short in it, and it has no fault where it is healthy for
     // the text; else nothing was written to it.
@@ -125,8 +123,8 @@ pub fn run<F: Shelf, K: Sink, E: Sink>(
         × IsToldAlike (Says alike.held.settings) alike.held.updates alike.held.script alike.compares text }
 
     // A survey is never refused, and it reads nothing.
-    ensures survey { IsSomeAnd (form_of words.now) IsSurvey → IsExitOfSurvey result }
-    ensures survey_reads_nothing { IsSomeAnd (form_of words.now) IsSurvey → shelf.new ≡ shelf.old }
+    ensures survey { AreOfForm IsSurvey words.now → IsExitOfSurvey result }
+    ensures survey_reads_nothing { AreOfForm IsSurvey words.now → shelf.new ≡ shelf.old }
 
     // On `Done` nothing is put to `err`, else the exit's line, as far as `err` takes it.
     ensures silent { result ≡ Exit.Done → err.new ≡ err.old }
@@ -154,8 +152,8 @@ pub fn text_for<F: Shelf>(alloc: Global, words: &[Word], shelf: &mut F) -> Resul
     ensures no_fault { F.healthy shelf.old → NamesHeld (F.held shelf.old) words.now
         → F.faults shelf.new ≡ F.faults shelf.old }
     ensures stays_healthy { F.healthy shelf.old → NamesHeld (F.held shelf.old) words.now → F.healthy shelf.new }
-    ensures survey { IsSomeAnd (form_of words.now) IsSurvey → IfErr result (λ exit. exit ≡ Exit.NoMemory) }
-    ensures survey_reads_nothing { IsSomeAnd (form_of words.now) IsSurvey → shelf.new ≡ shelf.old }
+    ensures survey { AreOfForm IsSurvey words.now → IfErr result (λ exit. exit ≡ Exit.NoMemory) }
+    ensures survey_reads_nothing { AreOfForm IsSurvey words.now → shelf.new ≡ shelf.old }
 {
     match read_form(words) {
         None => Err(Exit::Usage),

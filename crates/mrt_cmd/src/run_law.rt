@@ -2,11 +2,10 @@
 
 ghost use Rattle.std.specs.Prelude.{◌≡◌, ◌<◌, ◌^◌, ℕ, List, Option, Result, Some};
 ghost use Rattle.std.specs.List.{AllByRecursion};
-ghost use Rattle.std.specs.Option.{IsSomeAnd};
 ghost use Rattle.mrt_io.specs.Holding.{Files};
 ghost use Rattle.mrt_exit.specs.{Steps.IsOne, declared.exit.Exit.Exit};
-ghost use Rattle.mrt_cmd.specs.Comes.{Comes, GivesText, IsRefused, of_words};
-ghost use Rattle.mrt_words.specs.Form.{AsksVerdict, form_of};
+ghost use Rattle.mrt_cmd.specs.Comes.{AreOfForm, Comes, GivesText, IsRefused, of_words};
+ghost use Rattle.mrt_words.specs.Form.{AsksVerdict};
 ghost use Rattle.flood_verdict.specs.{Alike.IsToldAlike, Says.Says};
 ghost use Rattle.mrt_cmd.specs.Headline.{ChecksWritten, FloodsAlike};
 
@@ -49,7 +48,7 @@ pub fn what_was_written_passes()
 pub fn only_a_verdict_says_no()
     ensures { (held : Option Files) (words : List (List ℕ)) (rule a b : ℕ)
         → IsRefused held words (Exit.No rule a b)
-        → IsSomeAnd (form_of words) AsksVerdict }
+        → AreOfForm AsksVerdict words }
 {}
 
 /// A law: routers that have to tell the same are told so. In the text that the words give, no line that compares two routers to

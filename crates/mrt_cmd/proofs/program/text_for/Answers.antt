@@ -1,8 +1,10 @@
-use Rattle.std.proofs.Common.{Err, Option, inl, inr, refl, subst}
+use Rattle.std.proofs.Common.{◌≡◌, ℕ, List, Option, None, Err, inl, inr, refl, subst}
 use Rattle.std.specs.Prelude.{IsNone}
 use Rattle.mrt_words.specs.declared.form.Form.{Form}
+use Rattle.mrt_words.specs.Form.{form_of}
 use Rattle.mrt_exit.specs.declared.exit.Exit.TheVariants.{Usage}
 use Rattle.mrt_cmd.specs.Causes.{shelf_over}
+use Rattle.mrt_cmd.specs.Comes.{AreOfNoForm}
 use Rattle.mrt_cmd.proofs.Causes.{refused_over_words}
 use Rattle.mrt_cmd.proofs.OfWords.{comes_of_words, survey_of_words, text_of_words, there_of_words}
 use Rattle.mrt_cmd.proofs.WordsOfForm.{none_spelled}
@@ -54,6 +56,14 @@ pub returns-in-Some-clause-unchanged : goal.returns-in-Some-clause-unchanged
 returns-in-Some-clause-unchanged g c = c.text_of.ensures.reads.unchanged
 
 -- Words of no form come to the usage.
+unspelled : (words : List (List ℕ)) → None ≡ form_of words → AreOfNoForm words
+unspelled words is = none_spelled words (subst (λ (o : Option Form). IsNone o) is refl)
+
+pub returns-in-None-clause-cause : goal.returns-in-None-clause-cause
+returns-in-None-clause-cause g c = (unspelled c.args.words.now c.in-None.ensures.form, refl)
+
+pub returns-in-None-clause-survey : goal.returns-in-None-clause-survey
+returns-in-None-clause-survey g c = λ surveys. absurd (unspelled c.args.words.now c.in-None.ensures.form surveys.0 surveys.1)
+
 pub returns-in-None-clause-comes : goal.returns-in-None-clause-comes
-returns-in-None-clause-comes g c = λ spared.
-    inl (Err Usage, inl (none_spelled c.args.words.now (subst (λ (o : Option Form). IsNone o) c.in-None.ensures.form refl)), refl)
+returns-in-None-clause-comes g c = λ spared. inl (Err Usage, inl (unspelled c.args.words.now c.in-None.ensures.form), refl)
