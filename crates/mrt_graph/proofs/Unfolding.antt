@@ -93,7 +93,7 @@ module _ (nodes : List CertNode) (near : List Row) (u : IsUnfoldable nodes near)
       let wide : 65535 * (n - 1) ≤ 65535 * 65535 = omega (arith, u.few_nodes) in
       omega (arith, u.a_row_each, few_set (related_pairs c), pairs_length c, narrow, wide)
 
-  near_read : (s t : ℕ) → s < n → t < n → s ≢ t → are_unrelated c s t ≡ false → slice_get near (place_of_near c s t) ≡ Some (near_row_of c near s t)
+  pub near_read : (s t : ℕ) → s < n → t < n → s ≢ t → are_unrelated c s t ≡ false → slice_get near (place_of_near c s t) ≡ Some (near_row_of c near s t)
   near_read s t s_within t_within two is = slice_get-get_or near (place_of_near c s t) no_row (near_there s t s_within t_within two is)
 
   keeps : (P : Row → Type 0) → AllByRecursion P near → (s t : ℕ) → s < n → t < n → s ≢ t → are_unrelated c s t ≡ false → P (near_row_of c near s t)

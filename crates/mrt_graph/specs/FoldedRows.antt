@@ -1,5 +1,5 @@
 -- The rows of a certificate that follow from its nodes and from the rows of related ones, which stand by themselves.
-use Rattle.std.specs.Prelude.{◌≡◌, ◌≢◌, ◌<◌, ◌≤◌, ℕ, zero, suc, true, false, List, [], Option, Some, None, length, slice_index_or, if◌then◌else◌}
+use Rattle.std.specs.Prelude.{◌≡◌, ◌<◌, ◌≤◌, ℕ, zero, suc, true, false, List, [], Option, Some, None, length, slice_index_or, if◌then◌else◌}
 use Rattle.std.specs.List.{AllByRecursion}
 use Rattle.std.specs.Option.{IfSome, option_and_then, option_map_or}
 use Rattle.mrt_graph.specs.declared.cert.CertLink.{CertLink}
@@ -69,13 +69,6 @@ pub record IsFolded (nodes : List CertNode) (links : List CertLink) (near : List
   pub few_links : length links ≤ 65535
   pub links_kept : AllByRecursion (IsCertLink (length nodes)) links
   pub rows_kept : AllByRecursion (IsCertRow (length links)) near
-
--- s and t are two nodes that are related
-pub record AreRelated (nodes : List CertNode) (s t : ℕ) : Type 0 where
-  pub source : s < length nodes
-  pub target : t < length nodes
-  pub different : s ≢ t
-  pub related : are_unrelated (certificate_of nodes [] []) s t ≡ false
 
 -- what is held with an index keeps that, and the index is that of its nodes
 pub record IsIndexed (nodes : List CertNode) (links : List CertLink) (near : List Row) (kin : Kin) : Type 0 where

@@ -1,5 +1,5 @@
 -- Nodes' relatives by number: the members of a node's block, its head and its children, these two in other blocks.
-use Rattle.std.specs.Prelude.{◌≡◌, ◌==◌, ◌<◌, ◌≤◌, ◌+◌, ◌-◌, ◌&&◌, ℕ, zero, suc, Bool, false, List, Option, Some, None, not, length, map, slice_get, slice_index_or, if◌then◌else◌}
+use Rattle.std.specs.Prelude.{◌≡◌, ◌==◌, ◌<◌, ◌≤◌, ◌+◌, ◌-◌, ◌&&◌, ℕ, zero, suc, Bool, false, List, Option, Some, None, nat_lt, not, length, map, slice_get, slice_index_or, if◌then◌else◌}
 use Rattle.std.specs.Option.{option_map}
 use Rattle.mrt_graph.specs.declared.cert.CertNode.{CertNode}
 use Rattle.mrt_graph.specs.BothThere.{are_equal}
@@ -35,6 +35,10 @@ is_upper heads s v = is_child heads v s && not (is_child heads s v)
 abbrev pub IsUpper : List ℕ → ℕ → Option ℕ → Type 0
 IsUpper heads s (Some head) = (head < length heads) × ((v : ℕ) → v < length heads → is_upper heads s v ≡ (v == head))
 IsUpper heads s None = (v : ℕ) → v < length heads → is_upper heads s v ≡ false
+
+-- of the nodes there is one such v before t where a number is below t, and else none
+abbrev pub IsUpperNumber : List ℕ → ℕ → ℕ → Type 0
+IsUpperNumber heads s number = (t : ℕ) → t < length heads → count_below (is_upper heads s) t ≡ (if nat_lt number t then 1 else 0)
 
 -- how many nodes below t are related to s, itself among them where it is one
 abbrev pub kin_below : Kin → ℕ → ℕ → ℕ

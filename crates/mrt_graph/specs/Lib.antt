@@ -2,6 +2,7 @@ pub mod Accepted
 pub mod AcceptedFor
 pub mod Alternate
 pub mod Apart
+pub mod BlockPlaces
 pub mod BothThere
 pub mod CertWords
 pub mod Certificate
@@ -28,6 +29,7 @@ pub mod Leads
 pub mod NewGraph
 pub mod NodeIds
 pub mod NodeOrder
+pub mod NodeRows
 pub mod Places
 pub mod Reachable
 pub mod Reaches

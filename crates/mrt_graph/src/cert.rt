@@ -5,6 +5,7 @@ ghost use Rattle.mrt_graph.specs.RowPlace.{place_of_row};
 
 use crate::gadag::Place;
 use crate::node_id::NodeId;
+use crate::node_rows::NodeRows;
 use crate::numbers::{LinkNo, NodeNo};
 use crate::relatives::Relatives;
 use crate::unfolded::unfolded_row;
@@ -293,6 +294,17 @@ impl Cert {
         ensures within { IsCertLink (length self.now.nodes) result }
     {
         self.links[e.get() as usize]
+    }
+
+    /// The rows of `s`.
+    pub fn rows_of(&self, s: NodeNo) -> NodeRows<'_>
+        requires { s < length self.now.nodes }
+        ensures { result ≡ record { cert = self.now; node = s } }
+    {
+        match &self.relatives {
+            None => NodeRows::new(self, &self.rows, None, s),
+            Some(relatives) => NodeRows::new(self, &self.rows, Some(relatives), s),
+        }
     }
 
     /// The row of `s` for `t`.

@@ -1,14 +1,14 @@
 //! An index of the nodes that are related to each one.
 
-ghost use Rattle.std.specs.Prelude.{◌≡◌, ◌≢◌, ◌<◌, ◌≤◌, ◌-◌, IfOk, if◌then◌else◌, length, nat_lt, not, slice_index_or};
+ghost use Rattle.std.specs.Prelude.{◌≡◌, ◌≢◌, ◌<◌, ◌≤◌, ◌-◌, IfOk, IfSome, Some, if◌then◌else◌, length, nat_lt, not, slice_get, slice_index_or};
 ghost use Rattle.std.specs.List.{AllByRecursion};
-ghost use Rattle.mrt_graph.specs.Certificate.{Certificate, IsCertNode};
-ghost use Rattle.mrt_graph.specs.Groups.{count_below, with_key};
-ghost use Rattle.mrt_graph.specs.Kin.{AreStarts, IsUpper, Kin, is_upper, kin_below, kin_of, outer_head};
+ghost use Rattle.mrt_graph.specs.{BlockPlaces.AreBlockPlaces, Certificate.Certificate, Certificate.IsCertNode};
+ghost use Rattle.mrt_graph.specs.Groups.{count_below, has_key, with_key};
+ghost use Rattle.mrt_graph.specs.Kin.{AreStarts, IsUpper, IsUpperNumber, Kin, is_upper, kin_below, kin_of, outer_head};
 ghost use Rattle.mrt_graph.specs.{Related.are_unrelated, RelatedPairs.place_of_near, RelatedPairs.related_pairs, RelatedPairs.set_marks};
 
 use crate::cert::CertNode;
-use crate::groups::Groups;
+use crate::groups::{Groups, count_lower};
 use crate::no_memory::NoMemory;
 use crate::numbers::NodeNo;
 use std::alloc::Global;
@@ -73,6 +73,32 @@ impl Relatives {
         self.begins[s.get() as usize] as usize + rank - itself
     }
 
+    /// Where the rows of `s` for the nodes of its block stand.
+    pub fn block_places(&self, s: NodeNo) -> BlockPlaces<'_>
+        requires { s < length self.now.blocks }
+        ensures places { AreBlockPlaces result }
+        ensures index { result.relatives.now ≡ self.now }
+        ensures node { result.node ≡ s }
+    {
+        BlockPlaces {
+            relatives: self,
+            node: s,
+            block: self.members.key(s),
+            upper: upper_number(&self.children, s),
+            children: self.children.of(s.get()),
+            begin: self.begins[s.get() as usize],
+        }
+    }
+
+    /// How many nodes of a block stand before a node of it; none where the node lies in another one.
+    fn rank(&self, block: u16, t: NodeNo) -> Option<usize>
+        requires { t < length self.now.blocks }
+        ensures own { IfSome result (λ _. slice_get self.now.blocks t ≡ Some block) }
+        ensures value { IfSome result (λ rank. rank ≡ count_below (has_key self.now.blocks block) t) }
+    {
+        self.members.rank(block, t)
+    }
+
     /// The nodes of a node's block, by ascending number.
     pub fn members(&self, s: NodeNo) -> &[NodeNo]
         requires { s < length self.now.blocks }
@@ -110,6 +136,55 @@ impl Relatives {
             return true;
         }
         self.children.key(t) == s.get()
+    }
+}
+
+/// Where the rows of one node stand among those of related nodes: what is read once for all of them.
+#[derive(Clone, Copy)]
+pub struct BlockPlaces<'a> {
+    pub(crate) relatives: &'a Relatives,
+    pub(crate) node: NodeNo,
+    block: u16,
+    /// Its head in another block, unless it is a child of the node; as many as there are nodes, where it has none.
+    upper: u16,
+    children: &'a [NodeNo],
+    begin: u32,
+}
+
+impl BlockPlaces<'_> {
+    ghost use Rattle.std.specs.Prelude.{◌≡◌, ◌≢◌, ◌<◌, IfSome, false, length};
+    ghost use Rattle.mrt_graph.specs.{BlockPlaces.AreBlockPlaces, Certificate.Certificate, Groups.count_below, Groups.has_key};
+    ghost use Rattle.mrt_graph.specs.{Kin.kin_of, Related.are_unrelated, RelatedPairs.place_of_near};
+
+    /// The place of the node's row for `t`, where that lies in its block; none elsewhere.
+    #[inline(always)]
+    pub fn place(&self, t: NodeNo) -> Option<usize>
+        requires places { AreBlockPlaces self.now }
+        requires target { t < length self.now.relatives.now.blocks }
+        requires different { self.now.node ≢ t }
+        ensures related { IfSome result (λ _. (c : Certificate) → kin_of c.nodes ≡ self.now.relatives.now
+            → are_unrelated c self.now.node t ≡ false) }
+        ensures value { IfSome result (λ place. (c : Certificate) → kin_of c.nodes ≡ self.now.relatives.now
+            → place ≡ place_of_near c self.now.node t) }
+    {
+        match self.relatives.rank(self.block, t) {
+            Some(rank) => Some(self.place_after(rank, t)),
+            None => None,
+        }
+    }
+
+    /// The place of the row for a node of the block that has so many of the block before it.
+    #[inline(always)]
+    fn place_after(&self, rank: usize, t: NodeNo) -> usize
+        requires places { AreBlockPlaces self.now }
+        requires target { t < length self.now.relatives.now.blocks }
+        requires different { self.now.node ≢ t }
+        requires rank { rank ≡ count_below (has_key self.now.relatives.now.blocks self.now.block) t }
+        ensures { (c : Certificate) → kin_of c.nodes ≡ self.now.relatives.now → result ≡ place_of_near c self.now.node t }
+    {
+        let upper = one_if_less(self.upper, t.get());
+        let before = rank + upper + count_lower(self.children, t);
+        self.begin as usize + before - one_if_below(self.node, t)
     }
 }
 
@@ -219,10 +294,27 @@ fn upper_before(children: &Groups, s: NodeNo, t: NodeNo) -> usize
 fn one_if_below(a: NodeNo, b: NodeNo) -> usize
     ensures { result ≡ (if nat_lt a b then 1 else 0) }
 {
-    if a.get() < b.get() {
+    one_if_less(a.get(), b.get())
+}
+
+fn one_if_less(a: u16, b: u16) -> usize
+    ensures { result ≡ (if nat_lt a b then 1 else 0) }
+{
+    if a < b {
         return 1;
     }
     0
+}
+
+/// That head; as many as there are nodes, where there is none.
+fn upper_number(children: &Groups, s: NodeNo) -> u16
+    requires { s < length children.now }
+    ensures { IsUpperNumber children.now s result }
+{
+    match upper(children, s) {
+        Some(head) => head.get(),
+        None => children.len() as u16,
+    }
 }
 
 /// The head of a node that lies in another block, unless it is a child of the node.

@@ -1,9 +1,9 @@
 //! The rows that follow from those of related nodes.
 
 ghost use Rattle.std.specs.Prelude.{◌≡◌, ◌≢◌, ◌<◌, ◌≤◌, [], Some, length};
-ghost use Rattle.std.specs.List.{AllByRecursion};
+ghost use Rattle.std.specs.{List.AllByRecursion, Option.option_map};
 ghost use Rattle.mrt_graph.specs.{Certificate.IsCertNode, Certificate.certificate_of, Kin.kin_of};
-ghost use Rattle.mrt_graph.specs.FoldedRows.{AreRelated, IsUnfoldable, near_row_of, unfolded_row, way_of};
+ghost use Rattle.mrt_graph.specs.{FoldedRows.IsUnfoldable, FoldedRows.unfolded_row, FoldedRows.way_of, RelatedPairs.place_of_near};
 
 use crate::cert::{CertNode, Row};
 use crate::numbers::NodeNo;
@@ -12,7 +12,7 @@ use crate::relatives::Relatives;
 /// The row of `s` for `t`, where those of related nodes are `near`.
 ///
 /// It takes as many steps as nodes lie between in the chain of heads of `t`.
-#[inline(never)]
+#[inline(always)]
 pub fn unfolded_row(
     relatives: &Relatives,
     nodes: &[CertNode],
@@ -27,21 +27,32 @@ pub fn unfolded_row(
     requires different { s ≢ t }
     ensures { result ≡ unfolded_row (certificate_of nodes.now [] []) near.now s t }
 {
+    let row = near[near_place(relatives, nodes, near, s, t)];
     if relatives.are_related(s, t) {
-        return near_row(relatives, nodes, near, s, t);
+        return row;
     }
-    let by = waypoint(relatives, nodes, s, t);
-    near_row(relatives, nodes, near, s, by).carried()
+    row.carried()
 }
 
-/// The row of `s` for the related node `t`.
-fn near_row(relatives: &Relatives, _nodes: &[CertNode], near: &[Row], s: NodeNo, t: NodeNo) -> Row
-    requires rows { IsUnfoldable _nodes.now near.now }
-    requires index { relatives.now ≡ kin_of _nodes.now }
-    requires two { AreRelated _nodes.now s t }
-    ensures { result ≡ near_row_of (certificate_of _nodes.now [] []) near.now s t }
+/// The place of the row whose links `s` has for `t`. A number comes back in a register, as a row would not, so this alone is
+/// called where rows are read.
+#[inline(never)]
+fn near_place(
+    relatives: &Relatives,
+    nodes: &[CertNode],
+    _near: &[Row],
+    s: NodeNo,
+    t: NodeNo,
+) -> usize
+    requires rows { IsUnfoldable nodes.now _near.now }
+    requires index { relatives.now ≡ kin_of nodes.now }
+    requires source { s < length nodes.now }
+    requires target { t < length nodes.now }
+    requires different { s ≢ t }
+    ensures place { let c = certificate_of nodes.now [] [] in option_map (place_of_near c s) (way_of c s t) ≡ Some result }
+    ensures within { result < length _near.now }
 {
-    near[relatives.place(s, t)]
+    relatives.place(s, waypoint(relatives, nodes, s, t))
 }
 
 /// The node for which `s` has the links that it has for `t`.
