@@ -1,8 +1,10 @@
 -- The rows of a source that are not among those of its relatives keep the rules on rows.
-use Rattle.std.proofs.Common.{◌≡◌, ◌⊎◌, ◌∙◌, ◌<◌, ◌+◌, ◌||◌, ◌++◌, ℕ, Bool, true, false, not, List, Option, Some, None, get_or, length, inl, inr, refl, sym, ap, arith}
+use Rattle.std.proofs.Common.{◌≡◌, ◌⊎◌, ◌∙◌, ◌<◌, ◌+◌, ◌||◌, ◌++◌, ℕ, Bool, true, false, not, List, Option, Some, None, get_or, length, slice_get, take, inl, inr, refl, sym, ap, subst, append_assoc, arith}
 use Rattle.std.specs.Prelude.{Contains, ◌∷◌, []}
 use Rattle.std.specs.Option.{option_map_or, option_to_list}
 use Rattle.std.proofs.lemmas.Bool.{cases_Bool, cases_eq, eq-eqb, eqb-true, false≢true}
+use Rattle.std.proofs.lemmas.List.{take_more}
+use Rattle.std.proofs.lemmas.Option.{get_or_from_slice_get, slice_get_within}
 use Rattle.cert_checker.specs.declared.fault.Fault.{Fault}
 use Rattle.cert_checker.specs.RowFaults.{AndSome, Before, IsAfter, Kept, row_test}
 use Rattle.mrt_graph.specs.Certificate.{Certificate, row_of}
@@ -48,16 +50,22 @@ module _ (test : Rule → ℕ → ℕ → Bool) (c : Certificate) (s : ℕ) (s_i
   starts some never = widened test (length c.nodes) (Before c s) (AndSome c s some) (λ x y has. elim has [ inl old ↦ inl old | inr own ↦ absurd (never y own.1) ])
 
   -- with one more
-  pub goes_on : (some more : ℕ → Type 0) (t : ℕ) → t < length c.nodes → ((y : ℕ) → more y → some y ⊎ (y ≡ t)) → (before after : Option Fault) → Known some before
+  goes_on : (some more : ℕ → Type 0) (t : ℕ) → t < length c.nodes → ((y : ℕ) → more y → some y ⊎ (y ≡ t)) → (before after : Option Fault) → Known some before
       → IsAfter test s t before after → Known more after
   goes_on some more t t_in from = judged_more test (length c.nodes) (AndSome c s some) (AndSome c s more) s t s_in t_in (λ x y has. elim has [
     | inl old ↦ inl (inl old)
     | inr own ↦ elim (from y own.1) [ inl old ↦ inl (inr (own.0, old)) | inr last ↦ inr (own.0, last) ]
   ])
 
-  pub listed_more : (listed : List ℕ) (t : ℕ) → t < length c.nodes → (before after : Option Fault) → Known (Contains listed) before → IsAfter test s t before after
-      → Known (Contains (listed ++ t ∷ [])) after
-  listed_more listed t t_in = goes_on (Contains listed) (Contains (listed ++ t ∷ [])) t t_in (in_more listed t)
+  -- with the next one of a list
+  pub listed_more : (listed xs : List ℕ) (k t : ℕ) → t < length c.nodes → slice_get xs k ≡ Some t → (before after : Option Fault)
+      → Known (Contains (listed ++ take k xs)) before → IsAfter test s t before after → Known (Contains (listed ++ take (k + 1) xs)) after
+  listed_more listed xs k t t_in at before after known is =
+      let more : (listed ++ take k xs) ++ t ∷ [] ≡ listed ++ take (k + 1) xs =
+      append_assoc listed (take k xs) (t ∷ []) ∙ ap (λ (x : ℕ). listed ++ (take k xs ++ x ∷ [])) (sym (get_or_from_slice_get xs k t t at))
+      ∙ ap (λ (ys : List ℕ). listed ++ ys) (sym (take_more xs k t (slice_get_within xs k t at))) in
+      subst (λ (ys : List ℕ). Known (Contains ys) after) more
+      (goes_on (Contains (listed ++ take k xs)) (Contains ((listed ++ take k xs) ++ t ∷ [])) t t_in (in_more (listed ++ take k xs) t) before after known is)
 
   -- after the last, where what is left keeps each rule
   pub ends : (some : ℕ → Type 0) → ((y : ℕ) → y < length c.nodes → some y ⊎ ((rule : Rule) → test rule s y ≡ true)) → (kept : Option Fault) → Known some kept

@@ -2,10 +2,13 @@
 use Rattle.std.proofs.Common.{◌≡◌, ◌≢◌, ◌<◌, ◌+◌, ◌∙◌, ◌||◌, ℕ, Bool, true, false, not, Option, Some, refl, sym, ap, subst, inl, inr, arith}
 use Rattle.std.proofs.lemmas.Bool.{cases_Bool, ne_eqb}
 use Rattle.std.specs.Option.{option_map_or}
+use Rattle.cert_checker.specs.RowAt.{rule_by}
 use Rattle.cert_checker.specs.RowFaults.{FailsFirst, row_test}
 use Rattle.mrt_graph.specs.declared.cert.Row.{Row}
 use Rattle.mrt_graph.specs.declared.cert.Tag.{Tag}
+use Rattle.mrt_graph.specs.declared.cert.Tag.TheVariants.{Sole, Head, Top, Below, Above, Unordered, Carried}
 use Rattle.mrt_graph.specs.Certificate.{Certificate, row_of}
+use Rattle.mrt_graph.specs.Leads.{leads}
 use Rattle.mrt_graph.specs.RowRules.{row_rule, rows_tagged}
 use Rattle.mrt_graph.specs.Rules.{Rule, TagRule, rule_number}
 use Rattle.mrt_graph.specs.Tags.{same_tag, tag_number}
@@ -36,15 +39,26 @@ module _ (g : Topology) (root : ℕ) (c : Certificate) (s t : ℕ) (row : Row) (
   ]
 
   -- the row breaks the rule of its tag, which alone asks anything of it
-  pub breaks_tag : (number : ℕ) → number ≡ tag_number row.tag → row_rule row.tag g.links c root s t row ≡ false
+  pub breaks_tag : (number : ℕ) → number ≡ tag_number row.tag
+      → (blue red : Option ℕ) → blue ≡ leads g.links row.blue s → red ≡ leads g.links row.red s → rule_by row.tag c root s t row blue red ≡ false
       → FailsFirst (λ rule. row_test g root c rule s t) (7 + number)
-  breaks_tag number is breaks = record {
+  breaks_tag number is blue red blue_leads red_leads breaks = record {
     rule = TagRule row.tag;
     numbered = ap (λ (k : ℕ). 7 + k) (sym is);
-    fails = own_tag ∙ breaks;
+    fails = own_tag ∙ sym (by_leads row.tag) ∙ sym (ap (λ (o : Option ℕ). rule_by row.tag c root s t row o (leads g.links row.red s)) blue_leads)
+        ∙ sym (ap (λ (o : Option ℕ). rule_by row.tag c root s t row blue o) red_leads) ∙ breaks;
     earlier = go;
   }
     where
+      by_leads : (T : Tag) → rule_by T c root s t row (leads g.links row.blue s) (leads g.links row.red s) ≡ row_rule T g.links c root s t row
+      by_leads Sole = refl
+      by_leads Head = refl
+      by_leads Top = refl
+      by_leads Below = refl
+      by_leads Above = refl
+      by_leads Unordered = refl
+      by_leads Carried = refl
+
       go : (other : Rule) → rule_number other < 7 + number → row_test g root c other s t ≡ true
       go (TagRule T) less =
           other_tag T (ne_eqb (tag_number row.tag) (tag_number T) (λ same. omega (arith, less, same, is)))

@@ -7,10 +7,11 @@ use Rattle.mrt_graph.specs.Certificate.{Certificate}
 use Rattle.mrt_graph.specs.Leads.{leads}
 use Rattle.mrt_graph.specs.Topology.{Topology}
 
--- a node of the certificate, with its words on it
+-- a node of the certificate, with its words on it and its rows
 pub record IsKnown (c : Certificate) (node : KnownNode) : Type 0 where
   pub within : node.number < length c.nodes
   pub words : slice_get c.nodes node.number ≡ Some node.words
+  pub rows : node.rows ≡ record { cert = c; node = node.number }
 
 -- the link leads from s to a node, and that node is known
 pub record IsHop (g : Topology) (c : Certificate) (s : ℕ) (hop : Hop) : Type 0 where

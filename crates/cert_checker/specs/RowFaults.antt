@@ -1,5 +1,6 @@
 -- What is known of the rules on rows after some of the rows.
-use Rattle.std.specs.Prelude.{◌≡◌, ◌⊎◌, ◌<◌, ◌==◌, ◌&&◌, ◌||◌, ℕ, Bool, true, false, Option, Some, None, length, nat_lt, if◌then◌else◌}
+use Rattle.std.specs.Prelude.{◌≡◌, ◌⊎◌, ◌<◌, ◌==◌, ◌&&◌, ◌||◌, ℕ, Bool, true, false, List, Option, Some, None, length, nat_lt, if◌then◌else◌}
+use Rattle.std.specs.List.{range_with_len}
 use Rattle.std.specs.Option.{MatchOption}
 use Rattle.cert_checker.specs.declared.fault.Fault.{Fault}
 use Rattle.mrt_graph.specs.Certificate.{Certificate}
@@ -19,10 +20,6 @@ pub record FailsFirst (test : Rule → Bool) (number : ℕ) : Type 0 where
   pub numbered : rule_number rule ≡ number
   pub fails : test rule ≡ false
   pub earlier : (other : Rule) → rule_number other < number → test other ≡ true
-
--- the first rule that fails at a row; none where each holds
-abbrev pub JudgedRow : (Rule → Bool) → Option ℕ → Type 0
-JudgedRow test judged = MatchOption judged ((rule : Rule) → test rule ≡ true) (FailsFirst test)
 
 -- a and b come before x and y
 abbrev pub Precedes : ℕ → ℕ → ℕ → ℕ → Type 0
@@ -71,3 +68,8 @@ abbrev pub IsAfter : (Rule → ℕ → ℕ → Bool) → ℕ → ℕ → Option 
 IsAfter test s t before after =
     (((rule : Rule) → test rule s t ≡ true) × (after ≡ before))
     ⊎ ((number : ℕ) × FailsFirst (λ rule. test rule s t) number × (after ≡ Some (first_of before (record { rule = number; a = s; b = t }))))
+
+-- the nodes that are told; all n of them, where none are
+abbrev pub targets_of : ℕ → Option (List ℕ) → List ℕ
+targets_of n None = range_with_len 0 n
+targets_of n (Some told) = told

@@ -23,7 +23,6 @@ use crate::row_words::{is_closing_link, is_plain_link, is_sole_link};
 use mrt_graph::{Cert, LinkNo, NodeNo, Row, Tag};
 
 /// Whether the links of a row of `s` for `t` lead where its tag asks, to `blue` and `red`.
-#[inline(always)]
 pub(crate) fn keeps_near_rule(
     c: &Cert,
     s: &KnownNode,
@@ -46,7 +45,6 @@ pub(crate) fn keeps_near_rule(
     }
 }
 
-#[inline(always)]
 fn sole(c: &Cert, t: NodeNo, row: &Row, blue: &KnownNode) -> bool
     requires { row.now.blue < length c.now.links }
     ensures { result ≡ sole_row c.now t row.now blue.now.number }
@@ -54,7 +52,6 @@ fn sole(c: &Cert, t: NodeNo, row: &Row, blue: &KnownNode) -> bool
     row.blue == row.red && is_sole_link(c, row.blue) && blue.number == t
 }
 
-#[inline(always)]
 fn head(c: &Cert, s: &KnownNode, t: NodeNo, row: &Row, blue: &KnownNode, red: &KnownNode) -> bool
     requires { IsNearRowAt c.now s.now t row.now blue.now red.now }
     ensures { result ≡ head_row c.now s.now.number t row.now blue.now.number red.now.number }
@@ -64,7 +61,6 @@ fn head(c: &Cert, s: &KnownNode, t: NodeNo, row: &Row, blue: &KnownNode, red: &K
         && (is_lower_beside(c, s, red) || is_plain_link(c, row.red) && red.number == t)
 }
 
-#[inline(always)]
 fn top(c: &Cert, s: &KnownNode, t: NodeNo, row: &Row, blue: &KnownNode, red: &KnownNode) -> bool
     requires { IsNearRowAt c.now s.now t row.now blue.now red.now }
     ensures { result ≡ top_row c.now s.now.number t row.now blue.now.number red.now.number }
@@ -76,7 +72,6 @@ fn top(c: &Cert, s: &KnownNode, t: NodeNo, row: &Row, blue: &KnownNode, red: &Kn
         && (red.number == t || has_tag(c, red, t, Tag::Above))
 }
 
-#[inline(always)]
 fn below(c: &Cert, s: &KnownNode, t: NodeNo, row: &Row, blue: &KnownNode, red: &KnownNode) -> bool
     requires { IsNearRowAt c.now s.now t row.now blue.now red.now }
     ensures { result ≡ below_row c.now s.now.number t row.now blue.now.number red.now.number }
@@ -87,7 +82,6 @@ fn below(c: &Cert, s: &KnownNode, t: NodeNo, row: &Row, blue: &KnownNode, red: &
         && (is_lower_tagged(c, s, t, Tag::Below, red) || is_plain_home(c, row.red, s, red))
 }
 
-#[inline(always)]
 fn above(c: &Cert, s: &KnownNode, t: NodeNo, row: &Row, blue: &KnownNode, red: &KnownNode) -> bool
     requires { IsNearRowAt c.now s.now t row.now blue.now red.now }
     ensures { result ≡ above_row c.now s.now.number t row.now blue.now.number red.now.number }
@@ -98,7 +92,6 @@ fn above(c: &Cert, s: &KnownNode, t: NodeNo, row: &Row, blue: &KnownNode, red: &
         && (red.number == t || is_lower_tagged(c, s, t, Tag::Above, red))
 }
 
-#[inline(always)]
 fn unordered(
     c: &Cert,
     s: &KnownNode,

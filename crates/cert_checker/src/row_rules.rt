@@ -2,56 +2,38 @@
 
 ghost use Rattle.std.specs.Prelude.{◌≡◌, ◌<◌, IfSome, false, length};
 ghost use Rattle.std.specs.Option.{option_map, option_map_or};
-ghost use Rattle.cert_checker.specs.{KnownNode.AreHops, KnownNode.IsKnown, RowAt.IsRowAt};
-ghost use Rattle.mrt_graph.specs.{declared.cert.Tag.TheVariants.Carried, BothThere.both, Certificate.row_of, SameGraph.SameCounts, Tags.same_tag};
-ghost use Rattle.mrt_graph.specs.RowRules.{carried_row, near_row, row_rule, same_links};
+ghost use Rattle.cert_checker.specs.{KnownNode.IsKnown, RowAt.IsRowAt, RowAt.rule_by};
+ghost use Rattle.mrt_graph.specs.{declared.cert.Tag.TheVariants.Carried, BothThere.both, Certificate.row_of, Tags.same_tag};
+ghost use Rattle.mrt_graph.specs.RowRules.{carried_row, near_row, same_links};
 
-use crate::hops::{Hop, Hops, hop_by};
-use crate::known_node::KnownNode;
+use crate::hops::{Hop, Hops};
+use crate::known_node::{KnownNode, row_for};
 use crate::near_rows::keeps_near_rule;
 use crate::row_words::number_of;
-use mrt_graph::{Cert, Graph, NodeNo, Row, Tag, are_unrelated, carrier};
+use mrt_graph::{Cert, NodeNo, Row, Tag, are_unrelated, carrier};
 
-/// Whether a row keeps its rule, and the hops that serve the next row.
-#[derive(Drop)]
-pub(crate) struct RuleJudged {
-    pub keeps: bool,
-    pub hops: Hops,
-}
-
-/// Whether the row of `s` for `t` keeps what its tag asks. A row that is carried asks for no hops.
-#[inline(always)]
-pub(crate) fn judge_rule(
-    g: &Graph,
+/// Whether the row of `s` for `t` keeps what its tag asks. Its links have these hops.
+pub(crate) fn keeps_rule(
     c: &Cert,
     root: NodeNo,
     s: &KnownNode,
     t: NodeNo,
     row: &Row,
-    last: Hops,
-) -> RuleJudged
-    requires counts { SameCounts g.now c.now }
+    hops: &Hops,
+) -> bool
     requires row { IsRowAt c.now s.now t row.now }
-    requires last { AreHops g.now c.now s.now.number last }
-    ensures keeps { result.keeps ≡ row_rule row.now.tag g.now.links c.now root s.now.number t row.now }
-    ensures hops { AreHops g.now c.now s.now.number result.hops }
+    requires blue { IfSome hops.now.blue (λ hop. IsKnown c.now hop.to) }
+    requires red { IfSome hops.now.red (λ hop. IsKnown c.now hop.to) }
+    ensures { result ≡ rule_by row.now.tag c.now root s.now.number t row.now
+        (option_map (λ hop. hop.to.number) hops.now.blue) (option_map (λ hop. hop.to.number) hops.now.red) }
 {
     if is_carried(row.tag) {
-        return RuleJudged {
-            keeps: carried(c, root, s, t, row),
-            hops: last,
-        };
+        return carried(c, root, s, t, row);
     }
-    let blue = hop_by(g, c, s.number, last.blue, row.blue);
-    let red = hop_by(g, c, s.number, last.red, row.red);
-    RuleJudged {
-        keeps: keeps_hop_rule(c, s, t, row, &blue, &red),
-        hops: Hops { blue, red },
-    }
+    keeps_hop_rule(c, s, t, row, &hops.blue, &hops.red)
 }
 
 /// Whether a row that is not carried, with these hops, keeps what its tag asks.
-#[inline(always)]
 fn keeps_hop_rule(
     c: &Cert,
     s: &KnownNode,
@@ -100,6 +82,6 @@ fn has_links_for(c: &Cert, s: &KnownNode, w: NodeNo, row: &Row) -> bool
     if s.number == w {
         return false;
     }
-    let other = c.row(s.number, w);
+    let other = row_for(c, s, w);
     row.blue == other.blue && row.red == other.red
 }

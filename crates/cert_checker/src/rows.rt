@@ -1,23 +1,23 @@
 //! Rules seven to thirteen, in one pass over the rows.
 
-ghost use Rattle.std.specs.Prelude.{◌≡◌, ◌<◌, ◌+◌, ◌++◌, Contains, ℕ, List, IfSome, Some, length};
-ghost use Rattle.std.specs.{List.All, Option.option_to_list};
+ghost use Rattle.std.specs.Prelude.{◌≡◌, ◌<◌, ◌+◌, ◌++◌, Contains, ℕ, List, IfSome, Some, length, slice_get};
+ghost use Rattle.std.specs.{List.All, Option.option_map, Option.option_to_list};
 ghost use Rattle.cert_checker.specs.KnownNode.{AreHops, IsKnown};
-ghost use Rattle.cert_checker.specs.RowFaults.{AndSome, Before, IsAfter, KeptRows, first_of, is_before, row_test};
+ghost use Rattle.cert_checker.specs.RowFaults.{AndSome, Before, IsAfter, KeptRows, first_of, is_before, row_test, targets_of};
 ghost use Rattle.mrt_graph.specs.{CertWords.head_of, Foldable.IsFoldable, HeadsAndBlocks.HeadsHold, Kin.kin_of, SameGraph.SameCounts};
 
 use crate::fault::Fault;
-use crate::hops::Hops;
-use crate::known_node::{KnownNode, known_node};
-use crate::row_rules::judge_rule;
+use crate::hops::{Hops, turn_to};
+use crate::known_node::{KnownNode, known_node, row_for};
+use crate::row_rules::keeps_rule;
 use crate::row_words::number_of;
 use mrt_graph::{Cert, Graph, NodeNo, Relatives};
 
 /// What is kept of the rows that were read: their first fault, if there is one, and the hops that serve the next row.
 #[derive(Drop)]
-struct Reading {
+struct Reading<'a> {
     kept: Option<Fault>,
-    hops: Hops,
+    hops: Hops<'a>,
 }
 
 /// The first rule on rows that fails, and its first place.
@@ -54,35 +54,9 @@ fn judge_rows_of(
     ensures { KeptRows g.now root c.now (Before c.now (s.now.number + 1)) result }
 {
     match c.relatives() {
-        None => judge_all_of(g, c, root, s, before),
+        None => judge_some(g, c, root, s, None, before),
         Some(relatives) => judge_related_of(g, c, root, relatives, s, before),
     }
-}
-
-/// Goes on with all rows of `s`.
-fn judge_all_of(
-    g: &Graph,
-    c: &Cert,
-    root: NodeNo,
-    s: &KnownNode,
-    before: Option<Fault>,
-) -> Option<Fault>
-    requires counts { SameCounts g.now c.now }
-    requires source { IsKnown c.now s.now }
-    requires before { KeptRows g.now root c.now (Before c.now s.now.number) before }
-    ensures { KeptRows g.now root c.now (Before c.now (s.now.number + 1)) result }
-{
-    let mut last = Reading {
-        kept: before,
-        hops: Hops {
-            blue: None,
-            red: None,
-        },
-    };
-    for t in 0..c.node_count() {
-        last = judge_row(g, c, root, s, NodeNo::new(t), last);
-    }
-    last.kept
 }
 
 /// Goes on with the rows of `s` for the nodes that are related to it.
@@ -103,9 +77,9 @@ fn judge_related_of(
     requires before { KeptRows g.now root c.now (Before c.now s.now.number) before }
     ensures { KeptRows g.now root c.now (Before c.now (s.now.number + 1)) result }
 {
-    let kept = judge_listed(g, c, root, s, relatives.members(s.number), before);
+    let kept = judge_some(g, c, root, s, Some(relatives.members(s.number)), before);
     let kept = judge_upper(g, c, root, s, relatives.upper(s.number), kept);
-    judge_listed(g, c, root, s, relatives.children(s.number), kept)
+    judge_some(g, c, root, s, Some(relatives.children(s.number)), kept)
 }
 
 /// Goes on with the row of `s` for a head in another block, where there is one.
@@ -125,25 +99,27 @@ fn judge_upper(
 {
     match upper {
         None => before,
-        Some(head) => judge_listed(g, c, root, s, &[head], before),
+        Some(head) => judge_some(g, c, root, s, Some(&[head]), before),
     }
 }
 
-/// Goes on with the rows of `s` for these nodes.
-fn judge_listed(
+/// Goes on with the rows of `s` for these nodes; for all nodes, where none are told.
+fn judge_some(
     g: &Graph,
     c: &Cert,
     root: NodeNo,
     s: &KnownNode,
-    targets: &[NodeNo],
+    targets: Option<&[NodeNo]>,
     before: Option<Fault>,
 ) -> Option<Fault>
     requires counts { SameCounts g.now c.now }
     requires source { IsKnown c.now s.now }
-    requires targets { All (λ t. t < length c.now.nodes) targets.now }
+    requires targets { IfSome targets (λ told. All (λ t. t < length c.now.nodes) told.now) }
     ensures { (listed : List ℕ) → KeptRows g.now root c.now (AndSome c.now s.now.number (Contains listed)) before
-        → KeptRows g.now root c.now (AndSome c.now s.now.number (Contains (listed ++ targets.now))) result }
+        → KeptRows g.now root c.now (AndSome c.now s.now.number
+        (Contains (listed ++ targets_of (length c.now.nodes) (option_map (λ told. told.now) targets.entry)))) result }
 {
+    let nodes = c.node_count();
     let mut last = Reading {
         kept: before,
         hops: Hops {
@@ -151,42 +127,66 @@ fn judge_listed(
             red: None,
         },
     };
-    for t in targets {
-        last = judge_row(g, c, root, s, *t, last);
+    for k in 0..target_count(nodes, targets) {
+        judge_row(g, c, root, s, target(nodes, targets, k), &mut last);
     }
     last.kept
 }
 
+/// How many nodes are told, of so many; all, where none are.
+fn target_count(nodes: u16, targets: Option<&[NodeNo]>) -> usize
+    ensures { result ≡ length (targets_of nodes (option_map (λ told. told.now) targets.entry)) }
+{
+    match targets {
+        None => usize::from(nodes),
+        Some(told) => told.len(),
+    }
+}
+
+/// The node in this place among them.
+fn target(nodes: u16, targets: Option<&[NodeNo]>, place: usize) -> NodeNo
+    requires place { place < length (targets_of nodes (option_map (λ told. told.now) targets)) }
+    requires targets { IfSome targets (λ told. All (λ t. t < nodes) told.now) }
+    ensures value { slice_get (targets_of nodes (option_map (λ told. told.now) targets.entry)) place ≡ Some result }
+    ensures within { result < nodes }
+{
+    match targets {
+        None => NodeNo::new(place as u16),
+        Some(told) => told[place],
+    }
+}
+
 /// Goes on with the row of `s` for `t`.
-#[inline(always)]
-fn judge_row(g: &Graph, c: &Cert, root: NodeNo, s: &KnownNode, t: NodeNo, last: Reading) -> Reading
+fn judge_row<'a>(
+    g: &Graph,
+    c: &'a Cert,
+    root: NodeNo,
+    s: &KnownNode,
+    t: NodeNo,
+    last: &mut Reading<'a>,
+)
     requires counts { SameCounts g.now c.now }
     requires source { IsKnown c.now s.now }
     requires target { t < length c.now.nodes }
-    requires last { AreHops g.now c.now s.now.number last.hops }
-    ensures kept { IsAfter (row_test g.now root c.now) s.now.number t last.kept result.kept }
-    ensures hops { AreHops g.now c.now s.now.number result.hops }
+    requires last { AreHops g.now c.now s.now.number last.old.hops }
+    ensures kept { IsAfter (row_test g.now root c.now) s.now.number t last.old.kept last.new.kept }
+    ensures hops { AreHops g.now c.now s.now.number last.new.hops }
 {
     if s.number == t {
-        return last;
+        return;
     }
-    let row = c.row(s.number, t);
-    let judged = judge_rule(g, c, root, s, t, &row, last.hops);
-    if judged.keeps {
-        return Reading {
-            kept: last.kept,
-            hops: judged.hops,
-        };
+    let row = row_for(c, s, t);
+    turn_to(g, c, s.number, &mut last.hops.blue, row.blue);
+    turn_to(g, c, s.number, &mut last.hops.red, row.red);
+    if keeps_rule(c, root, s, t, &row, &last.hops) {
+        return;
     }
     let fault = Fault {
         rule: 7 + number_of(row.tag),
         a: s.number.get(),
         b: t.get(),
     };
-    Reading {
-        kept: Some(first_of(last.kept, fault)),
-        hops: judged.hops,
-    }
+    last.kept = Some(first_of(last.kept, fault));
 }
 
 /// The first of a fault and of what is kept.

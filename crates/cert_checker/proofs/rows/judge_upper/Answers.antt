@@ -13,5 +13,5 @@ returns-in-None c = λ listed before.
 
 pub returns-in-Some : goal.returns-in-Some
 returns-in-Some c = λ listed before.
-    subst (λ (upper : Option ℕ). KeptRows c.args.g.now c.args.root c.args.c.now (AndSome c.args.c.now c.args.s.now.number (Contains (listed ++ option_to_list upper))) c.judge_listed.result)
-    (sym c.in-Some.is) (c.judge_listed.ensures listed before)
+    subst (λ (upper : Option ℕ). KeptRows c.args.g.now c.args.root c.args.c.now (AndSome c.args.c.now c.args.s.now.number (Contains (listed ++ option_to_list upper))) c.judge_some.result)
+    (sym c.in-Some.is) (c.judge_some.ensures listed before)
