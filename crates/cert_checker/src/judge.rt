@@ -20,7 +20,7 @@ use mrt_graph::{CertFile, Graph, NodeNo, accepted_implies_sound, accepted_or_one
 /// uses.
 ///
 /// Rules 1 to 6 are read one after another, rules 7 to 13 in one pass that keeps the least. Rule 14 follows from rules
-/// 1, 3, 4 and 7 to 13, and is not read. No memory is taken. Rules 1 to 6 take a few passes over nodes and links where they
+/// 1, 3, 4 and 7 to 13, and is not read. No memory is taken. Rules 1 to 6 take a few passes over nodes and links where all rules
 /// hold, and time in proportion to nodes times links at worst where one fails; the others one pass over the rows, or over
 /// those of related nodes where the certificate holds these alone.
 ///

@@ -18,8 +18,8 @@ use std::marker::Model;
 /// The file is the one that [`read_cert`](crate::read_cert) reads from the whole stream, and the fault is the same,
 /// however the stream is cut.
 ///
-/// Its room for the nodes, the links and the rows grows as they come, to at most twice what the bytes so far may spell; with
-/// the last node of version 2 it takes an index. No clause says with which piece `NoMemory` can come.
+/// Its room for the nodes, the links and the rows grows as they come, with each piece by at most one for each five bytes of it, or to
+/// twice what it was; with the last node of version 2 it takes an index. No clause says with which piece `NoMemory` can come.
 pub struct CertReader {
     state: State,
 }

@@ -12,7 +12,7 @@ use crate::rest::Rest;
 /// How many bytes a part has at least.
 const LEAST: usize = 5;
 
-/// Reads parts until there are so many. Room is taken before the first one is read, for as many as the rest may have.
+/// Reads parts until there are so many. Room is taken before the first one is read, for one for each five bytes of the rest at most.
 pub fn read_parts<'a, P: Part>(
     parts: &mut Vec<P>,
     rest: Rest<'a>,

@@ -14,8 +14,8 @@ use std::alloc::Global;
 
 /// The certificate file of version 1 or 2 that the bytes spell, all of the bytes.
 ///
-/// It is one pass, that of a [`CertReader`](crate::CertReader). Each list is reserved once, for no
-/// more than the bytes may spell.
+/// It is one pass, that of a [`CertReader`](crate::CertReader). Each list is reserved once, for no more than one part for each
+/// five bytes.
 ///
 /// It takes time in proportion to the bytes, and of version 2 to the nodes too, some 13 times.
 ///

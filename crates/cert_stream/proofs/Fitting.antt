@@ -1,11 +1,7 @@
--- Certificates fit their files, and can be told apart.
-use Rattle.std.proofs.Common.{◌≡◌, ◌⊎◌, ◌∙◌, ◌<◌, ◌^◌, ℕ, suc, true, List, [], ◌∷◌, Some, slice_get, inl, inr, refl, sym, ap, subst, arith}
-use Rattle.std.specs.Cmp.Lexicographic.{bytes_decides}
+-- Certificates fit their files.
+use Rattle.std.proofs.Common.{◌≡◌, ◌∙◌, ◌<◌, ◌^◌, ℕ, suc, List, [], ◌∷◌, Some, slice_get, refl, sym, subst, arith}
 use Rattle.std.specs.List.{AllByRecursion}
-use Rattle.std.specs.Str.{bytes_eq}
-use Rattle.std.proofs.lemmas.Bool.{cases_Bool}
 use Rattle.std.proofs.lemmas.Option.{same_Some, slice_get_within}
-use Rattle.cert_format.specs.CertText.{cert_text}
 use Rattle.cert_format.specs.Limits.{HasNumber, IsCertFile}
 use Rattle.mrt_graph.specs.Topology.{Topology}
 use Rattle.mrt_graph.specs.declared.cert.CertFile.{CertFile}
@@ -41,14 +37,3 @@ module _ (file : CertFile) (of : IsOfGraph file) where
   fits =
       file_within g of.root file of.kept of.within of.certificate file.root file.cert.nodes file.cert.links
       (record { of_root = refl; all_nodes = refl; all_links = refl }) root_fits nodes_fit
-
--- two of them are one, or differ
-pub one_or_two : ((f h : CertFile) → IsCertFile f → IsCertFile h → cert_text f ≡ cert_text h → f ≡ h) → (file second : CertFile)
-    → IsOfGraph file → IsOfGraph second → (file ≡ second) ⊎ (file ≡ second → ⊥)
-one_or_two spelled file second of of' = elim (cases_Bool (bytes_eq (cert_text file) (cert_text second))) [
-  | inl same ↦ inl (spelled file second (fits file of) (fits second of') ((bytes_decides (cert_text file) (cert_text second)).0 same))
-  | inr differ ↦ inr (λ same.
-      let one : bytes_eq (cert_text file) (cert_text second) ≡ true =
-      (bytes_decides (cert_text file) (cert_text second)).1 (ap (λ (f : CertFile). cert_text f) same) in
-      cc)
-]

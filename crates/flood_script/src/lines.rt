@@ -6,43 +6,47 @@ ghost use Rattle.flood_script.specs.FloodTexts.{answer_line, verdict_line};
 
 use crate::verdict::Verdict;
 use flood_core::Answer;
-use mrt_graph::NoMemory;
-use text_parts::{push, push_number};
+use mrt_graph::{NoMemory, ShortText};
+use text_parts::{line_of, push, put, put_number};
 
 /// Puts the line of an answer to a delivery at the end of a text.
 ///
 /// # Errors
 ///
-/// [`NoMemory`] where there was none for the text. The text may have a part of the line then.
+/// [`NoMemory`] where there was none for the text. Then the text is as it was.
 pub fn push_answer(text: &mut Vec<u8>, answer: Answer) -> Result<(), NoMemory>
-    ensures { OnOk result (text.new.items ≡ text.old.items ++ answer_line answer) }
+    ensures added { OnOk result (text.new.items ≡ text.old.items ++ answer_line answer) }
+    ensures err { OnErr result (text.new.items ≡ text.old.items) }
 {
     match answer {
-        Answer::Changed { count, sent } => push_changed(text, count, sent),
+        Answer::Changed { count, sent } => push(text, changed_line(count, sent).bytes()),
         Answer::NoSuchPacket => push(text, b"refused no-such-packet\n"),
         Answer::NoSuchRouter => push(text, b"refused no-such-router\n"),
     }
 }
 
-/// Puts the line of a delivery that was not refused.
-fn push_changed(text: &mut Vec<u8>, count: u32, sent: Option<u32>) -> Result<(), NoMemory>
-    ensures { OnOk result (text.new.items ≡ text.old.items ++ answer_line (answers.Changed count sent)) }
+/// The line of a delivery that was not refused.
+fn changed_line(count: u32, sent: Option<u32>) -> ShortText<96>
+    ensures { result ≡ answer_line (answers.Changed count sent) }
 {
-    push_number(text, b"changed ", u64::from(count))?;
+    let mut line: ShortText<96> = line_of(b"changed ");
+    put_number(&mut line, u64::from(count));
     match sent {
-        None => push(text, b"\n"),
+        None => put(&mut line, b"\n"),
         Some(number) => {
-            push_number(text, b" sent ", u64::from(number))?;
-            push(text, b"\n")
+            put(&mut line, b" sent ");
+            put_number(&mut line, u64::from(number));
+            put(&mut line, b"\n");
         }
     }
+    line
 }
 
 /// Puts the line of what a comparison comes to.
 ///
 /// # Errors
 ///
-/// [`NoMemory`] where there was none for the text.
+/// [`NoMemory`] where there was none for the text. Then the text is as it was.
 pub fn push_verdict(text: &mut Vec<u8>, verdict: Verdict) -> Result<(), NoMemory>
     ensures added { OnOk result (text.new.items ≡ text.old.items ++ verdict_line verdict) }
     ensures err { OnErr result (text.new.items ≡ text.old.items) }

@@ -1,14 +1,18 @@
 -- Of two databases in which LSAs were installed and a router there is a verdict.
 use Rattle.std.proofs.Common.{◌≡◌, ◌⊎◌, ◌<◌, ◌^◌, ℕ, Bool, true, false, List, Option, Some, None, length, inl, inr, refl, sym, ap, subst, arith}
 use Rattle.std.specs.Prelude.{Contains}
+use Rattle.std.specs.Cmp.Lexicographic.{bytes_decides}
 use Rattle.std.specs.List.{AllByRecursion}
-use Rattle.std.proofs.lemmas.Bool.{cases_lt}
+use Rattle.std.specs.Str.{bytes_eq}
+use Rattle.std.proofs.lemmas.Bool.{cases_Bool, cases_lt}
 use Rattle.area_graph.specs.AreaInvariant.{IsArea}
 use Rattle.area_graph.specs.AreaOf.{area_of}
 use Rattle.area_graph.specs.AreaSize.{IsTooLarge}
 use Rattle.area_graph.specs.Fits.{Fits}
 use Rattle.area_graph.specs.Parts.{AreaParts}
 use Rattle.area_graph.specs.Ranges.{FitsBond}
+use Rattle.cert_format.specs.CertText.{cert_text}
+use Rattle.cert_format.specs.Limits.{IsCertFile}
 use Rattle.cert_stream.specs.OfGraph.{IsOfGraph}
 use Rattle.flood_script.specs.declared.verdict.Verdict.{Verdict}
 use Rattle.flood_script.specs.declared.verdict.Verdict.TheVariants as verdicts
@@ -53,7 +57,20 @@ pub record SomeLaws : Type 0 where
   pub fits : (policy : Policy) (area : AreaParts) (router : ℕ) (g : Topology) (root : ℕ) (link_of : List (Option ℕ)) → IsArea area
       → IsIsland policy area router g root link_of → Fits area g link_of
   pub certificate : (g : Topology) (root : ℕ) → IsTopology g → root < length g.ids → (file : CertFile) × IsCertOf g root file
-  pub one_or_two : (file second : CertFile) → IsOfGraph file → IsOfGraph second → (file ≡ second) ⊎ (file ≡ second → ⊥)
+  pub fits_file : (file : CertFile) → IsOfGraph file → IsCertFile file
+  pub spelled : (file second : CertFile) → IsCertFile file → IsCertFile second → cert_text file ≡ cert_text second → file ≡ second
+
+-- two certificates are one, or differ: their bytes tell them apart
+one_or_two : SomeLaws → (file second : CertFile) → IsOfGraph file → IsOfGraph second → (file ≡ second) ⊎ (file ≡ second → ⊥)
+one_or_two laws file second of of' = elim (cases_Bool (bytes_eq (cert_text file) (cert_text second))) [
+  | inl same ↦
+      inl (laws.spelled file second (laws.fits_file file of) (laws.fits_file second of')
+      ((bytes_decides (cert_text file) (cert_text second)).0 same))
+  | inr differ ↦ inr (λ same.
+      let one : bytes_eq (cert_text file) (cert_text second) ≡ true =
+      (bytes_decides (cert_text file) (cert_text second)).1 (ap (λ (f : CertFile). cert_text f) same) in
+      cc)
+]
 
 module _ (laws : SomeLaws) (settings : List Setting) where
   -- a database tells of a router, or nothing
@@ -146,7 +163,7 @@ module _ (laws : SomeLaws) (settings : List Setting) where
     | inr silent ↦ (verdicts.None, inl silent)
     | inl one ↦ elim (telling others router of') [
       | inr silent ↦ (verdicts.None, inr silent)
-      | inl two ↦ elim (laws.one_or_two one.0 two.0 one.2 two.2) [
+      | inl two ↦ elim (one_or_two laws one.0 two.0 one.2 two.2) [
         | inl same ↦ (verdicts.Same, (one.0, one.1, subst (λ (f : CertFile). Tells settings others router f) (sym same) two.1))
         | inr differ ↦ (verdicts.Different, (one.0, two.0, one.1, two.1, differ))
       ]

@@ -14,6 +14,7 @@ ghost use Rattle.flood_verdict.specs.{OfLsas.IsOfLsas, Says.Says};
 use area_graph::{
     bonds_of_the_newest_records_fit, ids_of_the_newest_records_fit, the_newest_records_give_an_area,
 };
+use cert_format::one_spelling;
 use cert_stream::certificates_fit_their_files;
 use flood_core::{
     a_database_is_that_of_what_was_delivered, flooding_converges,
@@ -36,6 +37,7 @@ pub fn one_verdict_each()
     what_an_island_keeps();
     one_certificate();
     certificates_fit_their_files();
+    one_spelling();
 }
 
 /// A law: where packets may be flooded and the numbers of their LSAs fit their fields, a script of deliveries that compares its

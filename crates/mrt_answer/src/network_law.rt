@@ -24,8 +24,9 @@ use mrt_rows::one_certificate;
 use ospf_lsa::bytes_are_lsas_or_have_a_fault;
 
 /// Laws, of two routers of one island of a network: each has read its own database, in whatever order its LSAs stand, whatever their
-/// ages are and whatever it holds at MaxAge, but the others the same ones, and one profile. They have one area and one island; the certificate that
-/// `certify` gives the one is, byte for byte, the one that it gives the other; and the table of either is of it.
+/// ages are and whatever it holds at MaxAge, but the others the same ones, and one profile. They have one area and one island; the
+/// certificate that `certify` gives the one is, byte for byte, the one that it gives the other; and the table of the second, from its
+/// own database, is by the certificate of the first.
 ///
 /// Where an LSA may be at MaxAge in one database and not in the other, that alone makes two certificates.
 pub fn routers_of_a_network_compute_one_certificate()

@@ -1,6 +1,6 @@
 //! The lines of a router's table, one destination at a time.
 
-ghost use Rattle.std.specs.Prelude.{◌≢◌, ◌<◌, ℕ, IfOk, length};
+ghost use Rattle.std.specs.Prelude.{◌≡◌, ◌≢◌, ◌<◌, ℕ, IfOk, OnErr, length};
 ghost use Rattle.area_graph.specs.Fits.{Fits};
 ghost use Rattle.mrt_graph.specs.{GraphInvariant.IsNetwork, Sound.SoundFor};
 ghost use Rattle.text_parts.specs.Adds.{Adds};
@@ -82,7 +82,7 @@ pub fn table_line<R: RowsOf>(
 ///
 /// # Errors
 ///
-/// [`NoMemory`] where there was none for the longer text. The text may have a part of the line then.
+/// [`NoMemory`] where there was none for the longer text. Then the text is as it was.
 pub fn push_table_line<R: RowsOf>(
     text: &mut Vec<u8>,
     area: &Area,
@@ -101,14 +101,14 @@ pub fn push_table_line<R: RowsOf>(
     requires target { to < length island.now.ids }
     requires different { source ≢ to }
     requires primary { IsPrimaryOf area.now island.now source to prim }
-    ensures { IfOk result (λ _.
+    ensures added { IfOk result (λ _.
         Adds
         (IsLine (line_parts area.now island.now link_of.now (R.rows rows.now) source) to prim)
         text.old.items text.new.items) }
+    ensures err { OnErr result (text.new.items ≡ text.old.items) }
 {
     let row = table_row(area, island, link_of, rows, source, to, prim);
-    push_row(text, &row)?;
-    Ok(())
+    push_row(text, &row)
 }
 
 /// The row that this line spells. It takes no memory.

@@ -1,13 +1,14 @@
 //! The words of a table.
 
-ghost use Rattle.std.specs.Prelude.{◌≡◌};
+ghost use Rattle.std.specs.Prelude.{◌≡◌, ◌≤◌, length};
 ghost use Rattle.mrt_report.specs.TableWords.{letter_text, tag_text};
 
 use mrt_graph::{Color, Tag};
 
 /// A row's tag, in lower case.
 pub fn tag_word(tag: Tag) -> &'static [u8]
-    ensures { result.now ≡ tag_text tag }
+    ensures value { result.now ≡ tag_text tag }
+    ensures short { length result.now ≤ 9 }
 {
     match tag {
         Tag::Sole => b"sole",
@@ -22,7 +23,8 @@ pub fn tag_word(tag: Tag) -> &'static [u8]
 
 /// The letter of a color, or of none.
 pub fn letter(color: Option<Color>) -> &'static [u8]
-    ensures { result.now ≡ letter_text color }
+    ensures value { result.now ≡ letter_text color }
+    ensures short { length result.now ≤ 1 }
 {
     match color {
         Some(Color::Blue) => b"b",

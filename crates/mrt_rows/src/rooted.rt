@@ -125,6 +125,10 @@ impl RootedColumns {
     ///
     /// They are taken side by side, as many as there are places for, wherever they lie. It takes the time of `aim`, and in
     /// proportion to the nodes, for each, and memory for their columns.
+    ///
+    /// # Errors
+    ///
+    /// [`NoMemory`] where there was none for them. Then this makes the columns of the graph from its root all the same.
     pub fn rows_to(&mut self, alloc: Global, g: &Graph, wanted: &[bool]) -> Result<RowsTo, NoMemory>
         requires made { MakeColumns g.now self.old }
         requires one_each { length wanted.now ≡ length g.now.ids }

@@ -1,7 +1,7 @@
 //! The search for distances to one node, backwards along the arcs (Dijkstra's).
 
 ghost use Rattle.std.specs.BinaryHeap.{heap_items, heap_len};
-ghost use Rattle.std.specs.Prelude.{◌≡◌, ◌<◌, ◌≤◌, ◌+◌, ◌*◌, ◌∷◌, ◌↔◌, ℕ, Contains, IsTrue, OnOk, length};
+ghost use Rattle.std.specs.Prelude.{◌≡◌, ◌<◌, ◌≤◌, ◌+◌, ◌*◌, ◌∷◌, ◌↔◌, ℕ, Contains, IsTrue, OnErr, OnOk, length};
 ghost use Rattle.area_graph.specs.declared.area_types.Arc.{Arc};
 ghost use Rattle.primary_alt.specs.{ArcsInto.AreFromBelow, ArcsInto.AreStartsInto, Distances.AreDistances, Distances.HasDistance};
 ghost use Rattle.primary_alt.specs.BackwardSearch.{AreSmall, IsAdded, IsOffered, IsRelaxed, IsSearching, left, reached, room_of};
@@ -34,7 +34,7 @@ pub fn distances_to(
     requires rows { length into.now.starts.items ≡ length known.old.items + 1 }
     requires few { length known.old.items ≤ 4096 }
     requires node { t < length known.old.items }
-    ensures one_each { OnOk result (length known.new.items ≡ length known.old.items) }
+    ensures one_each { length known.new.items ≡ length known.old.items }
     ensures distances { OnOk result (AreDistances into.now.arcs.items t known.new.items) }
 {
     forget(known);
@@ -48,7 +48,7 @@ pub fn distances_to(
 }
 
 /// Forgets all distances.
-fn forget(known: &mut Vec<Option<u32>>)
+pub fn forget(known: &mut Vec<Option<u32>>)
     ensures one_each { length known.new.items ≡ length known.old.items }
     ensures none { (v distance : ℕ) → ¬ HasDistance known.new.items v distance }
 {
@@ -70,7 +70,7 @@ fn settle(
     requires few { length known.old.items ≤ 4096 }
     requires small { AreSmall known.old.items }
     requires node { nearest.node < length known.old.items }
-    ensures one_each { OnOk result (length known.new.items ≡ length known.old.items) }
+    ensures one_each { length known.new.items ≡ length known.old.items }
     ensures small { OnOk result (AreSmall known.new.items) }
     ensures searching { OnOk result ((t : ℕ)
         → IsSearching into.now.arcs.items t known.old.items (record { 0 = nearest } ∷ heap_items waiting.old)
@@ -117,6 +117,7 @@ fn relax(
     requires few { length known.old.items ≤ 4096 }
     requires small { AreSmall known.old.items }
     requires near { distance + 65535 ≤ 65535 * reached known.old.items }
+    ensures one_each { length known.new.items ≡ length known.old.items }
     ensures relaxed { OnOk result (IsRelaxed into.now.arcs.items row.now u (length row.now) distance
         known.old.items known.new.items (heap_items waiting.old) (heap_items waiting.new)) }
     ensures fewer { OnOk result (left known.new.items (heap_len waiting.new)
@@ -147,6 +148,7 @@ fn offer_to(
     requires starts { AreStartsInto into.now.arcs.items into.now.starts.items }
     requires rows { length into.now.starts.items ≡ length known.old.items + 1 }
     requires node { node < length known.old.items }
+    ensures err { OnErr result (known.new.items ≡ known.old.items) }
     ensures offered { OnOk result (IsOffered into.now.arcs.items u node distance
         known.old.items known.new.items (heap_items waiting.old) (heap_items waiting.new)) }
     ensures fewer { OnOk result (left known.new.items (heap_len waiting.new)

@@ -3,7 +3,7 @@
 ghost use Rattle.std.specs.Prelude.{◌≡◌, ◌<◌, IfOk, OnOk, length};
 
 use crate::arcs_into::ArcsInto;
-use crate::backward::{Offer, distances_to};
+use crate::backward::{Offer, distances_to, forget};
 use crate::of_area::all_arcs;
 use crate::turned::turned;
 use area_graph::{Area, Spot};
@@ -43,8 +43,8 @@ impl<'a> Model for Searches<'a> {
 }
 
 impl<'a> Searches<'a> {
-    ghost use Rattle.std.specs.Prelude.{◌≡◌, ◌<◌, IfOk, OnOk, length};
-    ghost use Rattle.primary_alt.specs.DistancesFrom.{AreDistancesFrom};
+    ghost use Rattle.std.specs.Prelude.{◌≡◌, ◌<◌, ℕ, IfOk, OnErr, OnOk, length};
+    ghost use Rattle.primary_alt.specs.{Distances.HasDistance, DistancesFrom.AreDistancesFrom};
 
     /// Searches in an area.
     pub fn new(alloc: Global, area: &'a Area) -> Result<Searches<'a>, NoMemory>
@@ -68,16 +68,23 @@ impl<'a> Searches<'a> {
     ///
     /// # Errors
     ///
-    /// [`NoMemory`] where there was none. What the list holds then means nothing.
+    /// [`NoMemory`] where there was none. Then the list knows no distance, and the searches are as they were.
     pub fn distances(&mut self, s: Spot, known: &mut Vec<Option<u32>>) -> Result<(), NoMemory>
         requires one_each { length known.old.items ≡ length self.old.ids }
         requires node { s < length self.old.ids }
         ensures same { self.new ≡ self.old }
-        ensures one_each { OnOk result (length known.new.items ≡ length self.old.ids) }
+        ensures one_each { length known.new.items ≡ length self.old.ids }
         ensures distances { OnOk result (AreDistancesFrom self.old.arcs s known.new.items) }
+        ensures none { OnErr result ((v distance : ℕ) → ¬ HasDistance known.new.items v distance) }
     {
         // what each area keeps is told by reading it
         let _count = self.area.count();
-        distances_to(&self.into, s, known, &mut self.waiting)
+        match distances_to(&self.into, s, known, &mut self.waiting) {
+            Ok(()) => Ok(()),
+            Err(NoMemory) => {
+                forget(known);
+                Err(NoMemory)
+            }
+        }
     }
 }

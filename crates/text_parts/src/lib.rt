@@ -8,7 +8,7 @@ mod parts;
 mod reading;
 mod text_law;
 
-pub use line::{Line, line_of, put, put_address, put_number};
+pub use line::{Line, line_of, put, put_address, put_hop, put_number};
 pub use line_error::LineError;
 pub use parts::{push, push_count, push_hop, push_node, push_number};
 pub use reading::{TakesLines, text_of};

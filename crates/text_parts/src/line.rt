@@ -2,6 +2,7 @@
 
 ghost use Rattle.std.specs.Prelude.{◌≡◌, ◌≤◌, ◌+◌, ◌++◌, decimal, length};
 ghost use Rattle.mrt_graph.specs.Spelling.{address_text};
+ghost use Rattle.text_parts.specs.Hops.{hop_text};
 
 use itoa::Buffer;
 use mrt_graph::{Kind, NodeId, ShortText, push_node_text};
@@ -50,4 +51,15 @@ pub fn put_address<const N: usize>(line: &mut ShortText<N>, number: u32)
             number,
         },
     );
+}
+
+/// Puts a hop at the end of a line that has room for 39 bytes: the far node, and the link data of the near end as an address.
+pub fn put_hop<const N: usize>(line: &mut ShortText<N>, far: NodeId, link_data: u32)
+    requires { length line.old + 39 ≤ N }
+    ensures added { line.new ≡ line.old ++ hop_text far link_data }
+    ensures count { length line.new ≤ length line.old + 39 }
+{
+    push_node_text(line, far);
+    line.push(b'/');
+    put_address(line, link_data);
 }

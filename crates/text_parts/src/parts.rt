@@ -4,8 +4,9 @@ ghost use Rattle.std.specs.Prelude.{◌≡◌, ◌≤◌, ◌+◌, ◌++◌, IfO
 ghost use Rattle.mrt_graph.specs.Spelling.{node_text};
 ghost use Rattle.text_parts.specs.Hops.{hop_text};
 
+use crate::line::put_hop;
 use itoa::Buffer;
-use mrt_graph::{Kind, NoMemory, NodeId, NodeText, ShortText, push_node_text};
+use mrt_graph::{NoMemory, NodeId, NodeText, ShortText};
 
 /// Puts bytes at the end of a text.
 ///
@@ -55,15 +56,7 @@ pub fn push_hop(text: &mut Vec<u8>, far: NodeId, link_data: u32) -> Result<(), N
     ensures err { OnErr result (text.new.items ≡ text.old.items) }
 {
     let mut hop: ShortText<39> = ShortText::new();
-    push_node_text(&mut hop, far);
-    hop.push(b'/');
-    push_node_text(
-        &mut hop,
-        NodeId {
-            kind: Kind::Router,
-            number: link_data,
-        },
-    );
+    put_hop(&mut hop, far, link_data);
     push(text, hop.bytes())
 }
 

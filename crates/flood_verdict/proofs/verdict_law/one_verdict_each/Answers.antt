@@ -11,7 +11,8 @@ returns-clause-some c = some_verdict (record {
   graph = c.what_an_island_keeps.ensures.graph;
   fits = c.what_an_island_keeps.ensures.fits;
   certificate = c.one_certificate.ensures.some;
-  one_or_two = c.certificates_fit_their_files.ensures.one_or_two;
+  fits_file = c.certificates_fit_their_files.ensures;
+  spelled = c.one_spelling.ensures.one;
 })
 
 pub returns-clause-one : goal.returns-clause-one

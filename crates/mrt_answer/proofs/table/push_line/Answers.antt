@@ -13,5 +13,5 @@ returns-clause-line c = λ file is.
         primary_is = by.primary_is;
         line = record { row = c.row_by_column-row.result; row_is = by.row_is; spelled = refl };
       };
-      added = c.in_ok-push_row.ensures;
+      added = c.in_ok-push_row.ensures.added;
     }

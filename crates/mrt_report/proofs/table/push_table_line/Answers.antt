@@ -12,9 +12,9 @@ table_row-row-requires g c = record {
   primary = c.requires.primary;
 }
 
-pub returns : goal.returns
-returns g c = record {
+pub returns-clause-added : goal.returns-clause-added
+returns-clause-added g c = record {
   part = _;
   is = record { row = c.table_row-row.result; row_is = c.table_row-row.ensures; spelled = refl };
-  added = c.in_ok-push_row.ensures;
+  added = c.push_row.ensures.added;
 }

@@ -16,7 +16,7 @@ push_table_line-requires g c = record {
 
 pub returns : goal.returns
 returns g c =
-    let line = c.in_ok-push_table_line.ensures in
+    let line = c.in_ok-push_table_line.ensures.added in
     subst
     (λ (text : List ℕ).
     IsLine (line_parts c.args.area.now c.args.island.now c.args.link_of.now (g.R.RowsOf.rows c.args.rows.now) c.args.source) c.args.to c.args.prim text)
