@@ -14,7 +14,7 @@ use Rattle.cert_format.specs.declared.error.CertKind.{CertKind}
 use Rattle.cert_format.specs.declared.error.CertKind.TheVariants.{Heads, Trailing, Truncated}
 use Rattle.cert_format.specs.declared.header.Header.{Header}
 use Rattle.cert_format.specs.CertText.{header_text, link_text, node_text, row_text, cert_text}
-use Rattle.cert_format.specs.FirstFault.{fault_in, number_of, first_fault}
+use Rattle.cert_format.specs.FirstFault.{fault_in, field_value, first_fault}
 use Rattle.cert_format.specs.Layout.{End, Field, Form, Then, after_nodes, allows, any, collected, exactly, head_place, header_form, known_version, link_form, link_named, node_form, node_named, row_form, row_named, tag, within, after_links}
 use Rattle.cert_format.specs.Reading.{IsFileRow, IsHeader, IsListOf, IsNode, Rest, Took, TookField, rest_of}
 use Rattle.cert_format.specs.Versions.{most_links, most_nodes, stray_head, row_count, tag_count}
@@ -58,7 +58,7 @@ field_read field next before wide are none = elim (cases_Bool (ltb (length befor
       absurd (some_none (before.at, Truncated) here)
   | inr long ↦
       let size = byte_len field.width in
-      let n = number_of field before.bytes in
+      let n = field_value field before.bytes in
       let len = length-take-le size before.bytes (ltb-false _ _ long) in
       let fits = bytes_taken size before.bytes are in
       elim (cases_Bool (allows field n)) [

@@ -17,7 +17,7 @@ use Rattle.mrt_graph.proofs.Bytes.{IsBytes}
 use Rattle.mrt_graph.specs.Tags.{tag_number}
 use Rattle.cert_format.specs.CertText.{kind_number, role_number}
 use Rattle.cert_format.specs.Layout.{any, Field, Form, Then, allows}
-use Rattle.cert_format.specs.FirstFault.{number_of, fault_in}
+use Rattle.cert_format.specs.FirstFault.{field_value, fault_in}
 use Rattle.cert_format.specs.declared.error.CertFault.{CertFault}
 use Rattle.cert_format.specs.Reading.{Rest, Names, Took, TookField, ReadsNumber, ReadsField}
 
@@ -58,7 +58,7 @@ wide32 = record {
 }
 
 -- what was written is what the field reads
-written_is_read : (field : Field) (n : ℕ) (rest : List ℕ) → IsWide field.width → n < 256 ^ byte_len field.width → number_of field (to_be_bytes field.width n ++ rest) ≡ n
+written_is_read : (field : Field) (n : ℕ) (rest : List ℕ) → IsWide field.width → n < 256 ^ byte_len field.width → field_value field (to_be_bytes field.width n ++ rest) ≡ n
 written_is_read field n rest wide lt =
     rw (take_at (to_be_bytes field.width n) rest (byte_len field.width) (wide.len n)) (wide.again n lt)
 

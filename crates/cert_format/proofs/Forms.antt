@@ -6,7 +6,7 @@ use Rattle.std.proofs.lemmas.List.{take-append-le, drop-append-le}
 use Rattle.cert_format.specs.declared.error.CertKind.{CertKind}
 use Rattle.cert_format.specs.declared.error.CertKind.TheVariants.{Truncated, Trailing}
 use Rattle.cert_format.specs.Layout.{Form, End, Then, Fails, allows, header_form}
-use Rattle.cert_format.specs.FirstFault.{number_of, fault_in}
+use Rattle.cert_format.specs.FirstFault.{field_value, fault_in}
 use Rattle.cert_format.specs.Stream.{is_cut}
 
 -- fields of so many bytes, whichever numbers they have
@@ -34,10 +34,10 @@ cut_short (Fails place fault) size at bytes a kind spans e cut =
     absurd (both_ways (is_cut fault) spans (ap is_cut (same_kind place a fault kind e) ∙ cut))
 cut_short (Then field next) size at bytes a kind spans e cut = elim (cases_Bool (ltb (length bytes) (byte_len field.width))) [
   | inl few ↦ let lt = ltb-true _ _ few in omega (arith, lt, spans.0)
-  | inr long ↦ let le = ltb-false _ _ long in elim (cases_Bool (allows field (number_of field bytes))) [
+  | inr long ↦ let le = ltb-false _ _ long in elim (cases_Bool (allows field (field_value field bytes))) [
     | inl allowed ↦
-        let later : fault_in (next (number_of field bytes)) (at + byte_len field.width) (drop (byte_len field.width) bytes) ≡ Some (a, kind) = rw (long, allowed) at e in
-        let shorter = cut_short (next (number_of field bytes)) (size - byte_len field.width) (at + byte_len field.width) (drop (byte_len field.width) bytes) a kind (spans.2 (number_of field bytes)) later cut in
+        let later : fault_in (next (field_value field bytes)) (at + byte_len field.width) (drop (byte_len field.width) bytes) ≡ Some (a, kind) = rw (long, allowed) at e in
+        let shorter = cut_short (next (field_value field bytes)) (size - byte_len field.width) (at + byte_len field.width) (drop (byte_len field.width) bytes) a kind (spans.2 (field_value field bytes)) later cut in
         let dropped = length-drop (byte_len field.width) bytes in
         omega (arith, shorter, dropped, le, spans.0)
     | inr refused ↦
@@ -59,12 +59,12 @@ fault_stays (Then field next) at bytes more a kind e certain = elim (cases_Bool 
       absurd (both_ways (is_cut kind) certain (sym (ap is_cut (same_kind at a Truncated kind here))))
   | inr long ↦ let le = ltb-false _ _ long in
       let longer : ltb (length (bytes ++ more)) (byte_len field.width) ≡ false = le-ltb _ _ (omega (arith, le, length-append bytes more)) in
-      let number : number_of field (bytes ++ more) ≡ number_of field bytes = rw (take-append-le (byte_len field.width) bytes more le) refl in
+      let number : field_value field (bytes ++ more) ≡ field_value field bytes = rw (take-append-le (byte_len field.width) bytes more le) refl in
       let left = drop-append-le (byte_len field.width) bytes more le in
-      elim (cases_Bool (allows field (number_of field bytes))) [
+      elim (cases_Bool (allows field (field_value field bytes))) [
         | inl allowed ↦
-            let later : fault_in (next (number_of field bytes)) (at + byte_len field.width) (drop (byte_len field.width) bytes) ≡ Some (a, kind) = rw (long, allowed) at e in
-            rw (longer, number, allowed, left) (fault_stays (next (number_of field bytes)) (at + byte_len field.width) (drop (byte_len field.width) bytes) more a kind later certain)
+            let later : fault_in (next (field_value field bytes)) (at + byte_len field.width) (drop (byte_len field.width) bytes) ≡ Some (a, kind) = rw (long, allowed) at e in
+            rw (longer, number, allowed, left) (fault_stays (next (field_value field bytes)) (at + byte_len field.width) (drop (byte_len field.width) bytes) more a kind later certain)
         | inr refused ↦
             let here : ◌≡◌ {A = Option (ℕ × CertKind)} (Some (at, field.fault)) (Some (a, kind)) = rw (long, refused) at e in
             rw (longer, number, refused) here

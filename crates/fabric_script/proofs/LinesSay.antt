@@ -9,7 +9,7 @@ use Rattle.text_parts.proofs.WholeLists.{Means, all_passed, means, said_by_told,
 use Rattle.fabric_script.specs.declared.event.ScriptEvent.{ScriptEvent}
 use Rattle.fabric_script.specs.declared.line.Start.{Start}
 use Rattle.fabric_script.specs.declared.script.Script.{Script}
-use Rattle.fabric_script.specs.ScriptFaults.{IsFirstFault, IsScript}
+use Rattle.fabric_script.specs.ScriptFaults.{IsFirstScriptFault, IsScript}
 use Rattle.fabric_script.specs.ScriptLines.{event_in, start_in}
 use Rattle.fabric_script.specs.Taking.{Said, nothing_said, said, script_of, script_rule, wrong}
 
@@ -114,7 +114,7 @@ begins lines so_far say = by so_far.start so_far.events (says lines so_far say)
     by None events none = inl (all_passed lines none)
     by (Some start) events is = inr (script_with start.router start.room events, is)
 
-pub script_means : Means script_rule IsScript (λ lines number fault. IsFirstFault lines number)
+pub script_means : Means script_rule IsScript (λ lines number fault. IsFirstScriptFault lines number)
 script_means = means script_rule IsScript (record {
   texts = λ lines script. (is_script lines script, is_text lines script);
   begins = begins;

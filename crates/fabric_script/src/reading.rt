@@ -4,7 +4,7 @@ ghost use Rattle.std.specs.Prelude.{◌≡◌, ◌≤◌, ℕ, Ok, Err, IfOk, le
 ghost use Rattle.std.specs.Result.{result_map_both};
 ghost use Rattle.mrt_graph.specs.TextLines.{text_lines};
 ghost use Rattle.fabric_script.specs.{declared.script.Script.Script, Taking.error_of};
-ghost use Rattle.fabric_script.specs.ScriptFaults.{IsFirstFault, IsScript, OrNoMemory};
+ghost use Rattle.fabric_script.specs.ScriptFaults.{IsFirstScriptFault, IsScript, OrNoMemory};
 
 use crate::script::Script;
 use crate::script_error::ScriptError;
@@ -35,8 +35,8 @@ pub fn read_script(alloc: Global, bytes: &[u8]) -> Result<Script, ScriptError>
     ensures only { (script : Script) → IsScript (text_lines bytes.now) script → OrNoMemory result (Ok script) }
     ensures room { IfOk result (λ script. 1 ≤ script.room) }
     // A fault is the first one, and the first one is told.
-    ensures fault { (line : ℕ) → result ≡ Err (ScriptError.Fault line) → IsFirstFault (text_lines bytes.now) line }
-    ensures faulty { (line : ℕ) → IsFirstFault (text_lines bytes.now) line → OrNoMemory result (Err (ScriptError.Fault line)) }
+    ensures fault { (line : ℕ) → result ≡ Err (ScriptError.Fault line) → IsFirstScriptFault (text_lines bytes.now) line }
+    ensures faulty { (line : ℕ) → IsFirstScriptFault (text_lines bytes.now) line → OrNoMemory result (Err (ScriptError.Fault line)) }
 {
     told(text_of(bytes, Taken::none(alloc)))
 }

@@ -12,7 +12,7 @@ use Rattle.flood_core.specs.declared.error.UpdateError.TheVariants.{Fault, NoMem
 use Rattle.flood_core.specs.declared.update.Update.{Update}
 use Rattle.flood_core.specs.PacketFaults.{HasFirstFault}
 use Rattle.flood_core.specs.PacketFields.{length_field}
-use Rattle.flood_core.specs.UpdateOutcome.{IsFirstFault}
+use Rattle.flood_core.specs.UpdateOutcome.{IsFirstUpdateFault}
 use Rattle.flood_core.specs.Updates.{AreUpdates, IsUpdate}
 use Rattle.flood_core.proofs.OnePacket.{one_update, no_fault, one_first_fault, either_at_front}
 
@@ -54,14 +54,14 @@ one_list bytes updates others are are' =
     (one_list_at 0 bytes updates others [] [] are are' none_in_nothing none_in_nothing).same
 
 pub never_both : (bytes : List ℕ) (updates : List Update) (at : ℕ) (kind : UpdateKind) → AreUpdates 0 bytes updates []
-    → IsFirstFault bytes at kind → ⊥
+    → IsFirstUpdateFault bytes at kind → ⊥
 never_both bytes updates at kind are first =
     let same = one_list_at 0 bytes updates first.before [] (drop first.packet bytes) are first.faultless
     none_in_nothing (none_where_fault (drop first.packet bytes) kind first.offset first.fault) in
     omega (arith, ap length same.left, length-drop first.packet bytes, first.more)
 
-pub one_fault : (bytes : List ℕ) (at place : ℕ) (kind other : UpdateKind) → IsFirstFault bytes at kind
-    → IsFirstFault bytes place other → (at ≡ place) × (kind ≡ other)
+pub one_fault : (bytes : List ℕ) (at place : ℕ) (kind other : UpdateKind) → IsFirstUpdateFault bytes at kind
+    → IsFirstUpdateFault bytes place other → (at ≡ place) × (kind ≡ other)
 one_fault bytes at place kind other first second =
     let same = one_list_at 0 bytes first.before second.before (drop first.packet bytes) (drop second.packet bytes)
     first.faultless second.faultless
@@ -127,7 +127,7 @@ all_read bytes updates at past so_far =
 -- where the next packet has this first fault, it is that of the file
 pub first_found : (bytes : List ℕ) (updates : List Update) (at place : ℕ) (kind : UpdateKind) (offset : ℕ)
     → at < length bytes → IsReadTo bytes updates at → HasFirstFault kind offset (drop at bytes) → place ≡ at + offset
-    → IsFirstFault bytes place kind
+    → IsFirstUpdateFault bytes place kind
 first_found bytes updates at place kind offset more so_far fault told = record {
   packet = at;
   before = updates;
@@ -143,7 +143,7 @@ first_found bytes updates at place kind offset more so_far fault told = record {
 abbrev AreEither : List ℕ → Type 0
 AreEither bytes =
     ((updates : List Update) × AreUpdates 0 bytes updates [])
-    ⊎ ((at : ℕ) × (kind : UpdateKind) × IsFirstFault bytes at kind)
+    ⊎ ((at : ℕ) × (kind : UpdateKind) × IsFirstUpdateFault bytes at kind)
 
 -- with so many steps
 either_from : (steps : ℕ) (bytes : List ℕ) (updates : List Update) (at : ℕ) → IsBytes bytes
@@ -173,14 +173,14 @@ either_of bytes all = either_from (length bytes) bytes [] 0 (bytes_of_all bytes 
 -- ---- what is told
 
 pub none_read : (bytes : List ℕ) (e : UpdateError)
-    → ((place : ℕ) (kind : UpdateKind) → e ≡ Fault place kind → IsFirstFault bytes place kind)
+    → ((place : ℕ) (kind : UpdateKind) → e ≡ Fault place kind → IsFirstUpdateFault bytes place kind)
     → (all : List Update) → AreUpdates 0 bytes all [] → e ≡ NoMemory
 none_read bytes NoMemory told all are = refl
 none_read bytes (Fault place kind) told all are = absurd (never_both bytes all place kind are (told place kind refl))
 
 pub first_told : (bytes : List ℕ) (e : UpdateError)
-    → ((place : ℕ) (kind : UpdateKind) → e ≡ Fault place kind → IsFirstFault bytes place kind)
-    → (place : ℕ) (kind : UpdateKind) → IsFirstFault bytes place kind → (e ≡ Fault place kind) ⊎ (e ≡ NoMemory)
+    → ((place : ℕ) (kind : UpdateKind) → e ≡ Fault place kind → IsFirstUpdateFault bytes place kind)
+    → (place : ℕ) (kind : UpdateKind) → IsFirstUpdateFault bytes place kind → (e ≡ Fault place kind) ⊎ (e ≡ NoMemory)
 first_told bytes NoMemory told place kind first = inr refl
 first_told bytes (Fault there found) told place kind first =
     let same = one_fault bytes there place found kind (told there found refl) first in

@@ -6,7 +6,7 @@ use Rattle.ospf_lsa.specs.declared.error.LsaKind.{LsaKind}
 use Rattle.ospf_lsa.specs.declared.lsa.Lsa.{Lsa}
 use Rattle.ospf_lsa.specs.Lsas.{AreLsas}
 use Rattle.ospf_lsa.specs.LsaText.{lsas_text}
-use Rattle.ospf_lsa.specs.Outcome.{IsFirstFault}
+use Rattle.ospf_lsa.specs.Outcome.{IsFirstLsaFault}
 use Rattle.ospf_lsa.proofs.Files.{either_of}
 use Rattle.ospf_lsa.proofs.Numbers.{all_bytes, bytes_taken}
 use Rattle.ospf_lsa.proofs.OneReading.{never_both, one_list, one_fault}
@@ -123,7 +123,7 @@ none_before n bytes t h l lsa few (kinds.Lsa kind) place lt has = lsa lt kind pl
 none_before n bytes t h l lsa few kinds.Count place lt has = omega (arith, lt, few)
 
 pub lsa_refused : (bytes : List ℕ) (kind : LsaKind) (place : ℕ) → HasSoundHeader bytes
-    → IsFirstFault (lsa_bytes bytes) place kind → HasFirstFault (kinds.Lsa kind) (28 + place) bytes
+    → IsFirstLsaFault (lsa_bytes bytes) place kind → HasFirstFault (kinds.Lsa kind) (28 + place) bytes
 lsa_refused bytes kind place sound first = record {
   fault = record { place = place; fault = first; told = refl };
   none_earlier = none_before 3 bytes (λ _. not_truncated bytes sound) (λ _. not_other bytes sound)

@@ -6,7 +6,7 @@ use Rattle.ospf_lsa.specs.declared.error.LsaKind.{LsaKind}
 use Rattle.ospf_lsa.specs.declared.lsa.Lsa.{Lsa}
 use Rattle.ospf_lsa.specs.Lsas.{AreLsas}
 use Rattle.ospf_lsa.specs.LsaText.{lsas_text}
-use Rattle.ospf_lsa.specs.Outcome.{IsFirstFault}
+use Rattle.ospf_lsa.specs.Outcome.{IsFirstLsaFault}
 use Rattle.flood_core.specs.declared.error.UpdateKind.{UpdateKind}
 use Rattle.flood_core.specs.declared.error.UpdateKind.TheVariants as kinds
 use Rattle.flood_core.specs.declared.error.UpdateError.{UpdateError}
@@ -15,7 +15,7 @@ use Rattle.flood_core.specs.declared.update.Update.{Update}
 use Rattle.flood_core.specs.PacketFaults.{HasFirstFault}
 use Rattle.flood_core.specs.PacketFields.{length_field, lsa_bytes}
 use Rattle.flood_core.specs.Reading.{HasSoundHeader, IsRefused}
-use Rattle.flood_core.specs.UpdateOutcome.{IsFirstFault as IsFirstOfFile}
+use Rattle.flood_core.specs.UpdateOutcome.{IsFirstUpdateFault}
 use Rattle.flood_core.proofs.OneFile.{IsReadTo, first_found}
 use Rattle.flood_core.proofs.OnePacket.{lsa_refused}
 use Rattle.flood_core.proofs.Placing.{at_within}
@@ -41,7 +41,7 @@ places_fit at bytes front lsas room sound is are spelled lsa among =
 
 -- an LSA's fault
 pub told_of_lsa : (at record_at place : ℕ) (of : LsaKind) (kind : UpdateKind) (bytes front : List ℕ)
-    → HasSoundHeader bytes → front ≡ lsa_bytes bytes → IsFirstFault front record_at of
+    → HasSoundHeader bytes → front ≡ lsa_bytes bytes → IsFirstLsaFault front record_at of
     → Fault (at + 28 + record_at) (kinds.Lsa of) ≡ Fault place kind → IsRefused at place kind bytes
 told_of_lsa at record_at place of kind bytes front sound is first told =
     let here : at + 28 + record_at ≡ place = cc in
@@ -49,12 +49,12 @@ told_of_lsa at record_at place of kind bytes front sound is first told =
     record {
       offset = 28 + record_at;
       fault = subst (λ (k : UpdateKind). HasFirstFault k (28 + record_at) bytes) same
-          (lsa_refused bytes of record_at sound (subst (λ (b : List ℕ). IsFirstFault b record_at of) is first));
+          (lsa_refused bytes of record_at sound (subst (λ (b : List ℕ). IsFirstLsaFault b record_at of) is first));
       told = omega (arith, here);
     }
 
 pub record_within : (at record_at : ℕ) (of : LsaKind) (bytes front : List ℕ) → at + length bytes < 2 ^ 32
-    → HasSoundHeader bytes → front ≡ lsa_bytes bytes → IsFirstFault front record_at of → at + 28 + record_at < 2 ^ 32
+    → HasSoundHeader bytes → front ≡ lsa_bytes bytes → IsFirstLsaFault front record_at of → at + 28 + record_at < 2 ^ 32
 record_within at record_at of bytes front room sound is first =
     omega (arith, room, first.more, ap length is, length_lsa_bytes bytes sound)
 
@@ -74,7 +74,7 @@ told_here at place of kind bytes first told =
 pub told_in_file : (bytes front : List ℕ) (updates : List Update) (at : ℕ) (e : UpdateError) → at < length bytes
     → IsReadTo bytes updates at → front ≡ drop at bytes
     → ((place : ℕ) (kind : UpdateKind) → e ≡ Fault place kind → IsRefused at place kind front)
-    → (place : ℕ) (kind : UpdateKind) → e ≡ Fault place kind → IsFirstOfFile bytes place kind
+    → (place : ℕ) (kind : UpdateKind) → e ≡ Fault place kind → IsFirstUpdateFault bytes place kind
 told_in_file bytes front updates at e more so_far is told place kind same =
     let refused = told place kind same in
     first_found bytes updates at place kind refused.offset more so_far

@@ -4,7 +4,7 @@ use Rattle.ospf_lsa.specs.declared.error.LsaKind.{LsaKind}
 use Rattle.ospf_lsa.specs.declared.lsa.Lsa.{Lsa}
 use Rattle.ospf_lsa.specs.Lsas.{AreLsas}
 use Rattle.ospf_lsa.specs.LsaText.{lsas_text}
-use Rattle.ospf_lsa.specs.Outcome.{IsFirstFault}
+use Rattle.ospf_lsa.specs.Outcome.{IsFirstLsaFault}
 use Rattle.flood_core.specs.declared.error.UpdateKind.{UpdateKind}
 use Rattle.flood_core.specs.declared.error.UpdateKind.TheVariants as kinds
 use Rattle.flood_core.specs.PacketFields.{ospf_version, link_state_update, version_field, type_field, length_field, count_field, lsa_bytes}
@@ -24,7 +24,7 @@ HasShortLength bytes = length_field bytes < 28
 -- the bytes after its count have a first record with a fault, this one, which begins so far into the packet
 pub record HasLsaFault (kind : LsaKind) (offset : ℕ) (bytes : List ℕ) : Type 0 where
   pub place : ℕ
-  pub fault : IsFirstFault (lsa_bytes bytes) place kind
+  pub fault : IsFirstLsaFault (lsa_bytes bytes) place kind
   pub told : offset ≡ 28 + place
 
 -- the bytes after its count are LSAs, and as many as its count says are they not

@@ -21,7 +21,7 @@ IsRefusal error (Err told) = (told ≡ error) ⊎ (told ≡ NoMemory)
 
 -- the first packet with a fault begins after packets without one, and the first of its faults is this, at this place of
 -- the file
-pub record IsFirstFault (bytes : List ℕ) (at : ℕ) (kind : UpdateKind) : Type 0 where
+pub record IsFirstUpdateFault (bytes : List ℕ) (at : ℕ) (kind : UpdateKind) : Type 0 where
   pub packet : ℕ
   pub before : List Update
   pub more : packet < length bytes

@@ -3,7 +3,7 @@
 ghost use Rattle.std.specs.Prelude.{◌≡◌, ◌≤◌, ℕ, List, [], IfOk, Err, length};
 ghost use Rattle.std.specs.List.{AllByRecursion};
 ghost use Rattle.flood_core.specs.{declared.error.UpdateKind.UpdateKind, declared.update.Update.Update, Receiving.MayFlood, Updates.AreUpdates};
-ghost use Rattle.flood_core.specs.UpdateOutcome.{AreAnswer, IsFirstFault, IsRefusal};
+ghost use Rattle.flood_core.specs.UpdateOutcome.{AreAnswer, IsFirstUpdateFault, IsRefusal};
 
 use crate::error::UpdateError;
 use crate::field::after;
@@ -35,9 +35,9 @@ pub fn read_updates(alloc: Global, bytes: &[u8]) -> Result<Vec<Update>, UpdateEr
 
     // A fault is the first one, and the first one is told.
     ensures fault { (at : ℕ) (kind : UpdateKind)
-        → result ≡ Err (UpdateError.Fault at kind) → IsFirstFault bytes.now at kind }
+        → result ≡ Err (UpdateError.Fault at kind) → IsFirstUpdateFault bytes.now at kind }
     ensures faulty { (at : ℕ) (kind : UpdateKind)
-        → IsFirstFault bytes.now at kind → IsRefusal (UpdateError.Fault at kind) result }
+        → IsFirstUpdateFault bytes.now at kind → IsRefusal (UpdateError.Fault at kind) result }
 {
     let mut updates = Vec::new(alloc);
     let mut at = 0;

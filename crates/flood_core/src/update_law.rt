@@ -4,20 +4,20 @@ ghost use Rattle.std.specs.Prelude.{◌≡◌, ◌⊎◌, ◌<◌, ◌^◌, ℕ,
 ghost use Rattle.std.specs.List.{AllByRecursion};
 ghost use Rattle.ospf_lsa.specs.Lsas.{FitsBody, IsByte};
 ghost use Rattle.flood_core.specs.{declared.error.UpdateKind.UpdateKind, declared.update.Update.Update, Updates.AreUpdates};
-ghost use Rattle.flood_core.specs.{Receiving.MayFlood, Runs.lsas_of, UpdateOutcome.IsFirstFault};
+ghost use Rattle.flood_core.specs.{Receiving.MayFlood, Runs.lsas_of, UpdateOutcome.IsFirstUpdateFault};
 
 /// Any bytes are packets without a fault, one after another, or have a first packet with a fault; never both, and each
 /// in one way.
 pub fn bytes_are_updates_or_have_a_fault()
     ensures either { (bytes : List ℕ) → AllByRecursion IsByte bytes
         → ((updates : List Update) × AreUpdates 0 bytes updates [])
-        ⊎ ((at : ℕ) × (kind : UpdateKind) × IsFirstFault bytes at kind) }
+        ⊎ ((at : ℕ) × (kind : UpdateKind) × IsFirstUpdateFault bytes at kind) }
     ensures never_both { (bytes : List ℕ) (updates : List Update) (at : ℕ) (kind : UpdateKind)
-        → AreUpdates 0 bytes updates [] → IsFirstFault bytes at kind → ⊥ }
+        → AreUpdates 0 bytes updates [] → IsFirstUpdateFault bytes at kind → ⊥ }
     ensures one_list { (bytes : List ℕ) (updates others : List Update)
         → AreUpdates 0 bytes updates [] → AreUpdates 0 bytes others [] → updates ≡ others }
     ensures one_fault { (bytes : List ℕ) (at place : ℕ) (kind other : UpdateKind)
-        → IsFirstFault bytes at kind → IsFirstFault bytes place other
+        → IsFirstUpdateFault bytes at kind → IsFirstUpdateFault bytes place other
         → (at ≡ place) × (kind ≡ other) }
 {}
 

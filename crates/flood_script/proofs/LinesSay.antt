@@ -13,7 +13,7 @@ use Rattle.flood_script.specs.declared.script.FloodLine.TheVariants.{Deliver, Sa
 use Rattle.flood_script.specs.declared.script.FloodScript.{FloodScript}
 use Rattle.flood_script.specs.Deliveries.{deliveries_in, is_delivery}
 use Rattle.flood_script.specs.FloodLines.{line_in, routers_in}
-use Rattle.flood_script.specs.FloodScripts.{IsAmong, IsFirstFault, IsScript}
+use Rattle.flood_script.specs.FloodScripts.{IsAmong, IsFirstFloodFault, IsScript}
 use Rattle.flood_script.specs.Taking.{Said, after_more, flood_rule, may_follow, nothing_said, said, script_of, wrong}
 
 -- a script of these parts
@@ -181,7 +181,7 @@ begins lines so_far say = by so_far.routers so_far.lines (says lines so_far say)
     by None said_lines none = inl (all_passed lines none)
     by (Some routers) said_lines is = inr (script_with routers said_lines, is)
 
-pub script_means : Means flood_rule IsScript (λ lines number fault. IsFirstFault lines number)
+pub script_means : Means flood_rule IsScript (λ lines number fault. IsFirstFloodFault lines number)
 script_means = means flood_rule IsScript (record {
   texts = λ lines script. (is_script lines script, is_text lines script);
   begins = begins;

@@ -28,8 +28,8 @@ pub record IsScript (lines : List (List ℕ)) (script : FloodScript) : Type 0 wh
 
 -- the line with this number, from 1, is the first that is not as it should be; or the lines end before it, and all of them
 -- are passed over, so that there is no first line
-abbrev pub IsFirstFault : List (List ℕ) → ℕ → Type 0
-IsFirstFault lines number = IsFirstWrong IsScript lines number
+abbrev pub IsFirstFloodFault : List (List ℕ) → ℕ → Type 0
+IsFirstFloodFault lines number = IsFirstWrong IsScript lines number
 
 -- what reading comes to is as expected, or there was no memory
 abbrev pub OrNoMemory : Result FloodScript FloodScriptError → Result FloodScript FloodScriptError → Type 0

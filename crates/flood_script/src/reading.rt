@@ -4,7 +4,7 @@ ghost use Rattle.std.specs.Prelude.{◌≡◌, ◌≤◌, ℕ, Ok, Err, IfOk, le
 ghost use Rattle.std.specs.{List.AllByRecursion, Result.result_map_both};
 ghost use Rattle.mrt_graph.specs.TextLines.{text_lines};
 ghost use Rattle.flood_script.specs.{declared.script.FloodScript.FloodScript, Deliveries.deliveries_in, Taking.error_of};
-ghost use Rattle.flood_script.specs.FloodScripts.{IsAmong, IsFirstFault, IsScript, OrNoMemory};
+ghost use Rattle.flood_script.specs.FloodScripts.{IsAmong, IsFirstFloodFault, IsScript, OrNoMemory};
 
 use crate::error::FloodScriptError;
 use crate::script::FloodScript;
@@ -34,8 +34,8 @@ pub fn read_flood_script(alloc: Global, bytes: &[u8]) -> Result<FloodScript, Flo
     ensures only { (script : FloodScript) → IsScript (text_lines bytes.now) script → OrNoMemory result (Ok script) }
     // A fault is the first one, and the first one is told.
     ensures fault { (line : ℕ) → result ≡ Err (FloodScriptError.Fault line)
-        → IsFirstFault (text_lines bytes.now) line }
-    ensures faulty { (line : ℕ) → IsFirstFault (text_lines bytes.now) line
+        → IsFirstFloodFault (text_lines bytes.now) line }
+    ensures faulty { (line : ℕ) → IsFirstFloodFault (text_lines bytes.now) line
         → OrNoMemory result (Err (FloodScriptError.Fault line)) }
     // What is read may be run.
     ensures some { IfOk result (λ script. 1 ≤ script.routers) }

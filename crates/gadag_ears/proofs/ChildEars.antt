@@ -6,7 +6,7 @@ use Rattle.std.proofs.lemmas.Option.{same_Some}
 use Rattle.mrt_graph.specs.declared.tree.TreeNode.{TreeNode}
 use Rattle.mrt_graph.specs.Leads.{leads}
 use Rattle.mrt_graph.specs.Topology.{Topology}
-use Rattle.mrt_graph.specs.TreeWords.{number_of, parent_link, low_of, low_link}
+use Rattle.mrt_graph.specs.TreeWords.{search_number, parent_link, low_of, low_link}
 use Rattle.mrt_graph.proofs.Members.{contains_cases, contains_first, contains_later, contains_none}
 use Rattle.lowpoint_dfs.specs.Subtree.{IsInSubtree, Below, parent_of}
 use Rattle.gadag_ears.specs.declared.kind.EarKind.TheVariants.{Child}
@@ -28,22 +28,22 @@ pub record IsOnWay (g : Topology) (tree : List TreeNode) (listed : List ℕ) (fi
   pub outside : ¬ Contains listed v
   pub below : IsInSubtree g tree first v
   pub low : low_of tree v ≡ low_of tree first
-  pub lower : (v ≡ first) ⊎ (low_of tree first < number_of tree first)
+  pub lower : (v ≡ first) ⊎ (low_of tree first < search_number tree first)
 
 -- a new node after v: it hangs from v or from another new node, and its number is above v's
 pub record IsLower (g : Topology) (tree : List TreeNode) (first v : ℕ) (us : List ℕ) (u : ℕ) : Type 0 where
   pub parent : ℕ
   pub is : parent_of g tree u ≡ Some parent
   pub new : Contains (v ∷ us) parent
-  pub low : low_of tree u < number_of tree parent
-  pub rises : number_of tree v < number_of tree u
+  pub low : low_of tree u < search_number tree parent
+  pub rises : search_number tree v < search_number tree u
   pub within : u < length g.ids
 
 -- where it stops: at x, back over the parent link of its one new node; or where its lowpoint is
 pub data IsChildStop (g : Topology) (tree : List TreeNode) (x first v : ℕ) (us : List ℕ) (stop : ℕ) : Type 0 where
-  Back : stop ≡ x → us ≡ [] → v ≡ first → low_of tree first ≡ number_of tree first → low_link tree first ≡ parent_link tree first
+  Back : stop ≡ x → us ≡ [] → v ≡ first → low_of tree first ≡ search_number tree first → low_link tree first ≡ parent_link tree first
       → IsChildStop g tree x first v us stop
-  AtLow : number_of tree stop ≡ low_of tree first → low_of tree first < number_of tree first → IsInSubtree g tree stop x
+  AtLow : search_number tree stop ≡ low_of tree first → low_of tree first < search_number tree first → IsInSubtree g tree stop x
       → IsChildStop g tree x first v us stop
 
 pub record IsChildWay (g : Topology) (tree : List TreeNode) (x first v : ℕ) (us : List ℕ) (stop : ℕ) : Type 0 where
@@ -67,7 +67,7 @@ no_more us u none c = contains_none u (subst (λ (xs : List ℕ). Contains xs u)
 -- the lowpoint's node is x or above x, so that it is in the list
 pub low_above : (g : Topology) (root : ℕ) (tree : List TreeNode) (listed : List ℕ) (x first v a e : ℕ) → AreFacts g root tree
     → IsChildStart g tree listed x first → IsOnWay g tree listed first v → leads g.links e v ≡ Some a
-    → number_of tree a ≡ low_of tree v → low_of tree v < number_of tree v → low_of tree first < number_of tree first → IsInSubtree g tree a x
+    → search_number tree a ≡ low_of tree v → low_of tree v < search_number tree v → low_of tree first < search_number tree first → IsInSubtree g tree a x
 low_above g root tree listed x first v a e facts start way onward number low lower =
     let above : IsInSubtree g tree a v = elim (facts.joins e v a onward) [
       | inl below ↦ absurd (omega (arith, rises g root tree v a facts below, number, low))
@@ -76,22 +76,22 @@ low_above g root tree listed x first v a e facts start way onward number low low
     elim (one_up g tree a first v above way.below) [
       | inr below ↦ absurd (omega (arith, rises g root tree first a facts below, number, way.low, lower))
       | inl up ↦ elim (parent_below g tree a first x up start.child) [
-        | inl same ↦ absurd (omega (arith, ap (λ (w : ℕ). number_of tree w) same, number, way.low, lower))
+        | inl same ↦ absurd (omega (arith, ap (λ (w : ℕ). search_number tree w) same, number, way.low, lower))
         | inr further ↦ further
       ]
     ]
 
-pub way_lower : (g : Topology) (tree : List TreeNode) (listed : List ℕ) (first v : ℕ) → IsOnWay g tree listed first v → low_of tree v < number_of tree v
-    → low_of tree first < number_of tree first
+pub way_lower : (g : Topology) (tree : List TreeNode) (listed : List ℕ) (first v : ℕ) → IsOnWay g tree listed first v → low_of tree v < search_number tree v
+    → low_of tree first < search_number tree first
 way_lower g tree listed first v way low = elim way.lower [
-  | inl same ↦ subst (λ (w : ℕ). low_of tree w < number_of tree w) same low
+  | inl same ↦ subst (λ (w : ℕ). low_of tree w < search_number tree w) same low
   | inr lower ↦ lower
 ]
 
 -- a step down
 pub down_on_way : (g : Topology) (root : ℕ) (tree : List TreeNode) (listed : List ℕ) (x first v c : ℕ) → AreFacts g root tree
     → IsChildStart g tree listed x first → IsOnWay g tree listed first v → parent_of g tree c ≡ Some v → low_of tree c ≡ low_of tree v
-    → low_of tree v < number_of tree v → IsOnWay g tree listed first c
+    → low_of tree v < search_number tree v → IsOnWay g tree listed first c
 down_on_way g root tree listed x first v c facts start way child low lower = record {
   within = (facts.parent_within c v child).0;
   outside = λ inside. way.outside (start.closed c v inside child);
@@ -101,7 +101,7 @@ down_on_way g root tree listed x first v c facts start way child low lower = rec
 }
 
 step_down : (g : Topology) (root : ℕ) (tree : List TreeNode) (listed : List ℕ) (x first v c : ℕ) (us : List ℕ) (stop : ℕ) → AreFacts g root tree
-    → IsOnWay g tree listed first v → low_of tree v < number_of tree v → IsOnWay g tree listed first c → parent_of g tree c ≡ Some v
+    → IsOnWay g tree listed first v → low_of tree v < search_number tree v → IsOnWay g tree listed first c → parent_of g tree c ≡ Some v
     → IsChildWay g tree x first c us stop → IsChildWay g tree x first v (c ∷ us) stop
 step_down g root tree listed x first v c us stop facts way low next child rest = record {
   nodes = λ u inside. elim (contains_cases c u us inside) [
@@ -130,7 +130,7 @@ step_down g root tree listed x first v c us stop facts way low next child rest =
   where
     above : Contains (c ∷ us) v → ⊥
     above inside = elim (contains_cases c v us inside) [
-      | inl same ↦ omega (arith, facts.falls c v child, ap (λ (w : ℕ). number_of tree w) same)
+      | inl same ↦ omega (arith, facts.falls c v child, ap (λ (w : ℕ). search_number tree w) same)
       | inr later ↦ omega (arith, facts.falls c v child, (rest.nodes v later).rises)
     ]
 
@@ -142,7 +142,7 @@ step_down g root tree listed x first v c us stop facts way low next child rest =
 -- it ends at v over a link to the lowpoint's node
 ends_up : (g : Topology) (root : ℕ) (tree : List TreeNode) (listed : List ℕ) (x first v a e : ℕ) (us : List ℕ) (stop : ℕ) → AreFacts g root tree
     → IsChildStart g tree listed x first → IsOnWay g tree listed first v → GoesOn g tree Child listed v us stop
-    → next_node g tree Child v ≡ Some a → leads g.links e v ≡ Some a → number_of tree a ≡ low_of tree v → low_of tree v < number_of tree v
+    → next_node g tree Child v ≡ Some a → leads g.links e v ≡ Some a → search_number tree a ≡ low_of tree v → low_of tree v < search_number tree v
     → IsChildWay g tree x first v us stop
 ends_up g root tree listed x first v a e us stop facts start way goes is onward number low =
     let lower = way_lower g tree listed first v way low in
@@ -152,17 +152,17 @@ ends_up g root tree listed x first v a e us stop facts start way goes is onward 
     record {
       nodes = λ u c. absurd (no_more us u both.0 c);
       once = alone v us both.0;
-      stops = AtLow (ap (λ (w : ℕ). number_of tree w) both.1 ∙ number ∙ way.low) lower (subst (λ (w : ℕ). IsInSubtree g tree w x) (sym both.1) above);
+      stops = AtLow (ap (λ (w : ℕ). search_number tree w) both.1 ∙ number ∙ way.low) lower (subst (λ (w : ℕ). IsInSubtree g tree w x) (sym both.1) above);
     }
 
 -- it ends at v over v's parent link, where v is the first node
 goes_back : (g : Topology) (root : ℕ) (tree : List TreeNode) (listed : List ℕ) (x first v : ℕ) (us : List ℕ) (stop : ℕ) → AreFacts g root tree
     → IsChildStart g tree listed x first → IsOnWay g tree listed first v → GoesOn g tree Child listed v us stop
-    → low_of tree v ≡ number_of tree v → low_link tree v ≡ parent_link tree v → IsChildWay g tree x first v us stop
+    → low_of tree v ≡ search_number tree v → low_link tree v ≡ parent_link tree v → IsChildWay g tree x first v us stop
 goes_back g root tree listed x first v us stop facts start way goes own link = elim way.lower [
   | inr lower ↦ absurd (omega (arith, way.low, own, lower, rises g root tree first v facts way.below))
   | inl same ↦
-      let own' : low_of tree first ≡ number_of tree first = subst (λ (w : ℕ). low_of tree w ≡ number_of tree w) same own in
+      let own' : low_of tree first ≡ search_number tree first = subst (λ (w : ℕ). low_of tree w ≡ search_number tree w) same own in
       let link' : low_link tree first ≡ parent_link tree first = subst (λ (w : ℕ). low_link tree w ≡ parent_link tree w) same link in
       let is : next_node g tree Child v ≡ Some x =
       ap (λ o. option_and_then (λ e. leads g.links e v) o) link ∙ subst (λ (w : ℕ). parent_of g tree w ≡ Some x) (sym same) start.child in

@@ -11,7 +11,7 @@ use Rattle.mrt_graph.specs.GadagWords.{block_at, head_at}
 use Rattle.mrt_graph.specs.GraphInvariant.{IsLink, IsTopology}
 use Rattle.mrt_graph.specs.Leads.{far_node, leads}
 use Rattle.mrt_graph.specs.Topology.{Topology}
-use Rattle.mrt_graph.specs.TreeWords.{low_of, number_of}
+use Rattle.mrt_graph.specs.TreeWords.{low_of, search_number}
 use Rattle.mrt_graph.proofs.Hops.{far_ends, lead_back}
 use Rattle.mrt_graph.proofs.ListTests.{all_at, there}
 use Rattle.lowpoint_dfs.specs.Subtree.{IsInSubtree, Itself, parent_of}
@@ -92,20 +92,20 @@ common_block g root tree places e u v facts by_low one_each onward = elim (facts
 pub record IsHeaded (g : Topology) (root : ℕ) (tree : List TreeNode) (places : List Place) (v : ℕ) : Type 0 where
   pub head : ℕ
   pub has : head_at places v ≡ Some head
-  pub lower : number_of tree head < number_of tree v
+  pub lower : search_number tree head < search_number tree v
   pub block : ℕ
   pub block_has : block_at places v ≡ Some block
   pub not_root : block ≢ root
 
 pub headed : (left : ℕ) (g : Topology) (root : ℕ) (tree : List TreeNode) (places : List Place) (v : ℕ) → AreFacts g root tree
     → ((v p : ℕ) → v < length g.ids → parent_of g tree v ≡ Some p → IsPlacedByLow g tree places v p)
-    → v < length g.ids → v ≢ root → number_of tree v ≤ left → IsHeaded g root tree places v
+    → v < length g.ids → v ≢ root → search_number tree v ≤ left → IsHeaded g root tree places v
 headed zero g root tree places v facts by_low within other few =
     let has = facts.parent v within other in absurd (omega (arith, has.lower, few))
 headed (suc left) g root tree places v facts by_low within other few =
     let has = facts.parent v within other in
     let place = by_low v has.parent within has.is in
-    elim (cases_lt (low_of tree v) (number_of tree has.parent)) [
+    elim (cases_lt (low_of tree v) (search_number tree has.parent)) [
       | inr high ↦ record {
         head = has.parent;
         has = (place.heads high).0;
@@ -115,7 +115,7 @@ headed (suc left) g root tree places v facts by_low within other few =
         not_root = other;
       }
       | inl low ↦
-          let further : has.parent ≢ root = λ same. omega (arith, low, facts.low_from_one v within, facts.root_first, ap (λ (w : ℕ). number_of tree w) same) in
+          let further : has.parent ≢ root = λ same. omega (arith, low, facts.low_from_one v within, facts.root_first, ap (λ (w : ℕ). search_number tree w) same) in
           let rest = headed left g root tree places has.parent facts by_low (facts.parent_within v has.parent has.is).1 further (omega (arith, has.lower, few)) in
           record {
             head = rest.head;
@@ -134,7 +134,7 @@ pub root_alone : (g : Topology) (root : ℕ) (tree : List TreeNode) (places : Li
 root_alone g root tree places v facts by_low within is = elim (cases_eq v root) [
   | inl same ↦ same
   | inr other ↦
-      let it = headed (number_of tree v) g root tree places v facts by_low within other (omega arith) in
+      let it = headed (search_number tree v) g root tree places v facts by_low within other (omega arith) in
       absurd (it.not_root (same_Some it.block root (sym it.block_has ∙ is)))
 ]
 
@@ -147,14 +147,14 @@ not_both_heads g root tree places u v facts by_low of_root u_within v_within oth
   | inr v_other ↦ elim (cases_eq u root) [
     | inl same ↦ other (same_Some u v (ap (λ (w : ℕ). Some w) same ∙ sym of_root ∙ ap (λ (w : ℕ). head_at places w) (sym same) ∙ u_head))
     | inr u_other ↦
-        let one = headed (number_of tree v) g root tree places v facts by_low v_within v_other (omega arith) in
-        let two = headed (number_of tree u) g root tree places u facts by_low u_within u_other (omega arith) in
+        let one = headed (search_number tree v) g root tree places v facts by_low v_within v_other (omega arith) in
+        let two = headed (search_number tree u) g root tree places u facts by_low u_within u_other (omega arith) in
         omega (
           arith,
           one.lower,
           two.lower,
-          ap (λ (w : ℕ). number_of tree w) (same_Some one.head u (sym one.has ∙ v_head)),
-          ap (λ (w : ℕ). number_of tree w) (same_Some two.head v (sym two.has ∙ u_head)),
+          ap (λ (w : ℕ). search_number tree w) (same_Some one.head u (sym one.has ∙ v_head)),
+          ap (λ (w : ℕ). search_number tree w) (same_Some two.head v (sym two.has ∙ u_head)),
         )
   ]
 ]

@@ -5,7 +5,7 @@ use Rattle.std.proofs.lemmas.Option.{same_Some}
 use Rattle.mrt_graph.specs.declared.tree.TreeNode.{TreeNode}
 use Rattle.mrt_graph.specs.Leads.{leads}
 use Rattle.mrt_graph.specs.Topology.{Topology}
-use Rattle.mrt_graph.specs.TreeWords.{number_of}
+use Rattle.mrt_graph.specs.TreeWords.{search_number}
 use Rattle.mrt_graph.proofs.Hops.{lead_back, same_ends}
 use Rattle.mrt_graph.proofs.Members.{contains_cases, contains_first, contains_later, contains_none}
 use Rattle.gadag_ears.specs.declared.kind.EarKind.{EarKind}
@@ -108,7 +108,7 @@ stops_there g tree kind listed v (u ∷ us) stop a goes is inside =
 back_is_child : (g : Topology) (root : ℕ) (tree : List TreeNode) (ear : Ear) → AreFacts g root tree → ear.others ≡ [] → ear.stop ≡ ear.start
     → IsHung g tree ear ear.first → ear.kind ≡ Child
 back_is_child g root tree ear facts none back (FromNew p is new low) = elim (contains_cases ear.first p ear.others new) [
-  | inl same ↦ absurd (omega (arith, facts.falls ear.first p is, ap (λ (w : ℕ). number_of tree w) same))
+  | inl same ↦ absurd (omega (arith, facts.falls ear.first p is, ap (λ (w : ℕ). search_number tree w) same))
   | inr later ↦ absurd (contains_none p (subst (λ (xs : List ℕ). Contains xs p) none later))
 ]
 back_is_child g root tree ear facts none back (FromStop is other low) = absurd (other back)

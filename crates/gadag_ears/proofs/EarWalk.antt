@@ -7,7 +7,7 @@ use Rattle.mrt_graph.specs.declared.link.End.{End}
 use Rattle.mrt_graph.specs.declared.tree.TreeNode.{TreeNode}
 use Rattle.mrt_graph.specs.Leads.{leads}
 use Rattle.mrt_graph.specs.Topology.{Topology}
-use Rattle.mrt_graph.specs.TreeWords.{number_of}
+use Rattle.mrt_graph.specs.TreeWords.{search_number}
 use Rattle.mrt_graph.proofs.EndsAt.{end_leads}
 use Rattle.mrt_graph.specs.FirstEnd.{IsFirstEnd}
 use Rattle.lowpoint_dfs.specs.Subtree.{IsInSubtree, Itself, parent_of}
@@ -23,9 +23,9 @@ use Rattle.gadag_ears.proofs.SearchFacts.{AreFacts, Down, IsLowWay, ToParent, Up
 
 -- an ear from x at a node on its way, with k new nodes before it
 pub data IsGoing (g : Topology) (tree : List TreeNode) (nodes : List ℕ) (x first link here k : ℕ) : EarKind → Type 0 where
-  GoesDown : IsChildStart g tree nodes x first → IsOnWay g tree nodes first here → k + number_of tree first ≤ number_of tree here
+  GoesDown : IsChildStart g tree nodes x first → IsOnWay g tree nodes first here → k + search_number tree first ≤ search_number tree here
       → IsGoing g tree nodes x first link here k Child
-  Climbs : IsNeighbourStart g tree nodes x first link → IsClimbing g tree nodes x first here → k + number_of tree here ≤ number_of tree first
+  Climbs : IsNeighbourStart g tree nodes x first link → IsClimbing g tree nodes x first here → k + search_number tree here ≤ search_number tree first
       → IsGoing g tree nodes x first link here k Neighbour
 
 -- the same for the code, which holds marks
@@ -41,8 +41,8 @@ pub record IsWalking (g : Topology) (tree : List TreeNode) (kind : EarKind) (lis
 
 -- how far it is to the end
 abbrev pub rank : Topology → List TreeNode → EarKind → ℕ → ℕ
-rank g tree Child v = length g.ids - number_of tree v
-rank g tree Neighbour v = number_of tree v
+rank g tree Child v = length g.ids - search_number tree v
+rank g tree Neighbour v = search_number tree v
 
 -- a child of x, or a node below it, has a parent
 below_child : (g : Topology) (tree : List TreeNode) (nodes : List ℕ) (x first here : ℕ) → IsChildStart g tree nodes x first → IsOnWay g tree nodes first here
@@ -68,9 +68,9 @@ next_there g root tree nodes x first link here k kind facts (Climbs start way co
 
 -- a step to a node outside
 down_on : (g : Topology) (root : ℕ) (tree : List TreeNode) (nodes : List ℕ) (x first link here k w : ℕ) → AreFacts g root tree
-    → IsChildStart g tree nodes x first → IsOnWay g tree nodes first here → k + number_of tree first ≤ number_of tree here
+    → IsChildStart g tree nodes x first → IsOnWay g tree nodes first here → k + search_number tree first ≤ search_number tree here
     → next_node g tree Child here ≡ Some w → ¬ Contains nodes w → IsLowWay g tree here
-    → IsGoing g tree nodes x first link w (k + 1) Child × (number_of tree here < number_of tree w)
+    → IsGoing g tree nodes x first link w (k + 1) Child × (search_number tree here < search_number tree w)
 down_on g root tree nodes x first link here k w facts start way count is outside (ToParent own link') = elim way.lower [
   | inr lower ↦ absurd (omega (arith, way.low, own, lower, rises g root tree first here facts way.below))
   | inl same ↦
@@ -86,7 +86,7 @@ down_on g root tree nodes x first link here k w facts start way count is outside
 down_on g root tree nodes x first link here k w facts start way count is outside (Down c down child low lower) =
     let same : c ≡ w = same_Some c w (sym down ∙ is) in
     let next = down_on_way g root tree nodes x first here c facts start way child low lower in
-    subst (λ (v : ℕ). IsGoing g tree nodes x first link v (k + 1) Child × (number_of tree here < number_of tree v)) same
+    subst (λ (v : ℕ). IsGoing g tree nodes x first link v (k + 1) Child × (search_number tree here < search_number tree v)) same
     (GoesDown start next (omega (arith, count, facts.falls c here child)), facts.falls c here child)
 
 -- how far it was and is

@@ -7,7 +7,7 @@ use Rattle.mrt_graph.specs.declared.link.End.{End}
 use Rattle.mrt_graph.specs.declared.tree.TreeNode.{TreeNode}
 use Rattle.mrt_graph.specs.Leads.{leads}
 use Rattle.mrt_graph.specs.Topology.{Topology}
-use Rattle.mrt_graph.specs.TreeWords.{number_of, parent_link, low_of, low_link}
+use Rattle.mrt_graph.specs.TreeWords.{search_number, parent_link, low_of, low_link}
 use Rattle.mrt_graph.proofs.EndsAt.{end_leads}
 use Rattle.mrt_graph.proofs.Hops.{lead_back, same_ends}
 use Rattle.lowpoint_dfs.specs.Lowpoint.{IsLowLink, ByOffer, ByParent, is_parent_link, offer}
@@ -27,14 +27,14 @@ none_some : (n : ℕ) → None ≡ Some n → ⊥
 none_some n same = cc
 
 falls_of : (g : Topology) (root : ℕ) (tree : List TreeNode) → IsSearched g root tree → (v p : ℕ) → parent_of g tree v ≡ Some p
-    → number_of tree p < number_of tree v
+    → search_number tree p < search_number tree v
 falls_of g root tree s = tree_falls g root tree s.kept s.within s.search
 
 -- a lowpoint is at most each number that a link from the subtree reaches
 by_link_of : (g : Topology) (root : ℕ) (tree : List TreeNode) → IsSearched g root tree → (v w e x : ℕ) → v < length g.ids → IsInSubtree g tree v w
-    → parent_link tree v ≢ Some e → leads g.links e w ≡ Some x → low_of tree v ≤ number_of tree x
+    → parent_link tree v ≢ Some e → leads g.links e w ≡ Some x → low_of tree v ≤ search_number tree x
 by_link_of g root tree s v w e x within inside other onward =
-    (low_reached g root tree s.kept s.within s.search v within).least (number_of tree x)
+    (low_reached g root tree s.kept s.within s.search v within).least (search_number tree x)
     (inr (record { link = e; from = w; to = x; inside = inside; leads_on = onward; other = other; number = refl }))
 
 -- a parent's parent link does not touch the child's subtree
@@ -45,8 +45,8 @@ not_above g root tree v p w e x s is inside onward over =
     let above = falls_of g root tree s p up.0 (parent_over g tree p e up.0 over up.1) in
     let rise = numbers_rise g tree v w (falls_of g root tree s) inside in
     elim (same_ends g.links e p up.0 w x up.1 onward) [
-      | inl at_p ↦ omega (arith, falls_of g root tree s v p is, rise, ap (λ (z : ℕ). number_of tree z) at_p)
-      | inr at_up ↦ omega (arith, falls_of g root tree s v p is, rise, above, ap (λ (z : ℕ). number_of tree z) at_up)
+      | inl at_p ↦ omega (arith, falls_of g root tree s v p is, rise, ap (λ (z : ℕ). search_number tree z) at_p)
+      | inr at_up ↦ omega (arith, falls_of g root tree s v p is, rise, above, ap (λ (z : ℕ). search_number tree z) at_up)
     ]
 
 by_child_of : (g : Topology) (root : ℕ) (tree : List TreeNode) → IsSearched g root tree → (v p : ℕ) → parent_of g tree v ≡ Some p → low_of tree p ≤ low_of tree v
@@ -67,7 +67,7 @@ by_child_of g root tree s v p is =
     ]
 
 -- where a lowpoint link leads
-low_way_over : (g : Topology) (root : ℕ) (tree : List TreeNode) (v : ℕ) (end : End) → IsSearched g root tree → low_of tree v < number_of tree v
+low_way_over : (g : Topology) (root : ℕ) (tree : List TreeNode) (v : ℕ) (end : End) → IsSearched g root tree → low_of tree v < search_number tree v
     → leads g.links end.link v ≡ Some end.to → offer tree v end ≡ Some (low_of tree v) → low_link tree v ≡ Some end.link → IsLowWay g tree v
 low_way_over g root tree v end s lower onward offers link =
     let next : next_node g tree Child v ≡ Some end.to = ap (λ o. option_and_then (λ e. leads g.links e v) o) link ∙ onward in
@@ -75,8 +75,8 @@ low_way_over g root tree v end s lower onward offers link =
       | inl own ↦ let none : None ≡ Some (low_of tree v) = rw own at offers in absurd (none_some (low_of tree v) none)
       | inr free ↦ elim (cases_Bool (is_parent_link tree end.to end.link)) [
         | inr no_child ↦
-            let is : Some (number_of tree end.to) ≡ Some (low_of tree v) = rw (free, no_child) at offers in
-            Up end.to end.link next onward (same_Some (number_of tree end.to) (low_of tree v) is) lower
+            let is : Some (search_number tree end.to) ≡ Some (low_of tree v) = rw (free, no_child) at offers in
+            Up end.to end.link next onward (same_Some (search_number tree end.to) (low_of tree v) is) lower
         | inl child ↦
             let is : Some (low_of tree end.to) ≡ Some (low_of tree v) = rw (free, child) at offers in
             Down end.to next (parent_over g tree end.to end.link v (parent_link_is tree end.to end.link child) (lead_back g.links end.link v end.to onward))
@@ -90,7 +90,7 @@ low_way_of g root tree v s (ByOffer end lower first link) =
     low_way_over g root tree v end s lower (end_leads g v first.place first.ends end s.kept first.list first.there) first.asked link
 
 -- where a lowpoint is below the node's number its link is not the parent link
-low_free_of : (g : Topology) (tree : List TreeNode) (v e : ℕ) → low_of tree v < number_of tree v → low_link tree v ≡ Some e → IsLowLink g tree v
+low_free_of : (g : Topology) (tree : List TreeNode) (v e : ℕ) → low_of tree v < search_number tree v → low_link tree v ≡ Some e → IsLowLink g tree v
     → parent_link tree v ≢ Some e
 low_free_of g tree v e lower is (ByParent own link) over = omega (arith, lower, own)
 low_free_of g tree v e lower is (ByOffer end low first link) over =
@@ -125,7 +125,7 @@ facts_of g root tree s = record {
   parent_within = λ v p is. let over = over_link g tree v p is in leads_within g over.link v p s.kept over.onward;
   touches = link_touches g root tree s.kept s.within s.search;
   joins = joins_all g root tree s.kept s.within s.search;
-  own = λ v within. (low_reached g root tree s.kept s.within s.search v within).least (number_of tree v) (inl refl);
+  own = λ v within. (low_reached g root tree s.kept s.within s.search v within).least (search_number tree v) (inl refl);
   by_child = by_child_of g root tree s;
   by_link = by_link_of g root tree s;
   root_first = (root_first g root tree s.search.order s.search.searched).number;

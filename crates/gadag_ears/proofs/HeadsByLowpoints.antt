@@ -7,7 +7,7 @@ use Rattle.mrt_graph.specs.declared.tree.TreeNode.{TreeNode}
 use Rattle.mrt_graph.specs.GadagWords.{block_at, head_at}
 use Rattle.mrt_graph.specs.Leads.{leads}
 use Rattle.mrt_graph.specs.Topology.{Topology}
-use Rattle.mrt_graph.specs.TreeWords.{number_of, low_of, parent_link}
+use Rattle.mrt_graph.specs.TreeWords.{search_number, low_of, parent_link}
 use Rattle.mrt_graph.proofs.Hops.{lead_back, same_ends}
 use Rattle.mrt_graph.proofs.Members.{contains_cases, contains_first, contains_later, contains_none}
 use Rattle.lowpoint_dfs.specs.Subtree.{Below, IsInSubtree, Itself, parent_of}
@@ -24,8 +24,8 @@ use Rattle.gadag_ears.proofs.TurnsKept.{AreKept, all_kept, brought_at, ends_ahea
 -- where a node's lowpoint is at least its parent's number, the parent is its head, and the block is named by the node; else
 -- head and block are those of the parent
 pub record IsPlacedByLow (g : Topology) (tree : List TreeNode) (places : List Place) (v p : ℕ) : Type 0 where
-  pub heads : number_of tree p ≤ low_of tree v → HasPlace places v p v
-  pub joins : low_of tree v < number_of tree p → IsPlacedAs places v p
+  pub heads : search_number tree p ≤ low_of tree v → HasPlace places v p v
+  pub joins : low_of tree v < search_number tree p → IsPlacedAs places v p
 
 pub placed_on : (places : List Place) (u v w : ℕ) → IsPlacedAs places u v → IsPlacedAs places v w → IsPlacedAs places u w
 placed_on places u v w first second = (first.0 ∙ second.0, first.1 ∙ second.1)
@@ -43,11 +43,11 @@ ArePlacedByLow g tree places Listed = (v p : ℕ) → Listed v → parent_of g t
 -- a node below a, whose turn is to come, with a lowpoint of at most a's number is placed as a
 pub placed_as_above : (g : Topology) (root : ℕ) (tree : List TreeNode) (places : List Place) (over : List ℕ) (x : ℕ) (later : List ℕ) (a v : ℕ)
     → AreFacts g root tree → AreKept g tree over x later → ArePlacedByLow g tree places (Contains (over ++ x ∷ later))
-    → Contains later a → Contains (over ++ x ∷ later) v → IsInSubtree g tree a v → low_of tree v ≤ number_of tree a → IsPlacedAs places v a
+    → Contains later a → Contains (over ++ x ∷ later) v → IsInSubtree g tree a v → low_of tree v ≤ search_number tree a → IsPlacedAs places v a
 placed_as_above g root tree places over x later a v facts kept by_low to_come inside Itself low = (refl, refl)
 placed_as_above g root tree places over x later a v facts kept by_low to_come inside (Below w p is rest) low =
     let p_in = kept.closed w p inside is in
-    let lower : low_of tree w < number_of tree p = elim (hangs_below g tree a p rest) [
+    let lower : low_of tree w < search_number tree p = elim (hangs_below g tree a p rest) [
       | inl same ↦ kept.waits w p inside is (subst (λ (y : ℕ). Contains later y) same to_come)
       | inr it ↦ omega (arith, low, facts.falls p it.parent it.is, rises g root tree a it.parent facts it.below)
     ] in
@@ -79,28 +79,28 @@ hung_placed : (g : Topology) (root : ℕ) (tree : List TreeNode) (places : List 
     → Contains (new_nodes ear) v → parent_of g tree v ≡ Some p → IsHung g tree ear v → IsPlacedByLow g tree places v p
 hung_placed g root tree places all over later ear v p facts kept are there by_low ahead new is (FromNew q so inside low) =
     let same : q ≡ p = one_parent g tree v q p so is in
-    let lower : low_of tree v < number_of tree p = subst (λ (w : ℕ). low_of tree v < number_of tree w) same low in
+    let lower : low_of tree v < search_number tree p = subst (λ (w : ℕ). low_of tree v < search_number tree w) same low in
     record {
       heads = λ high. absurd (omega (arith, high, lower));
       joins = λ _. new_alike root all places ear v p are there new (subst (λ (w : ℕ). Contains (new_nodes ear) w) same inside) (begins_or_not ear);
     }
 hung_placed g root tree places all over later ear v p facts kept are there by_low ahead new is (FromStop so other low) =
     let same : ear.stop ≡ p = one_parent g tree v ear.stop p so is in
-    let lower : low_of tree v < number_of tree p = subst (λ (w : ℕ). low_of tree v < number_of tree w) same low in
+    let lower : low_of tree v < search_number tree p = subst (λ (w : ℕ). low_of tree v < search_number tree w) same low in
     record {
       heads = λ high. absurd (omega (arith, high, lower));
       joins = λ _. subst (λ (w : ℕ). IsPlacedAs places v w) same (are.of_stop ear v there new (λ begins. other begins.1));
     }
 hung_placed g root tree places all over later ear v p facts kept are there by_low ahead new is (FromStart so other low above) =
     let same : ear.start ≡ p = one_parent g tree v ear.start p so is in
-    let further : number_of tree ear.stop < number_of tree ear.start = elim (hangs_below g tree ear.stop ear.start above) [
+    let further : search_number tree ear.stop < search_number tree ear.start = elim (hangs_below g tree ear.stop ear.start above) [
       | inl it ↦ absurd (other it)
       | inr it ↦ omega (arith, facts.falls ear.start it.parent it.is, rises g root tree ear.stop it.parent facts it.below)
     ] in
     let to_come : Contains later ear.stop = elim ahead [ inl it ↦ absurd (other it) | inr it ↦ it ] in
-    let low_start : low_of tree ear.start ≤ number_of tree ear.stop = omega (arith, facts.by_child v ear.start so, low) in
+    let low_start : low_of tree ear.start ≤ search_number tree ear.stop = omega (arith, facts.by_child v ear.start so, low) in
     record {
-      heads = λ high. absurd (omega (arith, high, low, further, ap (λ (w : ℕ). number_of tree w) same));
+      heads = λ high. absurd (omega (arith, high, low, further, ap (λ (w : ℕ). search_number tree w) same));
       joins = λ _. subst (λ (w : ℕ). IsPlacedAs places v w) same
           (placed_on places v ear.stop ear.start (are.of_stop ear v there new (λ begins. other begins.1))
           (placed_back places ear.start ear.stop
@@ -111,7 +111,7 @@ hung_placed g root tree places all over later ear v p facts kept are there by_lo
     let place : HasPlace places v ear.start ear.first = are.of_block ear v there new (kind, same_stop) in
     record {
       heads = λ _. (place.0 ∙ ap (λ (w : ℕ). Some w) same, place.1 ∙ ap (λ (w : ℕ). Some w) (sym first));
-      joins = λ low. absurd (omega (arith, low, high, ap (λ (w : ℕ). number_of tree w) same));
+      joins = λ low. absurd (omega (arith, low, high, ap (λ (w : ℕ). search_number tree w) same));
     }
 
 -- all listed nodes are placed by their lowpoints
@@ -148,7 +148,7 @@ below_head g root tree places u w e d facts by_low onward Itself under other = a
 below_head g root tree places u w e d facts by_low onward (Below x p is above) under other =
     let place = by_low x p (facts.parent_within x p is).0 is in
     elim (cases_eq p u) [
-      | inl same ↦ elim (cases_lt (low_of tree x) (number_of tree p)) [
+      | inl same ↦ elim (cases_lt (low_of tree x) (search_number tree p)) [
         | inl low ↦ inl ((place.joins low).1 ∙ ap (λ (y : ℕ). block_at places y) same)
         | inr high ↦ inr ((place.heads high).0 ∙ ap (λ (y : ℕ). Some y) same)
       ]
@@ -156,11 +156,11 @@ below_head g root tree places u w e d facts by_low onward (Below x p is above) u
           let not_over : parent_link tree x ≢ Some e = λ over.
           let up : leads g.links e x ≡ Some p = rw over at is in
           elim (same_ends g.links e x p u w up (lead_back g.links e w u onward)) [ inl at_x ↦ other (sym at_x) | inr at_p ↦ further (sym at_p) ] in
-          let strictly : number_of tree u < number_of tree p = elim (hangs_below g tree u p above) [
+          let strictly : search_number tree u < search_number tree p = elim (hangs_below g tree u p above) [
             | inl it ↦ absurd (further (sym it))
             | inr it ↦ omega (arith, facts.falls p it.parent it.is, rises g root tree u it.parent facts it.below)
           ] in
-          let low : low_of tree x < number_of tree p = omega (arith, facts.by_link x w e u (facts.parent_within x p is).0 under not_over onward, strictly) in
+          let low : low_of tree x < search_number tree p = omega (arith, facts.by_link x w e u (facts.parent_within x p is).0 under not_over onward, strictly) in
           let same_place = place.joins low in
           elim (below_head g root tree places u w e p facts by_low onward above (parent_above g tree x p w is under) further) [
             | inl same ↦ inl (same_place.1 ∙ same)

@@ -12,7 +12,7 @@ use Rattle.mrt_graph.specs.GadagLists.{GadagLists}
 use Rattle.mrt_graph.specs.GadagWords.{block_at, head_at, role_at}
 use Rattle.mrt_graph.specs.Leads.{leads}
 use Rattle.mrt_graph.specs.Topology.{Topology}
-use Rattle.mrt_graph.specs.TreeWords.{number_of}
+use Rattle.mrt_graph.specs.TreeWords.{search_number}
 use Rattle.mrt_graph.proofs.ListPlaces.{place_of}
 use Rattle.mrt_graph.proofs.Members.{contains_cases, contains_first, contains_later, contains_none}
 use Rattle.gadag_ears.specs.declared.kind.EarKind.{EarKind}
@@ -61,22 +61,22 @@ in_block_of_both g root tree gadag it e u v to same =
 
 -- an ear's start has a lower number than its first node
 start_lower : (g : Topology) (root : ℕ) (tree : List TreeNode) (nodes : List ℕ) (x first link : ℕ) (kind : EarKind) → AreFacts g root tree
-    → IsGoing g tree nodes x first link first 0 kind → number_of tree x < number_of tree first
+    → IsGoing g tree nodes x first link first 0 kind → search_number tree x < search_number tree first
 start_lower g root tree nodes x first link kind facts (GoesDown start way count) = facts.falls first x start.child
 start_lower g root tree nodes x first link kind facts (Climbs start way count) =
     strictly g root tree x first facts way.below (λ same. way.outside (subst (λ (w : ℕ). Contains nodes w) (sym same) start.in_list))
 
 -- so the first node is not the head of the start
 not_head : (g : Topology) (root : ℕ) (tree : List TreeNode) (gadag : GadagLists) → AreFacts g root tree → IsGadag g root tree gadag → (u v : ℕ)
-    → u < length g.ids → number_of tree u < number_of tree v → head_at gadag.places u ≡ Some v → ⊥
+    → u < length g.ids → search_number tree u < search_number tree v → head_at gadag.places u ≡ Some v → ⊥
 not_head g root tree gadag facts it u v within lower head = elim (cases_eq u root) [
   | inl same ↦
       let v_root : root ≡ v = same_Some root v (sym it.places.of_root.0 ∙ ap (λ (w : ℕ). head_at gadag.places w) (sym same) ∙ head) in
-      omega (arith, lower, ap (λ (w : ℕ). number_of tree w) v_root, ap (λ (w : ℕ). number_of tree w) same)
+      omega (arith, lower, ap (λ (w : ℕ). search_number tree w) v_root, ap (λ (w : ℕ). search_number tree w) same)
   | inr other ↦
-      let its = headed (number_of tree u) g root tree gadag.places u facts (placed_by_low g root tree gadag.order it.ears gadag.places facts it.are_ears it.places)
+      let its = headed (search_number tree u) g root tree gadag.places u facts (placed_by_low g root tree gadag.order it.ears gadag.places facts it.are_ears it.places)
       within other (omega arith) in
-      omega (arith, its.lower, lower, ap (λ (w : ℕ). number_of tree w) (same_Some its.head v (sym its.has ∙ head)))
+      omega (arith, its.lower, lower, ap (λ (w : ℕ). search_number tree w) (same_Some its.head v (sym its.has ∙ head)))
 ]
 
 -- the first link of an ear lies in the block of its first node
@@ -87,8 +87,8 @@ first_link g root tree gadag facts it ear among way =
     let lies = it.marks.blocks ear.link (link_there g ear.link ear.start ear.first to).within in
     record { block = lies.block; of_link = lies.is; of_node = go lies.block (lies.common ear.start ear.first to) }
   where
-    lower : number_of tree ear.start < number_of tree ear.first
-    lower = subst (λ (w : ℕ). number_of tree w < number_of tree ear.first) (sym way.way.next.from)
+    lower : search_number tree ear.start < search_number tree ear.first
+    lower = subst (λ (w : ℕ). search_number tree w < search_number tree ear.first) (sym way.way.next.from)
         (start_lower g root tree way.listed way.x ear.first way.way.next.end.link ear.kind facts way.way.going)
 
     go : (k : ℕ) → IsCommonBlock gadag.places ear.start ear.first k → block_at gadag.places ear.first ≡ Some k

@@ -5,7 +5,7 @@ use Rattle.std.proofs.lemmas.Option.{same_Some}
 use Rattle.mrt_graph.specs.declared.tree.TreeNode.{TreeNode}
 use Rattle.mrt_graph.specs.Leads.{leads}
 use Rattle.mrt_graph.specs.Topology.{Topology}
-use Rattle.mrt_graph.specs.TreeWords.{number_of, parent_link, low_of}
+use Rattle.mrt_graph.specs.TreeWords.{search_number, parent_link, low_of}
 use Rattle.mrt_graph.proofs.Hops.{lead_back, same_ends}
 use Rattle.mrt_graph.proofs.Members.{contains_cases, contains_first, contains_later, contains_none}
 use Rattle.lowpoint_dfs.specs.Subtree.{IsInSubtree, parent_of}
@@ -28,7 +28,7 @@ pub record IsHigher (g : Topology) (tree : List TreeNode) (x d : ℕ) : Type 0 w
   pub is : parent_of g tree d ≡ Some parent
   pub below : IsInSubtree g tree x parent
   pub not_x : parent ≢ x
-  pub low : low_of tree d < number_of tree parent
+  pub low : low_of tree d < search_number tree parent
 
 -- a node on its way
 pub record IsClimbing (g : Topology) (tree : List TreeNode) (listed : List ℕ) (x first d : ℕ) : Type 0 where
@@ -37,7 +37,7 @@ pub record IsClimbing (g : Topology) (tree : List TreeNode) (listed : List ℕ) 
   pub above : IsInSubtree g tree d first
 
 pub strictly : (g : Topology) (root : ℕ) (tree : List TreeNode) (u v : ℕ) → AreFacts g root tree → IsInSubtree g tree u v → v ≢ u
-    → number_of tree u < number_of tree v
+    → search_number tree u < search_number tree v
 strictly g root tree u v facts below other = elim (hangs_below g tree u v below) [
   | inl same ↦ absurd (other (sym same))
   | inr it ↦ omega (arith, facts.falls v it.parent it.is, rises g root tree u it.parent facts it.below)
@@ -61,7 +61,7 @@ climbs g root tree listed x first link d facts start way = elim (hangs_below g t
   | inl same ↦ absurd (way.outside (subst (λ (w : ℕ). Contains listed w) same start.in_list))
   | inr it ↦
       let not_x : it.parent ≢ x = λ same. way.outside (start.children d (it.is ∙ ap (λ (w : ℕ). Some w) same)) in
-      let low : low_of tree d ≤ number_of tree x = facts.by_link d first link x (facts.parent_within d it.parent it.is).0 way.above
+      let low : low_of tree d ≤ search_number tree x = facts.by_link d first link x (facts.parent_within d it.parent it.is).0 way.above
       (not_over g tree listed x first link d it.parent start way it.is) (lead_back g.links link x first start.touches) in
       record {
         parent = it.parent;
@@ -77,12 +77,12 @@ pub record IsUpper (g : Topology) (tree : List TreeNode) (v : ℕ) (us : List �
   pub parent : ℕ
   pub is : parent_of g tree u ≡ Some parent
   pub new : Contains us parent ⊎ (parent ≡ stop)
-  pub low : low_of tree u < number_of tree parent
+  pub low : low_of tree u < search_number tree parent
 
 pub record IsNeighbourWay (g : Topology) (tree : List TreeNode) (x v : ℕ) (us : List ℕ) (stop : ℕ) : Type 0 where
   pub nodes : (u : ℕ) → Contains (v ∷ us) u → IsUpper g tree v us stop u
   pub once : (w : ℕ) → times w (v ∷ us) ≤ 1
-  pub fall : (u : ℕ) → Contains us u → number_of tree u < number_of tree v
+  pub fall : (u : ℕ) → Contains us u → search_number tree u < search_number tree v
   pub stop_below : IsInSubtree g tree x stop
   pub stop_not_x : stop ≢ x
 
@@ -126,7 +126,7 @@ neighbour_way g root tree listed x first link v (w ∷ ws) stop facts start way 
       ];
       once = λ y. one_more v y (w ∷ ws) (below rest) (rest.once y);
       fall = λ u inside. elim (contains_cases w u ws inside) [
-        | inl it ↦ subst (λ (y : ℕ). number_of tree y < number_of tree v) (sym it) (facts.falls v w goes.0)
+        | inl it ↦ subst (λ (y : ℕ). search_number tree y < search_number tree v) (sym it) (facts.falls v w goes.0)
         | inr later ↦ omega (arith, rest.fall u later, facts.falls v w goes.0)
       ];
       stop_below = rest.stop_below;
@@ -135,6 +135,6 @@ neighbour_way g root tree listed x first link v (w ∷ ws) stop facts start way 
   where
     below : IsNeighbourWay g tree x w ws stop → Contains (w ∷ ws) v → ⊥
     below rest inside = elim (contains_cases w v ws inside) [
-      | inl same ↦ omega (arith, facts.falls v w goes.0, ap (λ (y : ℕ). number_of tree y) same)
+      | inl same ↦ omega (arith, facts.falls v w goes.0, ap (λ (y : ℕ). search_number tree y) same)
       | inr later ↦ omega (arith, facts.falls v w goes.0, rest.fall v later)
     ]

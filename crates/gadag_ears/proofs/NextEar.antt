@@ -6,7 +6,7 @@ use Rattle.mrt_graph.specs.declared.link.End.{End}
 use Rattle.mrt_graph.specs.declared.tree.TreeNode.{TreeNode}
 use Rattle.mrt_graph.specs.Leads.{leads}
 use Rattle.mrt_graph.specs.Topology.{Topology}
-use Rattle.mrt_graph.specs.TreeWords.{number_of, low_of}
+use Rattle.mrt_graph.specs.TreeWords.{search_number, low_of}
 use Rattle.mrt_graph.proofs.EndsAt.{end_leads}
 use Rattle.mrt_graph.proofs.Members.{contains_cases, contains_later, contains_none}
 use Rattle.mrt_graph.proofs.Tallies.{tally}
@@ -22,12 +22,12 @@ use Rattle.gadag_ears.proofs.SearchFacts.{AreFacts, ancestors_in}
 -- how a new node hangs: from another new node; from the node where the ear stops, which is not its start; from the start,
 -- where the ear stops further up; or from the start, where the ear stops and so begins a block
 pub data IsHung (g : Topology) (tree : List TreeNode) (ear : Ear) (v : ℕ) : Type 0 where
-  FromNew : (p : ℕ) → parent_of g tree v ≡ Some p → Contains (new_nodes ear) p → low_of tree v < number_of tree p → IsHung g tree ear v
-  FromStop : parent_of g tree v ≡ Some ear.stop → ear.stop ≢ ear.start → low_of tree v < number_of tree ear.stop → IsHung g tree ear v
-  FromStart : parent_of g tree v ≡ Some ear.start → ear.stop ≢ ear.start → low_of tree v ≡ number_of tree ear.stop
+  FromNew : (p : ℕ) → parent_of g tree v ≡ Some p → Contains (new_nodes ear) p → low_of tree v < search_number tree p → IsHung g tree ear v
+  FromStop : parent_of g tree v ≡ Some ear.stop → ear.stop ≢ ear.start → low_of tree v < search_number tree ear.stop → IsHung g tree ear v
+  FromStart : parent_of g tree v ≡ Some ear.start → ear.stop ≢ ear.start → low_of tree v ≡ search_number tree ear.stop
       → IsInSubtree g tree ear.stop ear.start → IsHung g tree ear v
   Heads : v ≡ ear.first → parent_of g tree v ≡ Some ear.start → ear.kind ≡ Child → ear.stop ≡ ear.start
-      → number_of tree ear.start ≤ low_of tree v → IsHung g tree ear v
+      → search_number tree ear.start ≤ low_of tree v → IsHung g tree ear v
 
 pub record IsBrought (g : Topology) (tree : List TreeNode) (listed : List ℕ) (ear : Ear) : Type 0 where
   pub hung : (v : ℕ) → Contains (new_nodes ear) v → IsHung g tree ear v
@@ -57,11 +57,11 @@ stops_inside g tree kind listed v (w ∷ ws) stop goes = stops_inside g tree kin
 
 -- a child ear's first node
 child_stops : (g : Topology) (tree : List TreeNode) (ear : Ear) (us : List ℕ) → ear.kind ≡ Child
-    → parent_of g tree ear.first ≡ Some ear.start → number_of tree ear.start < number_of tree ear.first
+    → parent_of g tree ear.first ≡ Some ear.start → search_number tree ear.start < search_number tree ear.first
     → IsChildStop g tree ear.start ear.first ear.first us ear.stop → IsHung g tree ear ear.first
 child_stops g tree ear us kind child rise (Back at_x none same own link) = Heads refl child kind at_x (omega (arith, own, rise))
 child_stops g tree ear us kind child rise (AtLow number lower above) = elim (cases_eq ear.stop ear.start) [
-  | inl same ↦ Heads refl child kind same (omega (arith, number, ap (λ (w : ℕ). number_of tree w) same))
+  | inl same ↦ Heads refl child kind same (omega (arith, number, ap (λ (w : ℕ). search_number tree w) same))
   | inr other ↦ FromStart child other (sym number) above
 ]
 
@@ -110,7 +110,7 @@ neighbour_brings g root tree listed ear facts ready touches out children goes =
       hung = λ v inside. let it = way.nodes v inside in elim it.new [
         | inl new ↦ FromNew it.parent it.is (contains_later ear.first it.parent ear.others new) it.low
         | inr at_stop ↦ FromStop (it.is ∙ ap (λ (w : ℕ). Some w) at_stop) way.stop_not_x
-            (omega (arith, it.low, ap (λ (w : ℕ). number_of tree w) at_stop))
+            (omega (arith, it.low, ap (λ (w : ℕ). search_number tree w) at_stop))
       ];
       outside = λ v inside. elim (contains_cases ear.first v ear.others inside) [
         | inl same ↦ λ c. out (subst (λ (w : ℕ). Contains listed w) same c)

@@ -14,7 +14,7 @@ use Rattle.mrt_graph.specs.GadagLists.{GadagLists, gadag_of}
 use Rattle.mrt_graph.specs.GadagWords.{block_at, head_at, link_block_at, role_at, way_at}
 use Rattle.mrt_graph.specs.Tails.{tail_at, tail_of}
 use Rattle.mrt_graph.specs.Topology.{Topology}
-use Rattle.mrt_graph.specs.TreeWords.{low_of, number_of}
+use Rattle.mrt_graph.specs.TreeWords.{low_of, search_number}
 use Rattle.mrt_graph.proofs.ListTests.{there}
 use Rattle.lowpoint_dfs.specs.Subtree.{HasParent}
 use Rattle.gadag_ears.specs.Ear.{Ear}
@@ -45,7 +45,7 @@ both_have : (places others : List Place) (v h b : ℕ) → HasPlace places v h b
 both_have places others v h b one two = record { head = one.0 ∙ sym two.0; block = one.1 ∙ sym two.1 }
 
 same_place : (left : ℕ) (g : Topology) (root : ℕ) (tree : List TreeNode) (gadag other : GadagLists) → AreFacts g root tree → IsGadag g root tree gadag
-    → IsGadag g root tree other → (v : ℕ) → v < length g.ids → number_of tree v ≤ left → IsSamePlace gadag.places other.places v
+    → IsGadag g root tree other → (v : ℕ) → v < length g.ids → search_number tree v ≤ left → IsSamePlace gadag.places other.places v
 same_place zero g root tree gadag other facts one two v within few = absurd (omega (arith, few, facts.own v within, facts.low_from_one v within))
 same_place (suc left) g root tree gadag other facts one two v within few = elim (cases_eq v root) [
   | inl same ↦ subst (λ (w : ℕ). IsSamePlace gadag.places other.places w) (sym same) (both_have gadag.places other.places root root root one.places.of_root two.places.of_root)
@@ -53,7 +53,7 @@ same_place (suc left) g root tree gadag other facts one two v within few = elim 
       let has : HasParent g tree v = facts.parent v within away in
       let place = placed_by_low g root tree gadag.order one.ears gadag.places facts one.are_ears one.places v has.parent within has.is in
       let place' = placed_by_low g root tree other.order two.ears other.places facts two.are_ears two.places v has.parent within has.is in
-      elim (cases_lt (low_of tree v) (number_of tree has.parent)) [
+      elim (cases_lt (low_of tree v) (search_number tree has.parent)) [
         | inr high ↦ both_have gadag.places other.places v has.parent v (place.heads high) (place'.heads high)
         | inl low ↦
             let up = same_place left g root tree gadag other facts one two has.parent (facts.parent_within v has.parent has.is).1 (omega (arith, has.lower, few)) in
@@ -82,7 +82,7 @@ same_places g root tree gadag other facts one two =
     let within : v < length g.ids = omega (arith, inside, one.one_place_each) in
     let x = there gadag.places v inside in
     let y = there other.places v (omega (arith, within, two.one_place_each)) in
-    same_entry gadag.places other.places v x.0 y.0 x.1 y.1 (same_place (number_of tree v) g root tree gadag other facts one two v within (omega arith)))
+    same_entry gadag.places other.places v x.0 y.0 x.1 y.1 (same_place (search_number tree v) g root tree gadag other facts one two v within (omega arith)))
 
 -- the direction of a link with this tail
 same_way : (link : Link) (u : ℕ) (way other : Way) → link.a ≢ link.b → tail_of link way ≡ Some u → tail_of link other ≡ Some u → way ≡ other

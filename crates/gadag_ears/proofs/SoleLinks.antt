@@ -12,7 +12,7 @@ use Rattle.mrt_graph.specs.GadagLists.{GadagLists}
 use Rattle.mrt_graph.specs.GadagWords.{block_at, head_at, link_block_at}
 use Rattle.mrt_graph.specs.Leads.{leads}
 use Rattle.mrt_graph.specs.Topology.{Topology}
-use Rattle.mrt_graph.specs.TreeWords.{low_link, low_of, number_of, parent_link}
+use Rattle.mrt_graph.specs.TreeWords.{low_link, low_of, search_number, parent_link}
 use Rattle.mrt_graph.proofs.Hops.{lead_back}
 use Rattle.mrt_graph.proofs.ListTests.{there}
 use Rattle.lowpoint_dfs.specs.Subtree.{HasParent, Itself, parent_of}
@@ -68,7 +68,7 @@ begun_by_parent g root tree listed x end kind facts (ToChild first) is =
 pub record IsLoneEar (g : Topology) (tree : List TreeNode) (ear : Ear) : Type 0 where
   pub over : parent_link tree ear.first ≡ Some ear.link
   pub child : parent_of g tree ear.first ≡ Some ear.start
-  pub own : low_of tree ear.first ≡ number_of tree ear.first
+  pub own : low_of tree ear.first ≡ search_number tree ear.first
 
 pub lone_ear : (g : Topology) (root : ℕ) (tree : List TreeNode) (ear : Ear) → AreFacts g root tree → IsKnown g root tree ear → IsOfOneLink tree ear → IsLoneEar g tree ear
 lone_ear g root tree ear facts it one =
@@ -85,7 +85,7 @@ lone_ear g root tree ear facts it one =
     record {
       over = over;
       child = child;
-      own = elim (cases_lt (low_of tree ear.first) (number_of tree ear.first)) [
+      own = elim (cases_lt (low_of tree ear.first) (search_number tree ear.first)) [
         | inl lower ↦ absurd (facts.low_free ear.first ear.link within lower back over)
         | inr high ↦ omega (arith, high, facts.own ear.first within)
       ];
@@ -94,7 +94,7 @@ lone_ear g root tree ear facts it one =
 -- a node whose lowpoint is its own number is alone in the block that it names
 lone_node : (left : ℕ) (g : Topology) (root : ℕ) (tree : List TreeNode) (places : List Place) (v p u : ℕ) → AreFacts g root tree
     → ((v p : ℕ) → v < length g.ids → parent_of g tree v ≡ Some p → IsPlacedByLow g tree places v p) → block_at places root ≡ Some root
-    → parent_of g tree v ≡ Some p → low_of tree v ≡ number_of tree v → u < length g.ids → number_of tree u ≤ left → block_at places u ≡ Some v → u ≡ v
+    → parent_of g tree v ≡ Some p → low_of tree v ≡ search_number tree v → u < length g.ids → search_number tree u ≤ left → block_at places u ≡ Some v → u ≡ v
 lone_node zero g root tree places v p u facts by_low of_root child own within few block =
     absurd (omega (arith, few, facts.own u within, facts.low_from_one u within))
 lone_node (suc left) g root tree places v p u facts by_low of_root child own within few block = elim (cases_eq u root) [
@@ -104,7 +104,7 @@ lone_node (suc left) g root tree places v p u facts by_low of_root child own wit
   | inr other ↦
       let has : HasParent g tree u = facts.parent u within other in
       let place = by_low u has.parent within has.is in
-      elim (cases_lt (low_of tree u) (number_of tree has.parent)) [
+      elim (cases_lt (low_of tree u) (search_number tree has.parent)) [
         | inr high ↦ same_Some u v (sym (place.heads high).1 ∙ block)
         | inl low ↦
             let up : has.parent ≡ v = lone_node left g root tree places v p has.parent facts by_low of_root child own
@@ -114,7 +114,7 @@ lone_node (suc left) g root tree places v p u facts by_low of_root child own wit
               low,
               own,
               facts.by_child u has.parent has.is,
-              ap (λ (w : ℕ). number_of tree w) up,
+              ap (λ (w : ℕ). search_number tree w) up,
               ap (λ (w : ℕ). low_of tree w) up,
             ))
       ]
@@ -170,7 +170,7 @@ one_link_block g root tree gadag facts it ear among way one in_block =
     let by_low = placed_by_low g root tree gadag.order it.ears gadag.places facts it.are_ears it.places in
     let lone = lone_ear g root tree ear facts way one in
     let alone : (u : ℕ) → u < length g.ids → block_at gadag.places u ≡ Some ear.first → u ≡ ear.first = λ u within block.
-    lone_node (number_of tree u) g root tree gadag.places ear.first ear.start u facts by_low it.places.of_root.1 lone.child lone.own within (omega arith) block in
+    lone_node (search_number tree u) g root tree gadag.places ear.first ear.start u facts by_low it.places.of_root.1 lone.child lone.own within (omega arith) block in
     record {
       link = ear.link;
       in_block = in_block;

@@ -6,7 +6,7 @@ use Rattle.std.proofs.lemmas.List.Elements.{Contains-append_cases}
 use Rattle.mrt_graph.specs.declared.tree.TreeNode.{TreeNode}
 use Rattle.mrt_graph.specs.Leads.{leads}
 use Rattle.mrt_graph.specs.Topology.{Topology}
-use Rattle.mrt_graph.specs.TreeWords.{number_of, low_of}
+use Rattle.mrt_graph.specs.TreeWords.{search_number, low_of}
 use Rattle.mrt_graph.proofs.EndsAt.{IsEndOver, leads_end}
 use Rattle.mrt_graph.proofs.Hops.{lead_back}
 use Rattle.mrt_graph.proofs.Members.{contains_cases, contains_first, contains_later, contains_none, listed_or_not}
@@ -27,7 +27,7 @@ pub record AreKept (g : Topology) (tree : List TreeNode) (over : List ℕ) (x : 
   pub once : (v : ℕ) → times v (over ++ x ∷ later) ≤ 1
   pub closed : (v p : ℕ) → Contains (over ++ x ∷ later) v → parent_of g tree v ≡ Some p → Contains (over ++ x ∷ later) p
   pub neighbours : (u e v : ℕ) → Contains over u → leads g.links e u ≡ Some v → Contains (over ++ x ∷ later) v
-  pub waits : (v p : ℕ) → Contains (over ++ x ∷ later) v → parent_of g tree v ≡ Some p → Contains later p → low_of tree v < number_of tree p
+  pub waits : (v p : ℕ) → Contains (over ++ x ∷ later) v → parent_of g tree v ≡ Some p → Contains later p → low_of tree v < search_number tree p
 
 pub ready : (g : Topology) (tree : List TreeNode) (over : List ℕ) (x : ℕ) (later : List ℕ) → AreKept g tree over x later → IsClosedUp g tree (over ++ x ∷ later) x
 ready g tree over x later kept = record { in_list = in_turn over x later; closed = kept.closed }
@@ -65,15 +65,15 @@ hung_closed g tree over later ear v p brings hung is = by hung
 -- a new node whose parent's turn is to come has a lowpoint above that parent
 hung_waits : (g : Topology) (tree : List TreeNode) (over : List ℕ) (later : List ℕ) (ear : Ear) (v p : ℕ)
     → (Contains (new_nodes ear ++ later) ear.start → ⊥) → IsHung g tree ear v → parent_of g tree v ≡ Some p
-    → Contains (new_nodes ear ++ later) p → low_of tree v < number_of tree p
+    → Contains (new_nodes ear ++ later) p → low_of tree v < search_number tree p
 hung_waits g tree over later ear v p not_start hung is inside = by hung
   where
     at_start : parent_of g tree v ≡ Some ear.start → ⊥
     at_start so = not_start (subst (λ (w : ℕ). Contains (new_nodes ear ++ later) w) (one_parent g tree v p ear.start is so) inside)
 
-    by : IsHung g tree ear v → low_of tree v < number_of tree p
-    by (FromNew q so new low) = omega (arith, low, ap (λ (w : ℕ). number_of tree w) (one_parent g tree v q p so is))
-    by (FromStop so other low) = omega (arith, low, ap (λ (w : ℕ). number_of tree w) (one_parent g tree v ear.stop p so is))
+    by : IsHung g tree ear v → low_of tree v < search_number tree p
+    by (FromNew q so new low) = omega (arith, low, ap (λ (w : ℕ). search_number tree w) (one_parent g tree v q p so is))
+    by (FromStop so other low) = omega (arith, low, ap (λ (w : ℕ). search_number tree w) (one_parent g tree v ear.stop p so is))
     by (FromStart so other low above) = absurd (at_start so)
     by (Heads first so kind same low) = absurd (at_start so)
 

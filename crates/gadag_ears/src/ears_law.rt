@@ -2,7 +2,7 @@
 
 ghost use Rattle.std.specs.Prelude.{◌≡◌, ◌<◌, ◌≤◌, ◌⊎◌, ◌++◌, ◌∷◌, ◌==◌, ℕ, List, Some, Contains, count_by, length};
 ghost use Rattle.mrt_graph.specs.{declared.gadag.Place.Place, declared.link.End.End, declared.tree.TreeNode.TreeNode, GadagWords.block_at};
-ghost use Rattle.mrt_graph.specs.{GraphInvariant.IsTopology, Leads.leads, Topology.Topology, TreeWords.low_of, TreeWords.number_of};
+ghost use Rattle.mrt_graph.specs.{GraphInvariant.IsTopology, Leads.leads, Topology.Topology, TreeWords.low_of, TreeWords.search_number};
 ghost use Rattle.lowpoint_dfs.specs.{SearchTree.IsSearchTree, Subtree.parent_of};
 ghost use Rattle.gadag_ears.specs.{declared.kind.EarKind.EarKind, CommonBlock.IsCommonBlock, EarOrder.AreEars, EarOrder.IsEarOrder};
 ghost use Rattle.gadag_ears.specs.Ear.{Ear, IsBegun, IsNextEar};
@@ -59,12 +59,12 @@ pub fn heads_by_lowpoints()
         (places : List Place) → IsTopology g → root < length g.ids → IsSearchTree g root tree
         → AreEars g root tree order ears → ArePlaces root ears places
         → (v p : ℕ) → v < length g.ids → parent_of g tree v ≡ Some p
-        → number_of tree p ≤ low_of tree v → HasPlace places v p v }
+        → search_number tree p ≤ low_of tree v → HasPlace places v p v }
     ensures others { (g : Topology) (root : ℕ) (tree : List TreeNode) (order : List ℕ) (ears : List Ear)
         (places : List Place) → IsTopology g → root < length g.ids → IsSearchTree g root tree
         → AreEars g root tree order ears → ArePlaces root ears places
         → (v p : ℕ) → v < length g.ids → parent_of g tree v ≡ Some p
-        → low_of tree v < number_of tree p → IsPlacedAs places v p }
+        → low_of tree v < search_number tree p → IsPlacedAs places v p }
 {}
 
 /// A law: the two nodes of a link have a common block, and just one.

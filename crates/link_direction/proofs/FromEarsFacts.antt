@@ -11,7 +11,7 @@ use Rattle.mrt_graph.specs.GadagLists.{GadagLists}
 use Rattle.mrt_graph.specs.GadagWords.{block_at, head_at, role_at}
 use Rattle.mrt_graph.specs.GraphInvariant.{IsTopology}
 use Rattle.mrt_graph.specs.Topology.{Topology}
-use Rattle.mrt_graph.specs.TreeWords.{low_of, number_of}
+use Rattle.mrt_graph.specs.TreeWords.{low_of, search_number}
 use Rattle.lowpoint_dfs.specs.Subtree.{parent_of}
 use Rattle.gadag_ears.specs.BlockLinks.{IsOfClosingLink, IsOfSoleLink}
 use Rattle.gadag_ears.specs.Counted.{IsCounted}
@@ -59,14 +59,14 @@ pub record AreGadagFacts (g : Topology) (root : ℕ) (gadag : GadagLists) : Type
 
 named : (left : ℕ) (g : Topology) (root : ℕ) (tree : List TreeNode) (places : List Place) (v : ℕ) → AreFacts g root tree
     → ((v p : ℕ) → v < length g.ids → parent_of g tree v ≡ Some p → IsPlacedByLow g tree places v p)
-    → v < length g.ids → v ≢ root → number_of tree v ≤ left → IsNamed g places v
+    → v < length g.ids → v ≢ root → search_number tree v ≤ left → IsNamed g places v
 named zero g root tree places v facts by_low within other few =
     let has = facts.parent v within other in absurd (omega (arith, has.lower, few))
 named (suc left) g root tree places v facts by_low within other few =
     let has = facts.parent v within other in
     let place = by_low v has.parent within has.is in
     let p_within = (facts.parent_within v has.parent has.is).1 in
-    elim (cases_lt (low_of tree v) (number_of tree has.parent)) [
+    elim (cases_lt (low_of tree v) (search_number tree has.parent)) [
       | inr high ↦ record {
         name = v;
         name_within = within;
@@ -77,7 +77,7 @@ named (suc left) g root tree places v facts by_low within other few =
         block = (place.heads high).1;
       }
       | inl low ↦
-          let further : has.parent ≢ root = λ same. omega (arith, low, facts.low_from_one v within, facts.root_first, ap (λ (w : ℕ). number_of tree w) same) in
+          let further : has.parent ≢ root = λ same. omega (arith, low, facts.low_from_one v within, facts.root_first, ap (λ (w : ℕ). search_number tree w) same) in
           let rest = named left g root tree places has.parent facts by_low p_within further (omega (arith, has.lower, few)) in
           record {
             name = rest.name;
@@ -110,7 +110,7 @@ gadag_facts g root gadag kept within from =
       lies = it.marks.blocks;
       of_root = it.places.of_root;
       alone = λ v v_within is. root_alone g root from.tree gadag.places v facts by_low v_within is;
-      named = λ v v_within other. named (number_of from.tree v) g root from.tree gadag.places v facts by_low v_within other (omega arith);
+      named = λ v v_within other. named (search_number from.tree v) g root from.tree gadag.places v facts by_low v_within other (omega arith);
     }
 
 -- no counted link enters the root

@@ -7,7 +7,7 @@ use Rattle.mrt_graph.specs.declared.tree.TreeNode.{TreeNode}
 use Rattle.mrt_graph.specs.GraphInvariant.{IsTopology}
 use Rattle.mrt_graph.specs.Leads.{leads}
 use Rattle.mrt_graph.specs.Topology.{Topology}
-use Rattle.mrt_graph.specs.TreeWords.{number_of, parent_link}
+use Rattle.mrt_graph.specs.TreeWords.{search_number, parent_link}
 use Rattle.mrt_graph.proofs.EndsAt.{end_leads}
 use Rattle.mrt_graph.proofs.Hops.{lead_back}
 use Rattle.mrt_graph.proofs.ListPlaces.{place_of, contains_at, at_last}
@@ -33,9 +33,9 @@ one_up g tree a b v (Below x parent is rest) (Below y other so more) =
 
 -- parents have lower numbers
 abbrev pub Fall : Topology → List TreeNode → Type 0
-Fall g tree = (v u : ℕ) → parent_of g tree v ≡ Some u → number_of tree u < number_of tree v
+Fall g tree = (v u : ℕ) → parent_of g tree v ≡ Some u → search_number tree u < search_number tree v
 
-pub numbers_rise : (g : Topology) (tree : List TreeNode) (u v : ℕ) → Fall g tree → IsInSubtree g tree u v → number_of tree u ≤ number_of tree v
+pub numbers_rise : (g : Topology) (tree : List TreeNode) (u v : ℕ) → Fall g tree → IsInSubtree g tree u v → search_number tree u ≤ search_number tree v
 numbers_rise g tree u v fall Itself = omega arith
 numbers_rise g tree u v fall (Below x parent is rest) = omega (arith, fall x parent is, numbers_rise g tree u parent fall rest)
 

@@ -4,7 +4,7 @@ use Rattle.std.proofs.lemmas.Option.{same_Some}
 use Rattle.mrt_graph.specs.declared.tree.TreeNode.{TreeNode}
 use Rattle.mrt_graph.specs.GraphInvariant.{IsEnd, IsTopology}
 use Rattle.mrt_graph.specs.Topology.{Topology}
-use Rattle.mrt_graph.specs.TreeWords.{number_of, parent_link}
+use Rattle.mrt_graph.specs.TreeWords.{search_number, parent_link}
 use Rattle.mrt_graph.proofs.ListPlaces.{at_left, pushed_at}
 use Rattle.mrt_graph.proofs.ListTests.{all_at}
 use Rattle.mrt_graph.specs.FirstEnd.{IsFirstEnd}
@@ -13,7 +13,7 @@ use Rattle.lowpoint_dfs.specs.SearchOrder.{IsFoundNext, IsSearchOrder, Begun, Fo
 -- the root stands first
 pub record IsFirstRoot (root : ℕ) (tree : List TreeNode) (order : List ℕ) : Type 0 where
   pub first : slice_get order 0 ≡ Some root
-  pub number : number_of tree root ≡ 1
+  pub number : search_number tree root ≡ 1
   pub parent : parent_link tree root ≡ None
 
 pub root_first : (g : Topology) (root : ℕ) (tree : List TreeNode) (order : List ℕ) → IsSearchOrder g root tree order → IsFirstRoot root tree order
@@ -24,14 +24,14 @@ root_first g root tree order (Found listed node link earlier next number parent)
 
 -- a node's number is its place, counted from 1
 pub number_at : (g : Topology) (root : ℕ) (tree : List TreeNode) (order : List ℕ) → IsSearchOrder g root tree order → (k v : ℕ) → slice_get order k ≡ Some v
-    → number_of tree v ≡ k + 1
+    → search_number tree v ≡ k + 1
 number_at g root tree order (Begun number parent) zero v at =
-    let one : number_of tree v ≡ 1 = subst (λ (w : ℕ). number_of tree w ≡ 1) (same_Some root v at) number in omega (arith, one)
+    let one : search_number tree v ≡ 1 = subst (λ (w : ℕ). search_number tree w ≡ 1) (same_Some root v at) number in omega (arith, one)
 number_at g root tree order (Begun number parent) (suc k) v at = cc
 number_at g root tree order (Found listed node link earlier next number parent) k v at = elim (pushed_at listed node v k at) [
   | inl before ↦ number_at g root tree listed earlier k v before
   | inr last ↦
-      let it : number_of tree v ≡ length listed + 1 = subst (λ (w : ℕ). number_of tree w ≡ length listed + 1) last.1 number in
+      let it : search_number tree v ≡ length listed + 1 = subst (λ (w : ℕ). search_number tree w ≡ length listed + 1) last.1 number in
       omega (arith, it, last.0)
 ]
 

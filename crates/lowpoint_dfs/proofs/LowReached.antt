@@ -5,7 +5,7 @@ use Rattle.mrt_graph.specs.declared.tree.TreeNode.{TreeNode}
 use Rattle.mrt_graph.specs.GraphInvariant.{IsTopology}
 use Rattle.mrt_graph.specs.Leads.{leads}
 use Rattle.mrt_graph.specs.Topology.{Topology}
-use Rattle.mrt_graph.specs.TreeWords.{number_of, parent_link, low_of}
+use Rattle.mrt_graph.specs.TreeWords.{search_number, parent_link, low_of}
 use Rattle.mrt_graph.proofs.EndsAt.{IsEndOver, end_leads, leads_end, list_of_ends}
 use Rattle.mrt_graph.proofs.Hops.{lead_back, same_ends}
 use Rattle.std.proofs.lemmas.Option.{same_Some}
@@ -32,13 +32,13 @@ record Facts (g : Topology) (tree : List TreeNode) : Type 0 where
   pub kept : IsTopology g
   pub fall : Fall g tree
   pub touch : (v e : ℕ) → parent_link tree v ≡ Some e → (u : ℕ) × (leads g.links e v ≡ Some u)
-  pub least : (v : ℕ) → v < length g.ids → IsLeast (λ n. (n ≡ number_of tree v) ⊎ IsOffered g tree v n) (low_of tree v)
+  pub least : (v : ℕ) → v < length g.ids → IsLeast (λ n. (n ≡ search_number tree v) ⊎ IsOffered g tree v n) (low_of tree v)
 
-low_is_own : (g : Topology) (tree : List TreeNode) (v : ℕ) → Facts g tree → v < length g.ids → low_of tree v ≤ number_of tree v
-low_is_own g tree v facts within = (facts.least v within).least (number_of tree v) (inl refl)
+low_is_own : (g : Topology) (tree : List TreeNode) (v : ℕ) → Facts g tree → v < length g.ids → low_of tree v ≤ search_number tree v
+low_is_own g tree v facts within = (facts.least v within).least (search_number tree v) (inl refl)
 
 offered_over : (g : Topology) (tree : List TreeNode) (e v w : ℕ) → Facts g tree → leads g.links e v ≡ Some w → is_parent_link tree v e ≡ false
-    → (low_of tree v ≤ low_of tree w) ⊎ (low_of tree v ≤ number_of tree w)
+    → (low_of tree v ≤ low_of tree w) ⊎ (low_of tree v ≤ search_number tree w)
 offered_over g tree e v w facts onward over =
     let within = (leads_within g e v w facts.kept onward).0 in
     let list = list_of_ends g v facts.kept within in
@@ -50,13 +50,13 @@ offered_over g tree e v w facts onward over =
           inl (subst (λ (x : ℕ). low_of tree v ≤ low_of tree x) it.to
           ((facts.least v within).least (low_of tree it.end.to) (inr (record { ends = list.0; list = list.1; place = it.place; end = it.end; there = it.at; offers = offers }))))
       | inr no_child ↦
-          let offers : offer tree v it.end ≡ Some (number_of tree it.end.to) = rw (free, no_child) refl in
-          inr (subst (λ (x : ℕ). low_of tree v ≤ number_of tree x) it.to
-          ((facts.least v within).least (number_of tree it.end.to) (inr (record { ends = list.0; list = list.1; place = it.place; end = it.end; there = it.at; offers = offers }))))
+          let offers : offer tree v it.end ≡ Some (search_number tree it.end.to) = rw (free, no_child) refl in
+          inr (subst (λ (x : ℕ). low_of tree v ≤ search_number tree x) it.to
+          ((facts.least v within).least (search_number tree it.end.to) (inr (record { ends = list.0; list = list.1; place = it.place; end = it.end; there = it.at; offers = offers }))))
     ]
 
 -- a link that is not v's parent link reaches at least low(v)
-over_low : (g : Topology) (tree : List TreeNode) (e v w : ℕ) → Facts g tree → leads g.links e v ≡ Some w → is_parent_link tree v e ≡ false → low_of tree v ≤ number_of tree w
+over_low : (g : Topology) (tree : List TreeNode) (e v w : ℕ) → Facts g tree → leads g.links e v ≡ Some w → is_parent_link tree v e ≡ false → low_of tree v ≤ search_number tree w
 over_low g tree e v w facts onward over = elim (offered_over g tree e v w facts onward over) [
   | inl low ↦ omega (arith, low, low_is_own g tree w facts (leads_within g e v w facts.kept onward).1)
   | inr number ↦ number
@@ -93,15 +93,15 @@ subtree_low g tree u v facts Itself = omega arith
 subtree_low g tree u v facts (Below x parent is rest) = omega (arith, child_low g tree x parent facts is, subtree_low g tree u parent facts rest)
 
 own_link_low : (g : Topology) (tree : List TreeNode) (v w e x : ℕ) → Facts g tree → v < length g.ids → IsInSubtree g tree v w → parent_link tree v ≢ Some e → leads g.links e w ≡ Some x
-    → parent_link tree w ≡ Some e → low_of tree v ≤ number_of tree x
+    → parent_link tree w ≡ Some e → low_of tree v ≤ search_number tree x
 own_link_low g tree v w e x facts within Itself other onward over = absurd (other over)
 own_link_low g tree v w e x facts within (Below y parent is rest) other onward over =
     let same : parent ≡ x = same_Some parent x (sym is ∙ parent_over g tree y e x over onward) in
-    omega (arith, low_is_own g tree v facts within, numbers_rise g tree v parent facts.fall rest, ap (λ (z : ℕ). number_of tree z) same)
+    omega (arith, low_is_own g tree v facts within, numbers_rise g tree v parent facts.fall rest, ap (λ (z : ℕ). search_number tree z) same)
 
 -- a link from below v, its node's own parent link too, reaches at least low(v)
 below_low : (g : Topology) (tree : List TreeNode) (v w e x : ℕ) → Facts g tree → v < length g.ids → IsInSubtree g tree v w → parent_link tree v ≢ Some e → leads g.links e w ≡ Some x
-    → low_of tree v ≤ number_of tree x
+    → low_of tree v ≤ search_number tree x
 below_low g tree v w e x facts within inside other onward = elim (cases_Bool (is_parent_link tree w e)) [
   | inr free ↦ omega (arith, subtree_low g tree v w facts inside, over_low g tree e w x facts onward free)
   | inl own ↦ own_link_low g tree v w e x facts within inside other onward (parent_link_is tree w e own)
@@ -115,8 +115,8 @@ not_own g tree v u from to e facts is inside onward over =
     let above = facts.fall v up.0 (parent_over g tree v e up.0 over up.1) in
     let rise = numbers_rise g tree u from facts.fall inside in
     elim (same_ends g.links e v up.0 from to up.1 onward) [
-      | inl at_v ↦ omega (arith, facts.fall u v is, rise, ap (λ (z : ℕ). number_of tree z) at_v)
-      | inr at_parent ↦ omega (arith, facts.fall u v is, rise, above, ap (λ (z : ℕ). number_of tree z) at_parent)
+      | inl at_v ↦ omega (arith, facts.fall u v is, rise, ap (λ (z : ℕ). search_number tree z) at_v)
+      | inr at_parent ↦ omega (arith, facts.fall u v is, rise, above, ap (λ (z : ℕ). search_number tree z) at_parent)
     ]
 
 reached_further : (g : Topology) (tree : List TreeNode) (v u n : ℕ) → Facts g tree → parent_of g tree u ≡ Some v → IsReachedFrom g tree u n → IsReachedFrom g tree v n
@@ -130,7 +130,7 @@ reached_further g tree v u n facts is reached = record {
   number = reached.number;
 }
 
-reached_over : (g : Topology) (tree : List TreeNode) (v n : ℕ) (it : IsOffered g tree v n) (m : ℕ) → Facts g tree → is_parent_link tree v it.end.link ≡ false → m ≡ number_of tree it.end.to
+reached_over : (g : Topology) (tree : List TreeNode) (v n : ℕ) (it : IsOffered g tree v n) (m : ℕ) → Facts g tree → is_parent_link tree v it.end.link ≡ false → m ≡ search_number tree it.end.to
     → IsReachedFrom g tree v m
 reached_over g tree v n it m facts free is = record {
   link = it.end.link;
@@ -144,14 +144,14 @@ reached_over g tree v n it m facts free is = record {
 
 -- an offered lowpoint is reached, where those of children are
 by_offer : (g : Topology) (tree : List TreeNode) (v : ℕ) → IsOffered g tree v (low_of tree v) → Facts g tree
-    → ((u : ℕ) → parent_of g tree u ≡ Some v → u < length g.ids → (low_of tree u ≡ number_of tree u) ⊎ IsReachedFrom g tree u (low_of tree u))
+    → ((u : ℕ) → parent_of g tree u ≡ Some v → u < length g.ids → (low_of tree u ≡ search_number tree u) ⊎ IsReachedFrom g tree u (low_of tree u))
     → IsReachedFrom g tree v (low_of tree v)
 by_offer g tree v it facts of_child = elim (cases_Bool (is_parent_link tree v it.end.link)) [
   | inl own ↦ let none : None ≡ Some (low_of tree v) = rw own at it.offers in absurd (some_none (low_of tree v) none)
   | inr free ↦ elim (cases_Bool (is_parent_link tree it.end.to it.end.link)) [
     | inr no_child ↦
-        let is : Some (number_of tree it.end.to) ≡ Some (low_of tree v) = rw (free, no_child) at it.offers in
-        reached_over g tree v (low_of tree v) it (low_of tree v) facts free (sym (same_Some (number_of tree it.end.to) (low_of tree v) is))
+        let is : Some (search_number tree it.end.to) ≡ Some (low_of tree v) = rw (free, no_child) at it.offers in
+        reached_over g tree v (low_of tree v) it (low_of tree v) facts free (sym (same_Some (search_number tree it.end.to) (low_of tree v) is))
     | inl child ↦
         let is : Some (low_of tree it.end.to) ≡ Some (low_of tree v) = rw (free, child) at it.offers in
         let same : low_of tree it.end.to ≡ low_of tree v = same_Some (low_of tree it.end.to) (low_of tree v) is in
@@ -166,8 +166,8 @@ by_offer g tree v it facts of_child = elim (cases_Bool (is_parent_link tree v it
 ]
 
 -- the lowpoint is the node's number, or reached
-reaches : (left : ℕ) (g : Topology) (tree : List TreeNode) (v : ℕ) → Facts g tree → v < length g.ids → ((w : ℕ) → w < length g.ids → number_of tree w ≤ length g.ids)
-    → length g.ids ≤ number_of tree v + left → (low_of tree v ≡ number_of tree v) ⊎ IsReachedFrom g tree v (low_of tree v)
+reaches : (left : ℕ) (g : Topology) (tree : List TreeNode) (v : ℕ) → Facts g tree → v < length g.ids → ((w : ℕ) → w < length g.ids → search_number tree w ≤ length g.ids)
+    → length g.ids ≤ search_number tree v + left → (low_of tree v ≡ search_number tree v) ⊎ IsReachedFrom g tree v (low_of tree v)
 reaches zero g tree v facts within few fits = elim (facts.least v within).one_of_them [
   | inl own ↦ inl own
   | inr it ↦ inr (by_offer g tree v it facts (λ u is child_within. absurd (omega (arith, facts.fall u v is, few u child_within, fits))))
@@ -178,7 +178,7 @@ reaches (suc left) g tree v facts within few fits = elim (facts.least v within).
 ]
 
 pub low_reached : (g : Topology) (root : ℕ) (tree : List TreeNode) → IsTopology g → root < length g.ids → IsSearchTree g root tree → (v : ℕ) → v < length g.ids
-    → IsLeast (λ n. (n ≡ number_of tree v) ⊎ IsReachedFrom g tree v n) (low_of tree v)
+    → IsLeast (λ n. (n ≡ search_number tree v) ⊎ IsReachedFrom g tree v n) (low_of tree v)
 low_reached g root tree kept within search v v_within =
     let facts : Facts g tree = record { kept = kept; fall = tree_falls g root tree kept within search; touch = link_touches g root tree kept within search; least = λ w w_within. (search.lowpoints w w_within).low } in
     record {

@@ -6,7 +6,7 @@ use Rattle.std.proofs.lemmas.List.{length-set}
 use Rattle.mrt_graph.proofs.ListPlaces.{set_elsewhere, set_there}
 use Rattle.mrt_graph.specs.declared.link.End.{End}
 use Rattle.mrt_graph.specs.declared.tree.TreeNode.{TreeNode}
-use Rattle.mrt_graph.specs.TreeWords.{number_of, parent_link}
+use Rattle.mrt_graph.specs.TreeWords.{search_number, parent_link}
 use Rattle.lowpoint_dfs.specs.declared.lowpoints.Lowest.{Lowest}
 use Rattle.lowpoint_dfs.specs.Lowering.{IsGiven, IsLowest}
 
@@ -21,7 +21,7 @@ module _ (tree : List TreeNode) (v : ℕ) (ends : List End) (node : TreeNode) (l
   elsewhere : (u : ℕ) → u ≢ v → slice_get (set tree v given) u ≡ slice_get tree u
   elsewhere u other = set_elsewhere tree v u given other
 
-  same_number : (u : ℕ) → number_of (set tree v given) u ≡ number_of tree u
+  same_number : (u : ℕ) → search_number (set tree v given) u ≡ search_number tree u
   same_number u = elim (cases_eq u v) [
     | inl same ↦ rw same (ap (λ (o : Option TreeNode). option_map_or (λ n. n.number) o 0) (at_v)
         ∙ sym (ap (λ (o : Option TreeNode). option_map_or (λ n. n.number) o 0) there))

@@ -8,7 +8,7 @@ use Rattle.mrt_graph.specs.declared.tree.TreeNode.{TreeNode}
 use Rattle.mrt_graph.specs.GraphInvariant.{IsTopology}
 use Rattle.mrt_graph.specs.Leads.{leads}
 use Rattle.mrt_graph.specs.Topology.{Topology}
-use Rattle.mrt_graph.specs.TreeWords.{number_of, parent_link, low_of}
+use Rattle.mrt_graph.specs.TreeWords.{search_number, parent_link, low_of}
 use Rattle.mrt_graph.proofs.EndsAt.{end_leads}
 use Rattle.mrt_graph.proofs.Hops.{lead_back}
 use Rattle.lowpoint_dfs.specs.Lowering.{AreAlike, AreNumbered, IsGiven, IsLowFrom, Own, Offered}
@@ -62,14 +62,14 @@ has_given g tree other v ends list given = record { low = least given.is_lowest.
     same : (end : End) → offer other v end ≡ offer tree v end
     same end = offers_at tree other v ends given end
 
-    below : (n : ℕ) → (n ≡ number_of other v) ⊎ IsOffered g other v n → low_of other v ≤ n
+    below : (n : ℕ) → (n ≡ search_number other v) ⊎ IsOffered g other v n → low_of other v ≤ n
     below n (inl is) = omega (arith, is, given.alike.numbers v, given.low, given.is_lowest.own)
     below n (inr it) =
         let there = subst (λ (xs : List End). slice_get xs it.place ≡ Some it.end) (same_ends ends it.ends (sym list ∙ it.list)) it.there in
         let lower = given.is_lowest.least it.place n it.end (slice_get_within ends it.place it.end there) there (sym (same it.end) ∙ it.offers) in
         omega (arith, lower, given.low)
 
-    least : IsLowFrom tree v ends (length ends) given.lowest → IsLeast (λ n. (n ≡ number_of other v) ⊎ IsOffered g other v n) (low_of other v)
+    least : IsLowFrom tree v ends (length ends) given.lowest → IsLeast (λ n. (n ≡ search_number other v) ⊎ IsOffered g other v n) (low_of other v)
     least (Own low link) = record { one_of_them = inl (given.low ∙ low ∙ sym (given.alike.numbers v)); least = below }
     least (Offered place end early there offers lower link first) = record {
       one_of_them = inr (record {
@@ -98,8 +98,8 @@ has_given g tree other v ends list given = record { low = least given.is_lowest.
         (given.link ∙ link)
 
 -- the offers of the ends of a node found later stay as they were
-offers_after : (g : Topology) (tree other : List TreeNode) (v w : ℕ) (ends : List End) → IsTopology g → ((u p : ℕ) → parent_of g tree u ≡ Some p → number_of tree p < number_of tree u)
-    → IsGiven tree v ends other → number_of tree v < number_of tree w
+offers_after : (g : Topology) (tree other : List TreeNode) (v w : ℕ) (ends : List End) → IsTopology g → ((u p : ℕ) → parent_of g tree u ≡ Some p → search_number tree p < search_number tree u)
+    → IsGiven tree v ends other → search_number tree v < search_number tree w
     → (rows : List End) (k : ℕ) (end : End) → slice_get g.ends w ≡ Some rows → slice_get rows k ≡ Some end → offer other w end ≡ offer tree w end
 offers_after g tree other v w ends kept falls given after rows k end list there = same_offer tree other w end given.alike
     (λ over child. elim (cases_eq end.to v) [
@@ -110,8 +110,8 @@ offers_after g tree other v w ends kept falls given after rows k end list there 
       | inr differ ↦ given.lows end.to differ
     ])
 
-pub has_still : (g : Topology) (tree other : List TreeNode) (v w : ℕ) (ends : List End) → IsTopology g → ((u p : ℕ) → parent_of g tree u ≡ Some p → number_of tree p < number_of tree u)
-    → IsGiven tree v ends other → number_of tree v < number_of tree w → HasLowpoint g tree w → HasLowpoint g other w
+pub has_still : (g : Topology) (tree other : List TreeNode) (v w : ℕ) (ends : List End) → IsTopology g → ((u p : ℕ) → parent_of g tree u ≡ Some p → search_number tree p < search_number tree u)
+    → IsGiven tree v ends other → search_number tree v < search_number tree w → HasLowpoint g tree w → HasLowpoint g other w
 has_still g tree other v w ends kept falls given after has =
     record {
       low = record { one_of_them = one has.low.one_of_them; least = below };
@@ -119,7 +119,7 @@ has_still g tree other v w ends kept falls given after has =
     }
   where
     differ : w ≢ v
-    differ same = omega (arith, after, ap (λ (x : ℕ). number_of tree x) same)
+    differ same = omega (arith, after, ap (λ (x : ℕ). search_number tree x) same)
 
     low : low_of other w ≡ low_of tree w
     low = given.lows w differ
@@ -127,7 +127,7 @@ has_still g tree other v w ends kept falls given after has =
     same : (rows : List End) (k : ℕ) (end : End) → slice_get g.ends w ≡ Some rows → slice_get rows k ≡ Some end → offer other w end ≡ offer tree w end
     same = offers_after g tree other v w ends kept falls given after
 
-    one : (low_of tree w ≡ number_of tree w) ⊎ IsOffered g tree w (low_of tree w) → (low_of other w ≡ number_of other w) ⊎ IsOffered g other w (low_of other w)
+    one : (low_of tree w ≡ search_number tree w) ⊎ IsOffered g tree w (low_of tree w) → (low_of other w ≡ search_number other w) ⊎ IsOffered g other w (low_of other w)
     one (inl is) = inl (low ∙ is ∙ sym (given.alike.numbers w))
     one (inr it) = inr (record {
       ends = it.ends;
@@ -138,7 +138,7 @@ has_still g tree other v w ends kept falls given after has =
       offers = same it.ends it.place it.end it.list it.there ∙ it.offers ∙ ap (λ (n : ℕ). Some n) (sym low);
     })
 
-    below : (n : ℕ) → (n ≡ number_of other w) ⊎ IsOffered g other w n → low_of other w ≤ n
+    below : (n : ℕ) → (n ≡ search_number other w) ⊎ IsOffered g other w n → low_of other w ≤ n
     below n (inl is) = let under = has.low.least n (inl (is ∙ given.alike.numbers w)) in omega (arith, low, under)
     below n (inr it) =
         let under = has.low.least n (inr (record {
@@ -193,7 +193,7 @@ one_more g start nodes other order place v ends kept numbered are at list given 
   ];
 }
   where
-    falls : (u p : ℕ) → parent_of g nodes u ≡ Some p → number_of nodes p < number_of nodes u
+    falls : (u p : ℕ) → parent_of g nodes u ≡ Some p → search_number nodes p < search_number nodes u
     falls u p is =
         let same : parent_of g nodes u ≡ parent_of g start u = ap (λ (o : Option ℕ). option_and_then (λ e. leads g.links e u) o) (are.alike.parents u) in
         omega (arith, are.alike.numbers u, are.alike.numbers p, numbered.falls u p (sym same ∙ is))

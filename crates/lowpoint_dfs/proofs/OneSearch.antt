@@ -10,7 +10,7 @@ use Rattle.mrt_graph.specs.declared.tree.TreeNode.{TreeNode}
 use Rattle.mrt_graph.specs.GraphInvariant.{IsTopology}
 use Rattle.mrt_graph.specs.Leads.{leads}
 use Rattle.mrt_graph.specs.Topology.{Topology}
-use Rattle.mrt_graph.specs.TreeWords.{number_of, parent_link, low_of, low_link}
+use Rattle.mrt_graph.specs.TreeWords.{search_number, parent_link, low_of, low_link}
 use Rattle.mrt_graph.proofs.EndsAt.{end_leads}
 use Rattle.mrt_graph.proofs.Hops.{lead_back}
 use Rattle.mrt_graph.proofs.ListPlaces.{place_of}
@@ -112,7 +112,7 @@ none_longer g root tree other order order' searched ended (Found listed node lin
       not_done g order here.at here.end (ended here.place here.at here.there) here.first
 ]
 
-number_past : (tree : List TreeNode) (v : ℕ) → length tree ≤ v → number_of tree v ≡ 0
+number_past : (tree : List TreeNode) (v : ℕ) → length tree ≤ v → search_number tree v ≡ 0
 number_past tree v past = ap (λ (o : Option TreeNode). option_map_or (λ x. x.number) o 0) (slice_get_past tree v past)
 
 parent_past : (tree : List TreeNode) (v : ℕ) → length tree ≤ v → parent_link tree v ≡ None
@@ -148,7 +148,7 @@ two_alike g root tree other kept within a b =
     one = one_order g root tree other a.order b.order a.searched b.searched lengths
 
 -- where the ends of a node offer the same in both trees, the lowpoint of one is at most that of the other
-low_at_most : (g : Topology) (tree other : List TreeNode) (v : ℕ) → number_of other v ≡ number_of tree v
+low_at_most : (g : Topology) (tree other : List TreeNode) (v : ℕ) → search_number other v ≡ search_number tree v
     → ((rows : List End) (k : ℕ) (end : End) → slice_get g.ends v ≡ Some rows → slice_get rows k ≡ Some end → offer other v end ≡ offer tree v end)
     → HasLowpoint g tree v → HasLowpoint g other v → low_of tree v ≤ low_of other v
 low_at_most g tree other v number offers a b = elim b.low.one_of_them [
@@ -186,8 +186,8 @@ low_by_children g tree other v kept alike children a b =
 
 same_lows : (left : ℕ) (g : Topology) (tree other : List TreeNode) → IsTopology g → Fall g tree → AreAlike tree other
     → ((v : ℕ) → v < length g.ids → HasLowpoint g tree v) → ((v : ℕ) → v < length g.ids → HasLowpoint g other v)
-    → ((v : ℕ) → v < length g.ids → number_of tree v ≤ length g.ids)
-    → (v : ℕ) → v < length g.ids → length g.ids ≤ number_of tree v + left → low_of other v ≡ low_of tree v
+    → ((v : ℕ) → v < length g.ids → search_number tree v ≤ length g.ids)
+    → (v : ℕ) → v < length g.ids → length g.ids ≤ search_number tree v + left → low_of other v ≡ low_of tree v
 same_lows zero g tree other kept fall alike a b few v within fits =
     low_by_children g tree other v kept alike (λ u u_within is. absurd (omega (arith, fall u v is, few u u_within, fits))) (a v within) (b v within)
 same_lows (suc left) g tree other kept fall alike a b few v within fits =
@@ -233,7 +233,7 @@ same_fields x y number parent low link =
     ∙ ap (λ (o : Option ℕ). of_fields y.number y.parent y.low o) link
 
 same_entries : (tree other : List TreeNode) (v : ℕ) (x y : TreeNode) → slice_get tree v ≡ Some x → slice_get other v ≡ Some y
-    → number_of other v ≡ number_of tree v → parent_link other v ≡ parent_link tree v → low_of other v ≡ low_of tree v → low_link other v ≡ low_link tree v
+    → search_number other v ≡ search_number tree v → parent_link other v ≡ parent_link tree v → low_of other v ≡ low_of tree v → low_link other v ≡ low_link tree v
     → slice_get tree v ≡ slice_get other v
 same_entries tree other v x y at_x at_y number parent low link =
     let numbers : y.number ≡ x.number = rw (at_x, at_y) at number in

@@ -8,7 +8,7 @@ use Rattle.mrt_graph.specs.declared.tree.TreeNode.{TreeNode}
 use Rattle.mrt_graph.specs.GraphInvariant.{IsTopology}
 use Rattle.mrt_graph.specs.Leads.{leads}
 use Rattle.mrt_graph.specs.Topology.{Topology}
-use Rattle.mrt_graph.specs.TreeWords.{number_of, parent_link}
+use Rattle.mrt_graph.specs.TreeWords.{search_number, parent_link}
 use Rattle.mrt_graph.proofs.EndsAt.{end_leads}
 use Rattle.mrt_graph.proofs.Hops.{lead_back}
 use Rattle.mrt_graph.proofs.ListPlaces.{place_of}
@@ -82,7 +82,7 @@ no_link_past tree v e past over = let none = rw (slice_get_past tree v past) at 
 -- a parent has a lower number
 pub falls : (g : Topology) (root : ℕ) (tree : List TreeNode) (order : List ℕ) → IsTopology g → root < length g.ids → IsSearchOrder g root tree order
     → ((k v : ℕ) → slice_get order k ≡ Some v → IsDone g order v) → length tree ≡ length g.ids
-    → (v u : ℕ) → parent_of g tree v ≡ Some u → number_of tree u < number_of tree v
+    → (v u : ℕ) → parent_of g tree v ≡ Some u → search_number tree u < search_number tree v
 falls g root tree order kept within searched ended one_each v u is =
     let over = over_link g tree v u is in
     elim (cases_lt v (length g.ids)) [
@@ -95,7 +95,7 @@ falls g root tree order kept within searched ended one_each v u is =
                 absurd (some_none over.link (sym over.over ∙ none))
             | inr it ↦
                 let has = found_has_parent g root tree order place.0 v kept searched place.1 it in
-                subst (λ (w : ℕ). number_of tree w < number_of tree v) (same_Some has.parent u (sym has.is ∙ is)) has.lower
+                subst (λ (w : ℕ). search_number tree w < search_number tree v) (same_Some has.parent u (sym has.is ∙ is)) has.lower
           ]
     ]
   where

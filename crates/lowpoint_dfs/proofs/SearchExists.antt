@@ -9,7 +9,7 @@ use Rattle.mrt_graph.specs.declared.link.End.{End}
 use Rattle.mrt_graph.specs.declared.tree.TreeNode.{TreeNode}
 use Rattle.mrt_graph.specs.GraphInvariant.{IsEnd, IsTopology}
 use Rattle.mrt_graph.specs.Topology.{Topology}
-use Rattle.mrt_graph.specs.TreeWords.{number_of, parent_link}
+use Rattle.mrt_graph.specs.TreeWords.{search_number, parent_link}
 use Rattle.mrt_graph.proofs.EndsAt.{list_of_ends}
 use Rattle.mrt_graph.proofs.ListPlaces.{contains_at, place_of, set_there, set_elsewhere}
 use Rattle.mrt_graph.proofs.ListTests.{all_at, there}
@@ -134,8 +134,8 @@ lengthened g root nodes order here kept s it = record {
     found k one from early at =
         let place = place_of order one.to (it.open_at.before k one early at) in omega (arith, number_at g root nodes order s.searched place.0 one.to place.1)
 
-    new : number_of nodes end.to ≡ 0
-    new = elim (cases_lt 0 (number_of nodes end.to)) [
+    new : search_number nodes end.to ≡ 0
+    new = elim (cases_lt 0 (search_number nodes end.to)) [
       | inl some ↦ absurd (it.open_at.outside (s.listed end.to (omega (arith, some))))
       | inr none ↦ omega (arith, none)
     ]
@@ -168,7 +168,7 @@ goes_on (suc left) g root nodes order here kept within s fits = elim (ended_or_l
 -- each node has the least of its number and of what its ends offer
 lowest_of : (tree : List TreeNode) (v : ℕ) (ends : List End) (k : ℕ) → k ≤ length ends → (lowest : Lowest) × IsLowest tree v ends k lowest
 lowest_of tree v ends zero few = (
-  record { low = number_of tree v; link = parent_link tree v },
+  record { low = search_number tree v; link = parent_link tree v },
   record { own = omega arith; least = λ j n end early at offers. absurd (omega (arith, early)); from = Own refl refl },
 )
 lowest_of tree v ends (suc k) few =
@@ -194,7 +194,7 @@ given_lowest tree v ends within =
           one_each = length-set tree v node;
           alike = record {
             numbers = λ u. elim (cases_eq u v) [
-              | inl same ↦ subst (λ (w : ℕ). number_of (set tree v node) w ≡ number_of tree w) (sym same)
+              | inl same ↦ subst (λ (w : ℕ). search_number (set tree v node) w ≡ search_number tree w) (sym same)
                   (ap (λ (o : Option TreeNode). option_map_or (λ z. z.number) o 0) now ∙ number ∙ sym (ap (λ (o : Option TreeNode). option_map_or (λ z. z.number) o 0) at))
               | inr other ↦ ap (λ (o : Option TreeNode). option_map_or (λ z. z.number) o 0) (set_elsewhere tree v u node other)
             ];

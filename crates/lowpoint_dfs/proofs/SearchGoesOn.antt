@@ -14,7 +14,7 @@ use Rattle.mrt_graph.specs.declared.link.End.{End}
 use Rattle.mrt_graph.specs.declared.tree.TreeNode.{TreeNode}
 use Rattle.mrt_graph.specs.GraphInvariant.{AreEnds, IsEnd, IsTopology}
 use Rattle.mrt_graph.specs.Topology.{Topology}
-use Rattle.mrt_graph.specs.TreeWords.{number_of, parent_link}
+use Rattle.mrt_graph.specs.TreeWords.{search_number, parent_link}
 use Rattle.mrt_graph.proofs.Hops.{lead_back}
 use Rattle.mrt_graph.proofs.ListPlaces.{contains_at, place_of, set_there, set_elsewhere}
 use Rattle.mrt_graph.proofs.ListTests.{all_at, there}
@@ -32,7 +32,7 @@ same_lists xs ys same = cc
 
 -- a search order is one in each tree with the same numbers and parent links of the listed nodes
 pub order_kept : (g : Topology) (root : ℕ) (tree other : List TreeNode) (order : List ℕ) → IsSearchOrder g root tree order
-    → ((v : ℕ) → Contains order v → number_of other v ≡ number_of tree v) → ((v : ℕ) → Contains order v → parent_link other v ≡ parent_link tree v)
+    → ((v : ℕ) → Contains order v → search_number other v ≡ search_number tree v) → ((v : ℕ) → Contains order v → parent_link other v ≡ parent_link tree v)
     → IsSearchOrder g root other order
 order_kept g root tree other order (Begun number parent) numbers parents =
     Begun (numbers root (Contains-push [] root) ∙ number) (parents root (Contains-push [] root) ∙ parent)
@@ -43,7 +43,7 @@ order_kept g root tree other order (Found listed node link earlier next number p
     next (numbers node (Contains-push listed node) ∙ number) (parents node (Contains-push listed node) ∙ parent)
 
 -- listed nodes have numbers
-listed_found : (g : Topology) (root : ℕ) (nodes : List TreeNode) (order : List ℕ) (v : ℕ) → IsSearchOrder g root nodes order → Contains order v → 1 ≤ number_of nodes v
+listed_found : (g : Topology) (root : ℕ) (nodes : List TreeNode) (order : List ℕ) (v : ℕ) → IsSearchOrder g root nodes order → Contains order v → 1 ≤ search_number nodes v
 listed_found g root nodes order v searched listed =
     let place = place_of order v listed in omega (arith, number_at g root nodes order searched place.0 v place.1)
 
@@ -74,7 +74,7 @@ passing g root nodes order passed here place ends s within list found = record {
 }
 
 -- one node less is to be found
-less_unfound : (nodes : List TreeNode) (v n : ℕ) (node : TreeNode) → v < length nodes → number_of nodes v ≡ 0 → node.number ≡ n → 1 ≤ n → unfound (set nodes v node) + 1 ≡ unfound nodes
+less_unfound : (nodes : List TreeNode) (v n : ℕ) (node : TreeNode) → v < length nodes → search_number nodes v ≡ 0 → node.number ≡ n → 1 ≤ n → unfound (set nodes v node) + 1 ≡ unfound nodes
 less_unfound nodes v n node within new is some =
     let at = there nodes v within in
     let old : at.0.number ≡ 0 = rw at.1 at new in
@@ -88,7 +88,7 @@ less_unfound nodes v n node within new is some =
 -- a node is found
 pub finding : (g : Topology) (root : ℕ) (nodes : List TreeNode) (order passed : List ℕ) (here place : ℕ) (ends : List End) (end : End)
     → IsSearching g root nodes order passed here → slice_get g.ends here ≡ Some ends → slice_get ends place ≡ Some end → LeadToFound nodes ends 0 place
-    → number_of nodes end.to ≡ 0 → end.to < length g.ids
+    → search_number nodes end.to ≡ 0 → end.to < length g.ids
     → IsSearching g root (set nodes end.to (found_node (length order + 1) (Some end.link))) (order ++ end.to ∷ []) passed end.to
 finding g root nodes order passed here place ends end s list at found new within =
     record {
@@ -134,19 +134,19 @@ finding g root nodes order passed here place ends end s list at found new within
     not_listed : Contains order end.to → ⊥
     not_listed c = omega (arith, listed_found g root nodes order end.to s.searched c, new)
 
-    number_elsewhere : (v : ℕ) → v ≢ end.to → number_of nodes' v ≡ number_of nodes v
+    number_elsewhere : (v : ℕ) → v ≢ end.to → search_number nodes' v ≡ search_number nodes v
     number_elsewhere v other = ap (λ (o : Option TreeNode). option_map_or (λ x. x.number) o 0) (set_elsewhere nodes end.to v node other)
 
-    numbers : (v : ℕ) → Contains order v → number_of nodes' v ≡ number_of nodes v
+    numbers : (v : ℕ) → Contains order v → search_number nodes' v ≡ search_number nodes v
     numbers v c = number_elsewhere v (λ same. not_listed (subst (λ (w : ℕ). Contains order w) same c))
 
     parents : (v : ℕ) → Contains order v → parent_link nodes' v ≡ parent_link nodes v
     parents v c = ap (λ (o : Option TreeNode). option_and_then (λ x. x.parent) o)
         (set_elsewhere nodes end.to v node (λ same. not_listed (subst (λ (w : ℕ). Contains order w) same c)))
 
-    still : (v : ℕ) → 1 ≤ number_of nodes v → 1 ≤ number_of nodes' v
+    still : (v : ℕ) → 1 ≤ search_number nodes v → 1 ≤ search_number nodes' v
     still v some = elim (cases_eq v end.to) [
-      | inl same ↦ absurd (omega (arith, some, new, ap (λ (w : ℕ). number_of nodes w) same))
+      | inl same ↦ absurd (omega (arith, some, new, ap (λ (w : ℕ). search_number nodes w) same))
       | inr other ↦ omega (arith, some, number_elsewhere v other)
     ]
 
@@ -211,7 +211,7 @@ parent_here g root nodes order passed here kept s other =
 
 -- the search goes on at another node that is listed
 pub comes_to : (g : Topology) (root : ℕ) (nodes : List TreeNode) (order passed : List ℕ) (here there : ℕ) → IsSearching g root nodes order passed here
-    → Contains order there → ((k v : ℕ) → number_of nodes there ≤ k → slice_get order k ≡ Some v → IsDone g order v)
+    → Contains order there → ((k v : ℕ) → search_number nodes there ≤ k → slice_get order k ≡ Some v → IsDone g order v)
     → IsSearching g root nodes order passed there
 comes_to g root nodes order passed here there s is_listed done = record {
   searched = s.searched;
@@ -288,12 +288,12 @@ looking g root nodes seen order passed passed' here place ends kept within s lis
     let now : get_or passed' here 0 ≡ place = ap (λ (ps : List ℕ). get_or ps here 0) is ∙ get_or-set_same passed here place 0 (omega (arith, inside, s.one_place_each)) in
     record { searching = next; found = subst (λ (n : ℕ). LeadToFound nodes ends 0 n) now (next.passed_ends here ends list) }
 
-some_unfound : (nodes : List TreeNode) (v : ℕ) → v < length nodes → number_of nodes v ≡ 0 → unfound (set nodes v (found_node 1 None)) + 1 ≡ unfound nodes
+some_unfound : (nodes : List TreeNode) (v : ℕ) → v < length nodes → search_number nodes v ≡ 0 → unfound (set nodes v (found_node 1 None)) + 1 ≡ unfound nodes
 some_unfound nodes v within new = less_unfound nodes v 1 (found_node 1 None) within new refl (omega arith)
 
 -- where a node is to be found, the list is not full
 pub room_left : (g : Topology) (root : ℕ) (nodes : List TreeNode) (order passed : List ℕ) (here v : ℕ) → IsSearching g root nodes order passed here
-    → number_of nodes v ≡ 0 → v < length g.ids → length order < length g.ids
+    → search_number nodes v ≡ 0 → v < length g.ids → length order < length g.ids
 room_left g root nodes order passed here v s new within =
     omega (arith, s.left, s.one_each, some_unfound nodes v (omega (arith, within, s.one_each)) new)
 
@@ -307,37 +307,37 @@ less_of u n a b few =
 
 -- less is left to do when a node is found, and when the search goes back
 pub found_less : (g : Topology) (root : ℕ) (nodes : List TreeNode) (order passed : List ℕ) (here v : ℕ) (link : Option ℕ) → IsSearching g root nodes order passed here
-    → number_of nodes v ≡ 0 → v < length g.ids → left_at (set nodes v (found_node (length order + 1) link)) v < left_at nodes here
+    → search_number nodes v ≡ 0 → v < length g.ids → left_at (set nodes v (found_node (length order + 1) link)) v < left_at nodes here
 found_less g root nodes order passed here v link s new within =
     let node : TreeNode = found_node (length order + 1) link in
     let inside : v < length nodes = omega (arith, within, s.one_each) in
     let less : unfound (set nodes v node) + 1 ≡ unfound nodes = less_unfound nodes v (length order + 1) node inside new refl (omega arith) in
-    let number : number_of (set nodes v node) v ≡ length order + 1 = ap (λ (o : Option TreeNode). option_map_or (λ x. x.number) o 0) (set_there nodes v node inside) in
-    let lower = less_of (unfound (set nodes v node)) (length nodes) (length order + 1) (number_of nodes here) (omega (arith, s.left, less)) in
+    let number : search_number (set nodes v node) v ≡ length order + 1 = ap (λ (o : Option TreeNode). option_map_or (λ x. x.number) o 0) (set_there nodes v node inside) in
+    let lower = less_of (unfound (set nodes v node)) (length nodes) (length order + 1) (search_number nodes here) (omega (arith, s.left, less)) in
     rw (length-set nodes v node, number, sym less) lower
 
-pub back_less : (nodes : List TreeNode) (up here : ℕ) → number_of nodes up < number_of nodes here → left_at nodes up < left_at nodes here
+pub back_less : (nodes : List TreeNode) (up here : ℕ) → search_number nodes up < search_number nodes here → left_at nodes up < left_at nodes here
 back_less nodes up here lower = omega (arith, lower)
 
 -- an end that leads to a node that is not found
 pub record IsNewEnd (g : Topology) (nodes : List TreeNode) (ends : List End) (place : ℕ) (end : End) : Type 0 where
   pub at : slice_get ends place ≡ Some end
-  pub new : number_of nodes end.to ≡ 0
+  pub new : search_number nodes end.to ≡ 0
   pub within : end.to < length g.ids
 
 pub new_end : (g : Topology) (n : ℕ) (nodes seen : List TreeNode) (ends : List End) (place : ℕ) (end : End) → AreEnds (length g.ids) g.links n ends
-    → seen ≡ nodes → place < length ends → end ≡ get_or ends place end → ((e : End) → slice_get ends place ≡ Some e → number_of seen e.to ≡ 0)
+    → seen ≡ nodes → place < length ends → end ≡ get_or ends place end → ((e : End) → slice_get ends place ≡ Some e → search_number seen e.to ≡ 0)
     → IsNewEnd g nodes ends place end
 new_end g n nodes seen ends place end are same inside read outside =
     let at : slice_get ends place ≡ Some end = slice_get_read ends (length ends) place end refl inside read in
     record {
       at = at;
-      new = subst (λ (ns : List TreeNode). number_of ns end.to ≡ 0) same (outside end at);
+      new = subst (λ (ns : List TreeNode). search_number ns end.to ≡ 0) same (outside end at);
       within = (all_at (IsEnd (length g.ids) g.links n) ends place end are.kept at).to;
     }
 
 -- a search begins
-number_blank : (n v : ℕ) (blank : TreeNode) → blank.number ≡ 0 → number_of (replicate n blank) v ≡ 0
+number_blank : (n v : ℕ) (blank : TreeNode) → blank.number ≡ 0 → search_number (replicate n blank) v ≡ 0
 number_blank zero v blank none = refl
 number_blank (suc n) zero blank none = none
 number_blank (suc n) (suc v) blank none = number_blank n v blank none
@@ -396,7 +396,7 @@ beginning g root blank within none =
     now : slice_get (set (replicate n blank) root node) root ≡ Some node
     now = set_there (replicate n blank) root node inside
 
-    number : number_of (set (replicate n blank) root node) root ≡ 1
+    number : search_number (set (replicate n blank) root node) root ≡ 1
     number = ap (λ (o : Option TreeNode). option_map_or (λ x. x.number) o 0) now
 
 pub begun : (g : Topology) (root : ℕ) (blank : TreeNode) (nodes nodes' : List TreeNode) (order passed : List ℕ) (count : ℕ) (link : Option ℕ) → root < length g.ids → blank.number ≡ 0

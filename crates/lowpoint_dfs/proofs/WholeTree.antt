@@ -7,7 +7,7 @@ use Rattle.mrt_graph.specs.declared.tree.TreeNode.{TreeNode}
 use Rattle.mrt_graph.specs.GraphInvariant.{IsLink, IsTopology}
 use Rattle.mrt_graph.specs.Leads.{leads}
 use Rattle.mrt_graph.specs.Topology.{Topology}
-use Rattle.mrt_graph.specs.TreeWords.{number_of, parent_link}
+use Rattle.mrt_graph.specs.TreeWords.{search_number, parent_link}
 use Rattle.mrt_graph.proofs.FewNumbers.{few_numbers}
 use Rattle.mrt_graph.proofs.Hops.{far_ends}
 use Rattle.mrt_graph.proofs.ListPlaces.{place_of}
@@ -75,7 +75,7 @@ joins_all g root tree kept within search e u v onward =
     (tree_lists g root tree kept within search u both.0) (tree_lists g root tree kept within search v both.1) onward
 
 pub numbers_within : (g : Topology) (root : ℕ) (tree : List TreeNode) → IsTopology g → root < length g.ids → IsSearchTree g root tree
-    → (v : ℕ) → v < length g.ids → (1 ≤ number_of tree v) × (number_of tree v ≤ length g.ids)
+    → (v : ℕ) → v < length g.ids → (1 ≤ search_number tree v) × (search_number tree v ≤ length g.ids)
 numbers_within g root tree kept within search v v_within =
     let order = search.order in
     let place = place_of order v (tree_lists g root tree kept within search v v_within) in
@@ -87,7 +87,7 @@ numbers_within g root tree kept within search v v_within =
     (omega (arith, number), omega (arith, number, few, slice_get_within order place.0 v place.1))
 
 pub numbers_differ : (g : Topology) (root : ℕ) (tree : List TreeNode) → IsTopology g → root < length g.ids → IsSearchTree g root tree
-    → (u v : ℕ) → u < length g.ids → v < length g.ids → number_of tree u ≡ number_of tree v → u ≡ v
+    → (u v : ℕ) → u < length g.ids → v < length g.ids → search_number tree u ≡ search_number tree v → u ≡ v
 numbers_differ g root tree kept within search u v u_within v_within same =
     let place = place_of search.order u (tree_lists g root tree kept within search u u_within) in
     let other = place_of search.order v (tree_lists g root tree kept within search v v_within) in

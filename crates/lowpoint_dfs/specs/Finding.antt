@@ -3,7 +3,7 @@ use Rattle.std.specs.Prelude.{◌≡◌, ◌<◌, ◌≤◌, ◌==◌, ◌+◌, 
 use Rattle.mrt_graph.specs.declared.link.End.{End}
 use Rattle.mrt_graph.specs.declared.tree.TreeNode.{TreeNode}
 use Rattle.mrt_graph.specs.Topology.{Topology}
-use Rattle.mrt_graph.specs.TreeWords.{number_of}
+use Rattle.mrt_graph.specs.TreeWords.{search_number}
 use Rattle.lowpoint_dfs.specs.SearchOrder.{IsDone, IsSearchOrder}
 
 -- a node with its number and its parent link; its lowpoint is its own number at first
@@ -16,12 +16,12 @@ unfound nodes = count_by (λ node. node.number == 0) nodes
 
 -- how much is left to do for a search that is at node `here`: nodes to find, and the way back to the root
 abbrev pub left_at : List TreeNode → ℕ → ℕ
-left_at nodes here = unfound nodes * (length nodes + 1) + number_of nodes here
+left_at nodes here = unfound nodes * (length nodes + 1) + search_number nodes here
 
 -- all ends from one place to another lead to found nodes
 abbrev pub LeadToFound : List TreeNode → List End → ℕ → ℕ → Type 0
 LeadToFound nodes ends from to =
-    (k : ℕ) (end : End) → from ≤ k → k < to → slice_get ends k ≡ Some end → 1 ≤ number_of nodes end.to
+    (k : ℕ) (end : End) → from ≤ k → k < to → slice_get ends k ≡ Some end → 1 ≤ search_number nodes end.to
 
 -- a search that is at node `here`: all that it has listed after `here` is done, and of each node the ends that it has
 -- passed lead to found nodes
@@ -30,11 +30,11 @@ pub record IsSearching (g : Topology) (root : ℕ) (nodes : List TreeNode) (orde
   pub one_each : length nodes ≡ length g.ids
   pub one_place_each : length passed ≡ length g.ids
   pub left : unfound nodes + length order ≡ length nodes
-  pub listed : (v : ℕ) → 1 ≤ number_of nodes v → Contains order v
+  pub listed : (v : ℕ) → 1 ≤ search_number nodes v → Contains order v
   pub passed_ends : (v : ℕ) (ends : List End) → slice_get g.ends v ≡ Some ends
       → LeadToFound nodes ends 0 (slice_index_or passed v 0)
   pub here_listed : Contains order here
-  pub later_done : (k v : ℕ) → number_of nodes here ≤ k → slice_get order k ≡ Some v → IsDone g order v
+  pub later_done : (k v : ℕ) → search_number nodes here ≤ k → slice_get order k ≡ Some v → IsDone g order v
 
 -- a search that has found all that it can
 pub record IsFinished (g : Topology) (root : ℕ) (nodes : List TreeNode) (order : List ℕ) : Type 0 where

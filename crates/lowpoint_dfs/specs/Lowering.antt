@@ -3,7 +3,7 @@ use Rattle.std.specs.Prelude.{◌≡◌, ◌≢◌, ◌<◌, ◌≤◌, ◌+◌,
 use Rattle.mrt_graph.specs.declared.link.End.{End}
 use Rattle.mrt_graph.specs.declared.tree.TreeNode.{TreeNode}
 use Rattle.mrt_graph.specs.Topology.{Topology}
-use Rattle.mrt_graph.specs.TreeWords.{number_of, parent_link, low_of, low_link}
+use Rattle.mrt_graph.specs.TreeWords.{search_number, parent_link, low_of, low_link}
 use Rattle.lowpoint_dfs.specs.declared.lowpoints.Lowest.{Lowest}
 use Rattle.lowpoint_dfs.specs.Lowpoint.{offer}
 use Rattle.lowpoint_dfs.specs.Subtree.{parent_of}
@@ -15,27 +15,27 @@ lowered known (Some n) link = if nat_lt n known.low then record { low = n; link 
 
 -- where the least number comes from: from the node itself, or from the first of the first k ends that offers it
 pub data IsLowFrom (tree : List TreeNode) (v : ℕ) (ends : List End) (k : ℕ) (lowest : Lowest) : Type 0 where
-  Own : lowest.low ≡ number_of tree v → lowest.link ≡ parent_link tree v → IsLowFrom tree v ends k lowest
+  Own : lowest.low ≡ search_number tree v → lowest.link ≡ parent_link tree v → IsLowFrom tree v ends k lowest
   Offered : (place : ℕ) (end : End) → place < k → slice_get ends place ≡ Some end → offer tree v end ≡ Some lowest.low
-      → lowest.low < number_of tree v → lowest.link ≡ Some end.link
+      → lowest.low < search_number tree v → lowest.link ≡ Some end.link
       → ((j : ℕ) (other : End) → j < place → slice_get ends j ≡ Some other → ¬ (offer tree v other ≡ Some lowest.low))
       → IsLowFrom tree v ends k lowest
 
 -- the least of v's number and of what its first k ends offer
 pub record IsLowest (tree : List TreeNode) (v : ℕ) (ends : List End) (k : ℕ) (lowest : Lowest) : Type 0 where
-  pub own : lowest.low ≤ number_of tree v
+  pub own : lowest.low ≤ search_number tree v
   pub least : (j n : ℕ) (end : End) → j < k → slice_get ends j ≡ Some end → offer tree v end ≡ Some n → lowest.low ≤ n
   pub from : IsLowFrom tree v ends k lowest
 
 -- nodes numbered by their places in a list, parents before their children
 pub record AreNumbered (g : Topology) (tree : List TreeNode) (order : List ℕ) : Type 0 where
-  pub places : (k v : ℕ) → slice_get order k ≡ Some v → number_of tree v ≡ k + 1
+  pub places : (k v : ℕ) → slice_get order k ≡ Some v → search_number tree v ≡ k + 1
   pub within : (k v : ℕ) → slice_get order k ≡ Some v → v < length g.ids
-  pub falls : (v parent : ℕ) → parent_of g tree v ≡ Some parent → number_of tree parent < number_of tree v
+  pub falls : (v parent : ℕ) → parent_of g tree v ≡ Some parent → search_number tree parent < search_number tree v
 
 -- two trees with the same numbers and parent links
 pub record AreAlike (tree other : List TreeNode) : Type 0 where
-  pub numbers : (v : ℕ) → number_of other v ≡ number_of tree v
+  pub numbers : (v : ℕ) → search_number other v ≡ search_number tree v
   pub parents : (v : ℕ) → parent_link other v ≡ parent_link tree v
 
 -- a tree in which v was given the least of its number and of what its ends offer

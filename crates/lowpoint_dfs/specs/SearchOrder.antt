@@ -4,7 +4,7 @@ use Rattle.std.specs.Prelude.{◌≡◌, ◌<◌, ◌+◌, ◌++◌, ℕ, List, 
 use Rattle.mrt_graph.specs.declared.link.End.{End}
 use Rattle.mrt_graph.specs.declared.tree.TreeNode.{TreeNode}
 use Rattle.mrt_graph.specs.Topology.{Topology}
-use Rattle.mrt_graph.specs.TreeWords.{number_of, parent_link}
+use Rattle.mrt_graph.specs.TreeWords.{search_number, parent_link}
 use Rattle.mrt_graph.specs.FirstEnd.{IsFirstEnd}
 
 -- no end of node v leads to a node outside the list
@@ -29,7 +29,7 @@ pub record IsFoundNext (g : Topology) (listed : List ℕ) (node link : ℕ) : Ty
 -- end. In the tree a node's number is its place in the list, counted from 1, and its parent link the one over which
 -- it was found; the root has none
 pub data IsSearchOrder (g : Topology) (root : ℕ) (tree : List TreeNode) : List ℕ → Type 0 where
-  Begun : number_of tree root ≡ 1 → parent_link tree root ≡ None → IsSearchOrder g root tree (root ∷ [])
+  Begun : search_number tree root ≡ 1 → parent_link tree root ≡ None → IsSearchOrder g root tree (root ∷ [])
   Found : (listed : List ℕ) (node link : ℕ) → IsSearchOrder g root tree listed → IsFoundNext g listed node link
-      → number_of tree node ≡ length listed + 1 → parent_link tree node ≡ Some link
+      → search_number tree node ≡ length listed + 1 → parent_link tree node ≡ Some link
       → IsSearchOrder g root tree (listed ++ node ∷ [])

@@ -5,7 +5,7 @@ use Rattle.mrt_graph.specs.declared.link.End.{End}
 use Rattle.mrt_graph.specs.declared.tree.TreeNode.{TreeNode}
 use Rattle.mrt_graph.specs.Leads.{leads}
 use Rattle.mrt_graph.specs.Topology.{Topology}
-use Rattle.mrt_graph.specs.TreeWords.{number_of, parent_link}
+use Rattle.mrt_graph.specs.TreeWords.{search_number, parent_link}
 use Rattle.mrt_graph.specs.FirstEnd.{IsFirstEnd}
 
 -- a node's parent: the other node of its parent link
@@ -16,7 +16,7 @@ parent_of g tree v = option_and_then (λ e. leads g.links e v) (parent_link tree
 pub record HasParent (g : Topology) (tree : List TreeNode) (v : ℕ) : Type 0 where
   pub parent : ℕ
   pub is : parent_of g tree v ≡ Some parent
-  pub lower : number_of tree parent < number_of tree v
+  pub lower : search_number tree parent < search_number tree v
   pub end : End
   pub first : IsFirstEnd g (λ end. end.to ≡ v) parent end
   pub over : parent_link tree v ≡ Some end.link
@@ -34,4 +34,4 @@ pub record IsReachedFrom (g : Topology) (tree : List TreeNode) (v n : ℕ) : Typ
   pub inside : IsInSubtree g tree v from
   pub leads_on : leads g.links link from ≡ Some to
   pub other : parent_link tree v ≢ Some link
-  pub number : n ≡ number_of tree to
+  pub number : n ≡ search_number tree to

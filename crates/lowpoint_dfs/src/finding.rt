@@ -24,7 +24,7 @@ ghost use Rattle.std.specs.Prelude.{
   vec_capacity,
 };
 ghost use Rattle.std.specs.List.{AllByRecursion};
-ghost use Rattle.mrt_graph.specs.{declared.link.End.End, GraphInvariant.IsTopology, TreeWords.number_of};
+ghost use Rattle.mrt_graph.specs.{declared.link.End.End, GraphInvariant.IsTopology, TreeWords.search_number};
 ghost use Rattle.lowpoint_dfs.specs.Subtree.{parent_of};
 ghost use Rattle.lowpoint_dfs.specs.Finding.{IsFinished, IsSearching, LeadToFound, found_node, left_at};
 
@@ -111,7 +111,7 @@ fn look_on(nodes: &[TreeNode], ends: &[End], passed: &mut Vec<usize>, here: Node
     ensures inside { LeadToFound nodes.now ends.now (slice_index_or passed.old.items here 0)
         result }
     ensures outside { (end : End) → slice_get ends.now result ≡ Some end
-        → number_of nodes.now end.to ≡ 0 }
+        → search_number nodes.now end.to ≡ 0 }
 {
     let at = here.get() as usize;
     let place = first_outside(nodes, ends, passed[at]);
@@ -125,7 +125,7 @@ fn first_outside(nodes: &[TreeNode], ends: &[End], from: usize) -> usize
     requires { AllByRecursion (λ end. end.to < length nodes.now) ends.now }
     ensures inside { LeadToFound nodes.now ends.now from result }
     ensures outside { (end : End) → slice_get ends.now result ≡ Some end
-        → number_of nodes.now end.to ≡ 0 }
+        → search_number nodes.now end.to ≡ 0 }
 {
     for place in from..ends.len() {
         if !is_found(nodes, ends[place].to) {
@@ -137,7 +137,7 @@ fn first_outside(nodes: &[TreeNode], ends: &[End], from: usize) -> usize
 
 fn is_found(nodes: &[TreeNode], v: NodeNo) -> bool
     requires { v < length nodes.now }
-    ensures { result ≡ nat_lt 0 (number_of nodes.now v) }
+    ensures { result ≡ nat_lt 0 (search_number nodes.now v) }
 {
     nodes[v.get() as usize].number > 0
 }

@@ -2,7 +2,7 @@
 
 ghost use Rattle.std.specs.Prelude.{◌≡◌, ◌≢◌, ◌<◌, ◌≤◌, ◌⊎◌, ◌+◌, ◌==◌, ℕ, List, Some, None, count_by, length, slice_get};
 ghost use Rattle.mrt_graph.specs.{declared.tree.TreeNode.TreeNode, GraphInvariant.IsTopology, Leads.leads, Topology.Topology};
-ghost use Rattle.mrt_graph.specs.TreeWords.{low_of, number_of, parent_link};
+ghost use Rattle.mrt_graph.specs.TreeWords.{low_of, search_number, parent_link};
 ghost use Rattle.lowpoint_dfs.specs.{Lowpoint.IsLeast, SearchTree.IsSearchTree};
 ghost use Rattle.lowpoint_dfs.specs.Subtree.{HasParent, IsInSubtree, IsReachedFrom};
 
@@ -28,22 +28,22 @@ pub fn numbers_are_places()
     ensures places { (g : Topology) (root : ℕ) (tree : List TreeNode) → IsTopology g
         → root < length g.ids
         → (search : IsSearchTree g root tree) → (k v : ℕ) → slice_get search.order k ≡ Some v
-        → number_of tree v ≡ k + 1 }
+        → search_number tree v ≡ k + 1 }
     ensures within { (g : Topology) (root : ℕ) (tree : List TreeNode) → IsTopology g
         → root < length g.ids
         → IsSearchTree g root tree → (v : ℕ) → v < length g.ids
-        → (1 ≤ number_of tree v) × (number_of tree v ≤ length g.ids) }
+        → (1 ≤ search_number tree v) × (search_number tree v ≤ length g.ids) }
     ensures differ { (g : Topology) (root : ℕ) (tree : List TreeNode) → IsTopology g
         → root < length g.ids
         → IsSearchTree g root tree → (u v : ℕ) → u < length g.ids → v < length g.ids
-        → number_of tree u ≡ number_of tree v → u ≡ v }
+        → search_number tree u ≡ search_number tree v → u ≡ v }
 {}
 
 /// A law: the root has number 1 and no parent; each other node has a parent with a lower number.
 pub fn each_node_but_the_root_has_a_parent()
     ensures root { (g : Topology) (root : ℕ) (tree : List TreeNode) → IsTopology g
         → root < length g.ids
-        → IsSearchTree g root tree → (number_of tree root ≡ 1) × (parent_link tree root ≡ None) }
+        → IsSearchTree g root tree → (search_number tree root ≡ 1) × (parent_link tree root ≡ None) }
     ensures others { (g : Topology) (root : ℕ) (tree : List TreeNode) → IsTopology g
         → root < length g.ids
         → IsSearchTree g root tree → (v : ℕ) → v < length g.ids → v ≢ root → HasParent g tree v }
@@ -61,5 +61,5 @@ pub fn links_join_ancestors()
 pub fn lowpoints_are_what_subtrees_reach()
     ensures { (g : Topology) (root : ℕ) (tree : List TreeNode) → IsTopology g → root < length g.ids
         → IsSearchTree g root tree → (v : ℕ) → v < length g.ids
-        → IsLeast (λ n. (n ≡ number_of tree v) ⊎ IsReachedFrom g tree v n) (low_of tree v) }
+        → IsLeast (λ n. (n ≡ search_number tree v) ⊎ IsReachedFrom g tree v n) (low_of tree v) }
 {}

@@ -18,7 +18,7 @@ use Rattle.cert_format.specs.declared.error.CertKind.{CertKind}
 use Rattle.cert_stream.specs.OfGraph.{IsOfGraph}
 use Rattle.fabric.specs.FabricParts.{ArePartsKept, AreRowsFor, FabricParts}
 use Rattle.fabric_runs.specs.RunTexts.{IsScriptText, IsTraceText}
-use Rattle.fabric_script.specs.ScriptFaults.{IsFirstFault as IsFirstFaultOfScript, IsScript}
+use Rattle.fabric_script.specs.ScriptFaults.{IsFirstScriptFault, IsScript}
 use Rattle.fabric_script.specs.declared.script.Script.{Script}
 use Rattle.fabric_script.specs.declared.trace.Trace.{Trace as PacketTrace}
 use Rattle.lfa_alt.specs.LfaText.{IsLfaText}
@@ -52,7 +52,7 @@ use Rattle.mrt_graph.proofs.ListPlaces.{place_of as id_place}
 use Rattle.mrt_graph.proofs.Members.{all_from_has, all_has, contains_from_has, has_from_contains}
 use Rattle.mrt_island.specs.IslandOf.{IsIsland}
 use Rattle.mrt_island.specs.Policy.{Policy}
-use Rattle.mrt_island.specs.ProfileFaults.{AreSettings, IsFirstFault as IsFirstLineFault}
+use Rattle.mrt_island.specs.ProfileFaults.{AreSettings, IsFirstProfileFault}
 use Rattle.mrt_island.specs.declared.island.Island.{Island}
 use Rattle.mrt_island.specs.declared.profile_error.ProfileKind.{ProfileKind}
 use Rattle.mrt_island.specs.declared.setting.Setting.{Setting}
@@ -63,7 +63,7 @@ use Rattle.order_repair.specs.OrderText.{IsTextFrom}
 use Rattle.ospf_lsa.specs.AreaLsas.{is_area_lsa}
 use Rattle.ospf_lsa.specs.LsaText.{lsa_length, lsas_text}
 use Rattle.ospf_lsa.specs.Lsas.{AreLsas, IsByte}
-use Rattle.ospf_lsa.specs.Outcome.{IsFirstFault}
+use Rattle.ospf_lsa.specs.Outcome.{IsFirstLsaFault}
 use Rattle.ospf_lsa.specs.declared.error.LsaKind.{LsaKind}
 use Rattle.ospf_lsa.specs.declared.lsa.Lsa.{Lsa as Advertisement}
 use Rattle.primary_alt.specs.Primaries.{ArePrimaries, IsPrimary}
@@ -113,11 +113,11 @@ IsWide id = id.number < 2 ^ 32
 pub record ComingLaws : Type 0 where
   pub areas : AreaLaws
   pub lsas : (bytes : List ℕ) → AllByRecursion IsByte bytes
-      → ((lsas : List Advertisement) × AreLsas 0 lsas × (bytes ≡ lsas_text lsas)) ⊎ ((at : ℕ) × (kind : LsaKind) × IsFirstFault bytes at kind)
+      → ((lsas : List Advertisement) × AreLsas 0 lsas × (bytes ≡ lsas_text lsas)) ⊎ ((at : ℕ) × (kind : LsaKind) × IsFirstLsaFault bytes at kind)
   pub settled : (lsas : List Advertisement) → least_conflict (entries_in lsas) ≡ None → IsSettled lsas
   pub conflict : (lsas : List Advertisement) (conflict : Clash) → least_conflict (entries_in lsas) ≡ Some conflict → IsFirstConflictOf lsas conflict
   pub settings : (lines : List (List ℕ)) → ((settings : List Setting) × AreSettings lines settings)
-      ⊎ ((number : ℕ) × (kind : ProfileKind) × IsFirstLineFault lines number kind)
+      ⊎ ((number : ℕ) × (kind : ProfileKind) × IsFirstProfileFault lines number kind)
   pub file : (bytes : List ℕ) → AllByRecursion (λ byte. byte < 2 ^ 8) bytes → ((f : CertFile) × IsCertFile f × (bytes ≡ cert_text f))
       ⊎ ((at : ℕ) × (kind : CertKind) × (first_fault bytes ≡ Some (at, kind)))
   pub island : (policy : Policy) (area : AreaParts) (router : ℕ) → IsArea area → Contains area.ids (router_node router) → policy.supports router ≡ true
@@ -139,7 +139,7 @@ pub record ComingLaws : Type 0 where
       → IsSome (color_hop parts.island.links (row_of parts.cert) color t s))
       → AreItsPrimaries parts.area parts.island parts.source parts.primaries → root < length parts.island.ids
       → (text : List ℕ) × IsTableText parts root text
-  pub scripts : (lines : List (List ℕ)) → ((script : Script) × IsScript lines script) ⊎ ((number : ℕ) × IsFirstFaultOfScript lines number)
+  pub scripts : (lines : List (List ℕ)) → ((script : Script) × IsScript lines script) ⊎ ((number : ℕ) × IsFirstScriptFault lines number)
   pub script_text : (parts : FabricParts) → ArePartsKept parts → ((t : ℕ) → AreRowsFor parts t) → (script : Script)
       → (text : List ℕ) × IsScriptText parts script text
   pub trace_text : (parts : FabricParts) → ArePartsKept parts → ((t : ℕ) → AreRowsFor parts t) → (trace : PacketTrace)

@@ -14,12 +14,12 @@ use Rattle.lsdb.specs.Newest.{IsSettled}
 use Rattle.lsdb.specs.Orders.{newest_in}
 use Rattle.lsdb.specs.declared.change.Conflict.{Conflict as Clash}
 use Rattle.mrt_graph.specs.declared.cert.CertFile.{CertFile}
-use Rattle.mrt_island.specs.ProfileFaults.{AreSettings, IsFirstFault as IsFirstLineFault}
+use Rattle.mrt_island.specs.ProfileFaults.{AreSettings, IsFirstProfileFault}
 use Rattle.mrt_island.specs.declared.profile_error.ProfileKind.{ProfileKind}
 use Rattle.mrt_island.specs.declared.setting.Setting.{Setting}
 use Rattle.ospf_lsa.specs.LsaText.{lsa_length, lsas_text}
 use Rattle.ospf_lsa.specs.Lsas.{AreLsas}
-use Rattle.ospf_lsa.specs.Outcome.{IsFirstFault}
+use Rattle.ospf_lsa.specs.Outcome.{IsFirstLsaFault}
 use Rattle.ospf_lsa.specs.declared.error.LsaKind.{LsaKind}
 use Rattle.ospf_lsa.specs.declared.lsa.Lsa.{Lsa as Advertisement}
 use Rattle.ospf_lsa.specs.AreaLsas.{is_area_lsa}
@@ -36,13 +36,13 @@ use Rattle.mrt_graph.specs.TextLines.{text_lines}
 use Rattle.mrt_answer.specs.Input.{Input}
 use Rattle.mrt_answer.specs.Reading.{certificate_of, database_of, deliveries_of, input_of, profile_of, script_of, updates_of}
 use Rattle.fabric_script.specs.declared.script.Script.{Script}
-use Rattle.fabric_script.specs.ScriptFaults.{IsFirstFault as IsFirstFaultOfScript, IsScript}
+use Rattle.fabric_script.specs.ScriptFaults.{IsFirstScriptFault, IsScript}
 use Rattle.flood_core.specs.declared.error.UpdateKind.{UpdateKind}
 use Rattle.flood_core.specs.declared.update.Update.{Update}
-use Rattle.flood_core.specs.UpdateOutcome.{IsFirstFault as IsFirstFaultOfUpdates}
+use Rattle.flood_core.specs.UpdateOutcome.{IsFirstUpdateFault}
 use Rattle.flood_core.specs.Updates.{AreUpdates}
 use Rattle.flood_script.specs.declared.script.FloodScript.{FloodScript}
-use Rattle.flood_script.specs.FloodScripts.{IsFirstFault as IsFirstFaultOfDeliveries, IsScript as IsFloodScript}
+use Rattle.flood_script.specs.FloodScripts.{IsFirstFloodFault, IsScript as IsFloodScript}
 
 -- what an option holds is one
 pub held_once : {X : Type 0} (x y : X) (option : Option X) → option ≡ Some x → option ≡ Some y → x ≡ y
@@ -53,12 +53,12 @@ held_once x y option one two = ap (λ o. option_map_or (λ z. z) o x) (sym one �
 -- the laws of the layers below on bytes, on LSAs and on conflicts
 pub record DatabaseLaws : Type 0 where
   pub never_both : (bytes : List ℕ) (lsas : List Advertisement) (at : ℕ) (kind : LsaKind) → AreLsas 0 lsas
-      → bytes ≡ lsas_text lsas → IsFirstFault bytes at kind → ⊥
+      → bytes ≡ lsas_text lsas → IsFirstLsaFault bytes at kind → ⊥
   pub one_list : (bytes : List ℕ) (lsas others : List Advertisement) → AreLsas 0 lsas → bytes ≡ lsas_text lsas
       → AreLsas 0 others → bytes ≡ lsas_text others
       → lsas ≡ others
-  pub one_fault : (bytes : List ℕ) (at place : ℕ) (kind other : LsaKind) → IsFirstFault bytes at kind
-      → IsFirstFault bytes place other
+  pub one_fault : (bytes : List ℕ) (at place : ℕ) (kind other : LsaKind) → IsFirstLsaFault bytes at kind
+      → IsFirstLsaFault bytes place other
       → (at ≡ place) × (kind ≡ other)
   pub settled : (lsas : List Advertisement) → IsSettled lsas → least_conflict (entries_in lsas) ≡ None
   pub only : (lsas : List Advertisement) (conflict : Clash) → AreBehind None lsas → IsFirstConflictOf lsas conflict
@@ -133,11 +133,11 @@ module _ (laws : DatabaseLaws) where
 -- the laws of the layer below on the lines of a profile
 pub record ProfileLaws : Type 0 where
   pub never_both : (lines : List (List ℕ)) (settings : List Setting) (line : ℕ) (kind : ProfileKind)
-      → AreSettings lines settings → IsFirstLineFault lines line kind → ⊥
+      → AreSettings lines settings → IsFirstProfileFault lines line kind → ⊥
   pub one_list : (lines : List (List ℕ)) (settings others : List Setting) → AreSettings lines settings
       → AreSettings lines others → settings ≡ others
-  pub one_fault : (lines : List (List ℕ)) (line number : ℕ) (kind other : ProfileKind) → IsFirstLineFault lines line kind
-      → IsFirstLineFault lines number other → (line ≡ number) × (kind ≡ other)
+  pub one_fault : (lines : List (List ℕ)) (line number : ℕ) (kind other : ProfileKind) → IsFirstProfileFault lines line kind
+      → IsFirstProfileFault lines number other → (line ≡ number) × (kind ≡ other)
 
 -- ---- certificates
 
@@ -213,27 +213,27 @@ one_certificate_of laws bytes = one_value_or_exit (certificate_of bytes) (one_ce
 -- the laws of the layers below: a script of events, packets, or a script of deliveries
 pub record ScriptLaws : Type 0 where
   pub never_both : (lines : List (List ℕ)) (script : Script) (number : ℕ) → IsScript lines script
-      → IsFirstFaultOfScript lines number → ⊥
+      → IsFirstScriptFault lines number → ⊥
   pub one_script : (lines : List (List ℕ)) (script other : Script) → IsScript lines script → IsScript lines other
       → script ≡ other
-  pub one_fault : (lines : List (List ℕ)) (number other : ℕ) → IsFirstFaultOfScript lines number
-      → IsFirstFaultOfScript lines other → number ≡ other
+  pub one_fault : (lines : List (List ℕ)) (number other : ℕ) → IsFirstScriptFault lines number
+      → IsFirstScriptFault lines other → number ≡ other
 
 pub record UpdateLaws : Type 0 where
   pub never_both : (bytes : List ℕ) (updates : List Update) (at : ℕ) (kind : UpdateKind) → AreUpdates 0 bytes updates []
-      → IsFirstFaultOfUpdates bytes at kind → ⊥
+      → IsFirstUpdateFault bytes at kind → ⊥
   pub one_list : (bytes : List ℕ) (updates others : List Update) → AreUpdates 0 bytes updates []
       → AreUpdates 0 bytes others [] → updates ≡ others
-  pub one_fault : (bytes : List ℕ) (at place : ℕ) (kind other : UpdateKind) → IsFirstFaultOfUpdates bytes at kind
-      → IsFirstFaultOfUpdates bytes place other → (at ≡ place) × (kind ≡ other)
+  pub one_fault : (bytes : List ℕ) (at place : ℕ) (kind other : UpdateKind) → IsFirstUpdateFault bytes at kind
+      → IsFirstUpdateFault bytes place other → (at ≡ place) × (kind ≡ other)
 
 pub record DeliveryLaws : Type 0 where
   pub never_both : (lines : List (List ℕ)) (script : FloodScript) (number : ℕ) → IsFloodScript lines script
-      → IsFirstFaultOfDeliveries lines number → ⊥
+      → IsFirstFloodFault lines number → ⊥
   pub one_script : (lines : List (List ℕ)) (script other : FloodScript) → IsFloodScript lines script
       → IsFloodScript lines other → script ≡ other
-  pub one_fault : (lines : List (List ℕ)) (number other : ℕ) → IsFirstFaultOfDeliveries lines number
-      → IsFirstFaultOfDeliveries lines other → number ≡ other
+  pub one_fault : (lines : List (List ℕ)) (number other : ℕ) → IsFirstFloodFault lines number
+      → IsFirstFloodFault lines other → number ≡ other
 
 pub one_script_of : ScriptLaws → (bytes : List ℕ) → IsOne (script_of bytes)
 one_script_of laws bytes = one_value_or_exit (script_of bytes) (laws.one_script (text_lines bytes)) exits no

@@ -4,11 +4,11 @@ use Rattle.std.specs.List.{AllByRecursion}
 use Rattle.flood_core.specs.FloodState.{started}
 use Rattle.flood_core.specs.Receiving.{MayFlood}
 use Rattle.flood_core.specs.Runs.{lsas_of}
-use Rattle.flood_core.specs.UpdateOutcome.{IsFirstFault as IsFirstFaultOfUpdates}
+use Rattle.flood_core.specs.UpdateOutcome.{IsFirstUpdateFault}
 use Rattle.flood_core.specs.Updates.{AreUpdates}
 use Rattle.flood_core.specs.declared.error.UpdateKind.{UpdateKind}
 use Rattle.flood_core.specs.declared.update.Update.{Update}
-use Rattle.flood_script.specs.FloodScripts.{IsAmong, IsFirstFault as IsFirstFaultOfDeliveries, IsScript}
+use Rattle.flood_script.specs.FloodScripts.{IsAmong, IsFirstFloodFault, IsScript}
 use Rattle.flood_script.specs.FloodTexts.{IsFloodText}
 use Rattle.flood_script.specs.declared.script.FloodScript.{FloodScript}
 use Rattle.flood_verdict.specs.Says.{Says}
@@ -39,13 +39,13 @@ use Rattle.mrt_answer.proofs.OneAnswer.{area_kept, bonds_kept}
 -- the laws of the layers below on packets and their deliveries
 pub record FloodLaws : Type 0 where
   pub updates : (bytes : List ℕ) → AllByRecursion IsByte bytes
-      → ((updates : List Update) × AreUpdates 0 bytes updates []) ⊎ ((at : ℕ) × (kind : UpdateKind) × IsFirstFaultOfUpdates bytes at kind)
+      → ((updates : List Update) × AreUpdates 0 bytes updates []) ⊎ ((at : ℕ) × (kind : UpdateKind) × IsFirstUpdateFault bytes at kind)
   pub may : (bytes : List ℕ) (updates : List Update) → AllByRecursion IsByte bytes → AreUpdates 0 bytes updates [] → AllByRecursion MayFlood updates
   pub bodies : (bytes : List ℕ) (updates : List Update) → AreUpdates 0 bytes updates []
       → AllByRecursion (λ (lsa : Lsa). FitsBody lsa.body) (lsas_of updates)
   pub ids : (bytes : List ℕ) (updates : List Update) → AreUpdates 0 bytes updates []
       → AllByRecursion (λ (lsa : Lsa). lsa.id < 2 ^ 32) (lsas_of updates)
-  pub scripts : (lines : List (List ℕ)) → ((script : FloodScript) × IsScript lines script) ⊎ ((number : ℕ) × IsFirstFaultOfDeliveries lines number)
+  pub scripts : (lines : List (List ℕ)) → ((script : FloodScript) × IsScript lines script) ⊎ ((number : ℕ) × IsFirstFloodFault lines number)
   pub text : (settings : List Setting) (updates : List Update) (script : FloodScript) → AllByRecursion MayFlood updates
       → AllByRecursion (λ (lsa : Lsa). FitsBody lsa.body) (lsas_of updates) → AllByRecursion (λ (lsa : Lsa). lsa.id < 2 ^ 32) (lsas_of updates)
       → AllByRecursion (IsAmong script.routers) script.lines

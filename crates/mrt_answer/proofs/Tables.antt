@@ -12,7 +12,7 @@ use Rattle.mrt_graph.specs.GraphInvariant.{IsNetwork}
 use Rattle.mrt_graph.specs.Topology.{Topology}
 use Rattle.mrt_graph.proofs.ListPlaces.{contains_at}
 use Rattle.mrt_island.specs.IslandOf.{IsIsland}
-use Rattle.mrt_island.specs.Numbering.{ids_of, number_of}
+use Rattle.mrt_island.specs.Numbering.{ids_of, number_inside}
 use Rattle.mrt_island.specs.Policy.{Policy}
 use Rattle.mrt_island.proofs.Counting.{flagged_at}
 
@@ -22,7 +22,7 @@ pub in_own_island : (policy : Policy) (area : AreaParts) (number : ℕ) (graph :
 in_own_island policy area number graph root link_of island =
     let start = island.those.start in
     subst (λ (ids : List NodeId). Contains ids (router number)) (sym island.made.same_ids)
-    (contains_at (ids_of area island.inside) (number_of island.inside start) (router number)
+    (contains_at (ids_of area island.inside) (number_inside island.inside start) (router number)
     (flagged_at island.inside area.ids start (router number) island.those.there ((island.those.those start).1 ([], refl))))
 
 two_kinds : (k : Kind) → k ≡ kinds.Router → k ≡ kinds.Network → ⊥

@@ -2,16 +2,16 @@
 use Rattle.std.specs.Prelude.{◌≡◌, ℕ, List, [], Ok, Err, Some}
 use Rattle.cert_format.specs.FirstFault.{first_fault}
 use Rattle.fabric_script.specs.declared.script.Script.{Script}
-use Rattle.fabric_script.specs.ScriptFaults.{IsFirstFault as IsFirstFaultOfScript, IsScript}
+use Rattle.fabric_script.specs.ScriptFaults.{IsFirstScriptFault, IsScript}
 use Rattle.flood_core.specs.declared.update.Update.{Update}
-use Rattle.flood_core.specs.UpdateOutcome.{IsFirstFault as IsFirstFaultOfUpdates}
+use Rattle.flood_core.specs.UpdateOutcome.{IsFirstUpdateFault}
 use Rattle.flood_core.specs.Updates.{AreUpdates}
 use Rattle.flood_script.specs.declared.script.FloodScript.{FloodScript}
-use Rattle.flood_script.specs.FloodScripts.{IsFirstFault as IsFirstFaultOfDeliveries, IsScript as IsFloodScript}
+use Rattle.flood_script.specs.FloodScripts.{IsFirstFloodFault, IsScript as IsFloodScript}
 use Rattle.lsdb.specs.Database.{IsDatabase}
 use Rattle.mrt_graph.specs.TextLines.{text_lines}
 use Rattle.mrt_graph.specs.declared.cert.CertFile.{CertFile}
-use Rattle.mrt_island.specs.ProfileFaults.{IsFirstFault}
+use Rattle.mrt_island.specs.ProfileFaults.{IsFirstProfileFault}
 use Rattle.mrt_island.specs.declared.setting.Setting.{Setting}
 use Rattle.ospf_lsa.specs.declared.lsa.Lsa.{Lsa}
 use Rattle.mrt_exit.specs.Steps.{Step, such, ◌▸◌}
@@ -30,7 +30,7 @@ database_of bytes (Err _) = ⊥
 -- the settings of a profile, or its first faulty line
 abbrev pub profile_of : List ℕ → Step (List Setting)
 profile_of bytes (Ok settings) = IsProfile bytes settings
-profile_of bytes (Err (BadProfile line kind)) = IsFirstFault (text_lines bytes) line kind
+profile_of bytes (Err (BadProfile line kind)) = IsFirstProfileFault (text_lines bytes) line kind
 profile_of bytes (Err _) = ⊥
 
 -- the file that a certificate's bytes spell, or their first fault
@@ -42,19 +42,19 @@ certificate_of bytes (Err _) = ⊥
 -- a script of events, or its first line that is not as it should be
 abbrev pub script_of : List ℕ → Step Script
 script_of bytes (Ok script) = IsScript (text_lines bytes) script
-script_of bytes (Err (BadScript line)) = IsFirstFaultOfScript (text_lines bytes) line
+script_of bytes (Err (BadScript line)) = IsFirstScriptFault (text_lines bytes) line
 script_of bytes (Err _) = ⊥
 
 -- Link State Update packets, or their first fault
 abbrev pub updates_of : List ℕ → Step (List Update)
 updates_of bytes (Ok updates) = AreUpdates 0 bytes updates []
-updates_of bytes (Err (BadUpdate at kind)) = IsFirstFaultOfUpdates bytes at kind
+updates_of bytes (Err (BadUpdate at kind)) = IsFirstUpdateFault bytes at kind
 updates_of bytes (Err _) = ⊥
 
 -- a script of deliveries, or its first line that is not as it should be
 abbrev pub deliveries_of : List ℕ → Step FloodScript
 deliveries_of bytes (Ok script) = IsFloodScript (text_lines bytes) script
-deliveries_of bytes (Err (BadScript line)) = IsFirstFaultOfDeliveries (text_lines bytes) line
+deliveries_of bytes (Err (BadScript line)) = IsFirstFloodFault (text_lines bytes) line
 deliveries_of bytes (Err _) = ⊥
 
 -- the bytes of the three files are packets, a profile and a script of deliveries

@@ -4,8 +4,8 @@ use Rattle.std.specs.Option.{option_and_then, option_map_or}
 use Rattle.mrt_graph.specs.declared.tree.TreeNode.{TreeNode}
 
 -- a node's number
-abbrev pub number_of : List TreeNode → ℕ → ℕ
-number_of tree v = option_map_or (λ node. node.number) (slice_get tree v) 0
+abbrev pub search_number : List TreeNode → ℕ → ℕ
+search_number tree v = option_map_or (λ node. node.number) (slice_get tree v) 0
 
 -- the link over which a node was found; the root has none
 abbrev pub parent_link : List TreeNode → ℕ → Option ℕ

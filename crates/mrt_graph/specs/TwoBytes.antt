@@ -3,8 +3,8 @@ use Rattle.std.specs.Prelude.{◌<◌, ℕ, List, [], ◌∷◌, slice_index_or}
 use Rattle.std.specs.Int.{w16, from_le_bytes, to_le_bytes}
 
 -- the number that two bytes are
-abbrev pub number_of : ℕ → ℕ → ℕ
-number_of low high = from_le_bytes w16 (low ∷ high ∷ [])
+abbrev pub two_byte_number : ℕ → ℕ → ℕ
+two_byte_number low high = from_le_bytes w16 (low ∷ high ∷ [])
 
 -- the byte of a number at a place
 abbrev pub byte_of : ℕ → ℕ → ℕ

@@ -52,18 +52,18 @@ impl Model for LinkNo {
     ghost use Rattle.std.specs.Prelude.{ℕ, [], ◌∷◌, slice_index_or};
     ghost use Rattle.std.proofs.Common.{ap, refl};
     ghost use Rattle.std.proofs.lemmas.Nat.{le_bytes_2};
-    ghost use Rattle.mrt_graph.specs.TwoBytes.{AreBytes, byte_of, number_of};
+    ghost use Rattle.mrt_graph.specs.TwoBytes.{AreBytes, byte_of, two_byte_number};
 
     ghost Value = { ℕ };
 
-    ghost view = { λ link. number_of link.low link.high };
+    ghost view = { λ link. two_byte_number link.low link.high };
 
     ghost inverse = { λ number. record { low = byte_of number 0; high = byte_of number 1 } };
 
     ghost invariant = { λ link. AreBytes (link.low ∷ link.high ∷ []) };
 
     ghost inverse_ok = { λ link kept. ap (λ bytes. record { low = slice_index_or bytes 0 0; high = slice_index_or bytes 1 0 })
-        (le_bytes_2 (link.low ∷ link.high ∷ []) (number_of link.low link.high) refl kept refl) };
+        (le_bytes_2 (link.low ∷ link.high ∷ []) (two_byte_number link.low link.high) refl kept refl) };
 }
 
 impl LinkNo {

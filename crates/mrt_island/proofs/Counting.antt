@@ -8,7 +8,7 @@ use Rattle.std.specs.declared.cmp.Ordering.TheVariants.{Less}
 use Rattle.std.proofs.lemmas.List.{take_all}
 use Rattle.std.proofs.lemmas.List.Sums.{sum_by-cons}
 use Rattle.mrt_graph.specs.Search.{IsMarked}
-use Rattle.mrt_island.specs.Numbering.{flagged, flags_set, number_of}
+use Rattle.mrt_island.specs.Numbering.{flagged, flags_set, number_inside}
 use Rattle.mrt_graph.proofs.Tallies.{one_if}
 use Rattle.mrt_island.proofs.Flagging.{set_within}
 
@@ -22,14 +22,14 @@ set_one flags = omega (arith, set_cons true flags)
 pub set_none : (flags : List Bool) → flags_set (false ∷ flags) ≡ flags_set flags
 set_none flags = omega (arith, set_cons false flags)
 
-pub number_one : (flags : List Bool) (s : ℕ) → number_of (true ∷ flags) (suc s) ≡ suc (number_of flags s)
+pub number_one : (flags : List Bool) (s : ℕ) → number_inside (true ∷ flags) (suc s) ≡ suc (number_inside flags s)
 number_one flags s = set_one (take s flags)
 
-pub number_none : (flags : List Bool) (s : ℕ) → number_of (false ∷ flags) (suc s) ≡ number_of flags s
+pub number_none : (flags : List Bool) (s : ℕ) → number_inside (false ∷ flags) (suc s) ≡ number_inside flags s
 number_none flags s = set_none (take s flags)
 
 -- numbers rise from a set flag on, and fall nowhere
-pub number_keeps : (flags : List Bool) (s t : ℕ) → s ≤ t → number_of flags s ≤ number_of flags t
+pub number_keeps : (flags : List Bool) (s t : ℕ) → s ≤ t → number_inside flags s ≤ number_inside flags t
 number_keeps [] zero t le = omega arith
 number_keeps [] (suc s) zero le = omega arith
 number_keeps [] (suc s) (suc t) le = omega arith
@@ -38,7 +38,7 @@ number_keeps (flag ∷ flags) (suc s) zero le = absurd (omega (arith, le))
 number_keeps (true ∷ flags) (suc s) (suc t) le = omega (arith, number_one flags s, number_one flags t, number_keeps flags s t (omega (arith, le)))
 number_keeps (false ∷ flags) (suc s) (suc t) le = omega (arith, number_none flags s, number_none flags t, number_keeps flags s t (omega (arith, le)))
 
-pub number_rises : (flags : List Bool) (s t : ℕ) → s < t → IsMarked flags s → number_of flags s < number_of flags t
+pub number_rises : (flags : List Bool) (s t : ℕ) → s < t → IsMarked flags s → number_inside flags s < number_inside flags t
 number_rises [] s t lt set = absurd cc
 number_rises (flag ∷ flags) s zero lt set = absurd (omega (arith, lt))
 number_rises (true ∷ flags) zero (suc t) lt set = omega (arith, number_one flags t)
@@ -47,16 +47,16 @@ number_rises (true ∷ flags) (suc s) (suc t) lt set = omega (arith, number_one 
 number_rises (false ∷ flags) (suc s) (suc t) lt set = omega (arith, number_none flags s, number_none flags t, number_rises flags s t (omega (arith, lt)) set)
 
 -- the number of a set flag is below the count of them all
-pub number_within : (flags : List Bool) (s : ℕ) → IsMarked flags s → number_of flags s < flags_set flags
+pub number_within : (flags : List Bool) (s : ℕ) → IsMarked flags s → number_inside flags s < flags_set flags
 number_within flags s set =
-    let all : number_of flags (length flags) ≡ flags_set flags = ap flags_set (take_all (length flags) flags (omega arith)) in
+    let all : number_inside flags (length flags) ≡ flags_set flags = ap flags_set (take_all (length flags) flags (omega arith)) in
     omega (arith, all, number_rises flags s (length flags) (set_within flags s set) set)
 
 -- a set flag that has this number
 pub record HasNumber (flags : List Bool) (number : ℕ) : Type 0 where
   pub place : ℕ
   pub set : IsMarked flags place
-  pub is : number_of flags place ≡ number
+  pub is : number_inside flags place ≡ number
 
 -- each number below the count is a set flag's
 pub numbered_at : (flags : List Bool) (number : ℕ) → number < flags_set flags → HasNumber flags number
@@ -70,7 +70,7 @@ numbered_at (false ∷ flags) number lt =
     record { place = suc later.place; set = later.set; is = number_none flags later.place ∙ later.is }
 
 -- the element of a set flag has its number among the flagged ones
-pub flagged_at : {X : Type 0} (flags : List Bool) (xs : List X) (s : ℕ) (x : X) → slice_get xs s ≡ Some x → IsMarked flags s → slice_get (flagged flags xs) (number_of flags s) ≡ Some x
+pub flagged_at : {X : Type 0} (flags : List Bool) (xs : List X) (s : ℕ) (x : X) → slice_get xs s ≡ Some x → IsMarked flags s → slice_get (flagged flags xs) (number_inside flags s) ≡ Some x
 flagged_at {X} [] xs s x there set = absurd cc
 flagged_at {X} (flag ∷ flags) [] s x there set = absurd cc
 flagged_at {X} (true ∷ flags) (y ∷ ys) zero x there set = there
@@ -83,7 +83,7 @@ pub record IsFrom {X : Type 0} (flags : List Bool) (xs : List X) (number : ℕ) 
   pub place : ℕ
   pub set : IsMarked flags place
   pub there : slice_get xs place ≡ Some x
-  pub is : number_of flags place ≡ number
+  pub is : number_inside flags place ≡ number
 
 pub flagged_from : {X : Type 0} (flags : List Bool) (xs : List X) (number : ℕ) (x : X) → slice_get (flagged flags xs) number ≡ Some x → IsFrom flags xs number x
 flagged_from {X} [] xs number x at = absurd cc

@@ -11,7 +11,7 @@ use Rattle.mrt_graph.specs.NodeIds.{router as router_node}
 use Rattle.area_graph.specs.Parts.{AreaParts}
 use Rattle.mrt_island.specs.Policy.{Policy}
 use Rattle.mrt_island.specs.Members.{IsInside}
-use Rattle.mrt_island.specs.Numbering.{flags_set, ids_of, links_of, number_of}
+use Rattle.mrt_island.specs.Numbering.{flags_set, ids_of, links_of, number_inside}
 use Rattle.mrt_island.specs.Rooting.{HasRouter}
 use Rattle.mrt_island.proofs.Counting.{ascend_flagged, flagged_at, length_flagged}
 use Rattle.mrt_island.proofs.Joined.{all_joined}
@@ -23,7 +23,7 @@ start_inside policy area router inside those = (those.those those.start).1 ([], 
 
 pub has_router : (policy : Policy) (area : AreaParts) (router : ℕ) (inside : List Bool) → IsInside policy area router inside → HasRouter (ids_of area inside)
 has_router policy area router inside those = record {
-  place = number_of inside those.start;
+  place = number_inside inside those.start;
   id = router_node router;
   there = flagged_at inside area.ids those.start (router_node router) those.there (start_inside policy area router inside those);
   router = refl;

@@ -18,7 +18,7 @@ use Rattle.area_graph.specs.declared.area_types.Bond.{Bond}
 use Rattle.mrt_island.specs.Policy.{Policy}
 use Rattle.mrt_island.specs.Eligible.{is_eligible}
 use Rattle.mrt_island.specs.Members.{IsInside, IsMember, Joins}
-use Rattle.mrt_island.specs.Numbering.{flags_set, is_inside, is_link, link_by, links_of, number_of}
+use Rattle.mrt_island.specs.Numbering.{flags_set, is_inside, is_link, link_by, links_of, number_inside}
 use Rattle.mrt_graph.proofs.Filters.{kept_at}
 use Rattle.mrt_graph.proofs.ListTests.{all_at}
 use Rattle.mrt_island.proofs.Counting.{HasNumber, number_rises, numbered_at}
@@ -53,13 +53,13 @@ member_onward policy area r s t first second = (first.0 ++ second.0, path_joined
 
 -- a link of the island leads where the pair does
 far_numbers : (inside : List Bool) (bond : Bond) (u v : ℕ) → bond.a < bond.b → IsMarked inside bond.a → ((bond.a ≡ u) × (bond.b ≡ v)) ⊎ ((bond.b ≡ u) × (bond.a ≡ v))
-    → far_node (number_of inside u) (pair_of (link_by inside bond)) ≡ Some (number_of inside v)
+    → far_node (number_inside inside u) (pair_of (link_by inside bond)) ≡ Some (number_inside inside v)
 far_numbers inside bond u v up set (inl out) =
-    far_to_b (number_of inside u) (number_of inside bond.a) (number_of inside bond.b) (number_of inside v) (ap (number_of inside) out.0) (ap (number_of inside) out.1)
+    far_to_b (number_inside inside u) (number_inside inside bond.a) (number_inside inside bond.b) (number_inside inside v) (ap (number_inside inside) out.0) (ap (number_inside inside) out.1)
 far_numbers inside bond u v up set (inr home) =
-    far_to_a (number_of inside u) (number_of inside bond.a) (number_of inside bond.b) (number_of inside v)
+    far_to_a (number_inside inside u) (number_inside inside bond.a) (number_inside inside bond.b) (number_inside inside v)
     (λ same. omega (arith, same, number_rises inside bond.a bond.b up set))
-    (ap (number_of inside) home.0) (ap (number_of inside) home.1)
+    (ap (number_inside inside) home.0) (ap (number_inside inside) home.1)
 
 both_marked : (inside : List Bool) (bond : Bond) (u v : ℕ) → IsMarked inside u → IsMarked inside v → ((bond.a ≡ u) × (bond.b ≡ v)) ⊎ ((bond.b ≡ u) × (bond.a ≡ v))
     → IsMarked inside bond.a × IsMarked inside bond.b
@@ -68,7 +68,7 @@ both_marked inside bond u v at_u at_v (inr home) = (subst (λ (s : ℕ). IsMarke
 
 -- an eligible pair between two nodes that are inside is a link
 link_for : (policy : Policy) (area : AreaParts) (inside : List Bool) (u v : ℕ) → IsArea area → Joins policy area u v → IsMarked inside u → IsMarked inside v
-    → (e : ℕ) × (leads (map pair_of (links_of policy area inside)) e (number_of inside u) ≡ Some (number_of inside v))
+    → (e : ℕ) × (leads (map pair_of (links_of policy area inside)) e (number_inside inside u) ≡ Some (number_inside inside v))
 link_for policy area inside u v kept joins at_u at_v =
     let way = far_cases u joins.bond.a joins.bond.b v joins.leads in
     let marked = both_marked inside joins.bond u v at_u at_v way in
@@ -81,17 +81,17 @@ link_for policy area inside u v kept joins at_u at_v =
     let there : slice_get (map pair_of (links_of policy area inside)) placed.0 ≡ Some (pair_of (link_by inside joins.bond)) =
     slice_get-map pair_of (links_of policy area inside) placed.0
     ∙ ap (option_map pair_of) (slice_get-map (link_by inside) (filter (is_link policy area.ids inside) area.bonds) placed.0 ∙ ap (option_map (link_by inside)) placed.1) in
-    (placed.0, ap (option_and_then (far_node (number_of inside u))) there ∙ far_numbers inside joins.bond u v up marked.0 way)
+    (placed.0, ap (option_and_then (far_node (number_inside inside u))) there ∙ far_numbers inside joins.bond u v up marked.0 way)
 
 -- a path in the area along eligible pairs is a walk in the island
 walk_along : (policy : Policy) (area : AreaParts) (router : ℕ) (inside : List Bool) (those : IsInside policy area router inside) → IsArea area → (path : List ℕ) (u v : ℕ)
-    → IsMember policy area those.start u → Path (Joins policy area) u path v → (walk : List ℕ) × Walk (map pair_of (links_of policy area inside)) (number_of inside u) walk (number_of inside v)
-walk_along policy area router inside those kept [] u v member p = ([], ap (number_of inside) p)
+    → IsMember policy area those.start u → Path (Joins policy area) u path v → (walk : List ℕ) × Walk (map pair_of (links_of policy area inside)) (number_inside inside u) walk (number_inside inside v)
+walk_along policy area router inside those kept [] u v member p = ([], ap (number_inside inside) p)
 walk_along policy area router inside those kept (w ∷ ws) u v member p =
     let next : IsMember policy area those.start w = reachable_onward (Joins policy area) those.start u w member p.0 in
     let link = link_for policy area inside u w kept p.0 ((those.those u).1 member) ((those.those w).1 next) in
     let later = walk_along policy area router inside those kept ws w v next p.1 in
-    (link.0 ∷ later.0, (number_of inside w, link.1, later.1))
+    (link.0 ∷ later.0, (number_inside inside w, link.1, later.1))
 
 pub all_joined : (policy : Policy) (area : AreaParts) (router : ℕ) (inside : List Bool) → IsInside policy area router inside → IsArea area
     → IsConnected (flags_set inside) (map pair_of (links_of policy area inside))
@@ -104,5 +104,5 @@ all_joined policy area router inside those kept = λ s t within also.
     let walk = walk_along policy area router inside those kept across.0 u.place v.place to_u across.1 in (
       walk.0,
       subst (λ (a : ℕ). Walk (map pair_of (links_of policy area inside)) a walk.0 t) u.is
-          (subst (λ (b : ℕ). Walk (map pair_of (links_of policy area inside)) (number_of inside u.place) walk.0 b) v.is walk.1),
+          (subst (λ (b : ℕ). Walk (map pair_of (links_of policy area inside)) (number_inside inside u.place) walk.0 b) v.is walk.1),
     )

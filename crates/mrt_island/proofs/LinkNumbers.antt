@@ -11,7 +11,7 @@ use Rattle.area_graph.specs.declared.area_types.Bond.{Bond}
 use Rattle.mrt_graph.proofs.ListTests.{there}
 use Rattle.mrt_graph.proofs.Tallies.{one_if}
 use Rattle.mrt_island.specs.Policy.{Policy}
-use Rattle.mrt_island.specs.Numbering.{AreFlagNumbers, AreLinkNumbers, is_link, number_at, number_of}
+use Rattle.mrt_island.specs.Numbering.{AreFlagNumbers, AreLinkNumbers, is_link, number_at, number_inside}
 use Rattle.mrt_island.proofs.Counting.{number_none, number_one, set_cons}
 
 -- of each flag the number of those that are set, from that number on; none where it is not set
@@ -31,7 +31,7 @@ length_numbers number (false ∷ flags) = omega (arith, length_numbers number fl
 
 -- the number at a place
 number_there : (number : ℕ) (flags : List Bool) (k : ℕ) → k < length flags
-    → slice_get (numbers_from number flags) k ≡ Some (cond (get_or flags k false) (Some (number + number_of flags k)) None)
+    → slice_get (numbers_from number flags) k ≡ Some (cond (get_or flags k false) (Some (number + number_inside flags k)) None)
 number_there number [] k within = absurd (omega (arith, within))
 number_there number (true ∷ flags) zero within = ap (λ (n : ℕ). Some (Some n)) (omega arith)
 number_there number (false ∷ flags) zero within = refl
@@ -58,7 +58,7 @@ are_numbers flags numbers are =
     ∙ sym (get_or_from_slice_get (numbers_from 0 flags) k (number_at flags k) d ((flag_numbers flags).each k inside)))
 
 -- how many before a place pass a test
-passed_before : (p : Bond → Bool) (bonds : List Bond) (k : ℕ) → number_of (map p bonds) k ≡ count_by p (take k bonds)
+passed_before : (p : Bond → Bool) (bonds : List Bond) (k : ℕ) → number_inside (map p bonds) k ≡ count_by p (take k bonds)
 passed_before p [] zero = refl
 passed_before p [] (suc k) = refl
 passed_before p (bond ∷ bonds) zero = refl
@@ -69,7 +69,7 @@ passed_before p (bond ∷ bonds) (suc k) =
 number_of_bond : (p : Bond → Bool) (bonds : List Bond) (k : ℕ) (bond : Bond) → slice_get bonds k ≡ Some bond
     → number_at (map p bonds) k ≡ cond (p bond) (Some (count_by p (take k bonds))) None
 number_of_bond p bonds k bond at =
-    ap (λ (b : Bool). cond b (Some (number_of (map p bonds) k)) None)
+    ap (λ (b : Bool). cond b (Some (number_inside (map p bonds) k)) None)
     (get_or_from_slice_get (map p bonds) k (p bond) false (slice_get-map p bonds k ∙ ap (option_map p) at))
     ∙ ap (λ (n : ℕ). cond (p bond) (Some n) None) (passed_before p bonds k)
 

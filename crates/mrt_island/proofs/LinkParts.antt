@@ -26,7 +26,7 @@ use Rattle.area_graph.specs.AreaInvariant.{IsBond, by_nodes_cmp}
 use Rattle.area_graph.specs.declared.area_types.Bond.{Bond}
 use Rattle.mrt_island.specs.Policy.{Policy}
 use Rattle.mrt_island.specs.Eligible.{is_eligible}
-use Rattle.mrt_island.specs.Numbering.{flagged, is_inside, is_link, link_by, number_of}
+use Rattle.mrt_island.specs.Numbering.{flagged, is_inside, is_link, link_by, number_inside}
 use Rattle.mrt_island.proofs.Counting.{flagged_at, length_flagged, number_keeps, number_rises, number_within}
 use Rattle.mrt_island.proofs.Pairing.{eligible_paired}
 
@@ -48,12 +48,12 @@ abbrev no_node : NodeId
 no_node = record { kind = kinds.Router; number = 0 }
 
 -- a node has its identifier in the island
-pub same_id : (ids : List NodeId) (inside : List Bool) (s : ℕ) → s < length ids → IsMarked inside s → slice_get (flagged inside ids) (number_of inside s) ≡ slice_get ids s
+pub same_id : (ids : List NodeId) (inside : List Bool) (s : ℕ) → s < length ids → IsMarked inside s → slice_get (flagged inside ids) (number_inside inside s) ≡ slice_get ids s
 same_id ids inside s within set =
     let there : slice_get ids s ≡ Some (get_or ids s no_node) = slice_get-get_or ids s no_node within in
     flagged_at inside ids s (get_or ids s no_node) there set ∙ sym there
 
-still_network : (ids : List NodeId) (inside : List Bool) (s : ℕ) → s < length ids → IsMarked inside s → IsNetwork (flagged inside ids) (number_of inside s) → IsNetwork ids s
+still_network : (ids : List NodeId) (inside : List Bool) (s : ℕ) → s < length ids → IsMarked inside s → IsNetwork (flagged inside ids) (number_inside inside s) → IsNetwork ids s
 still_network ids inside s within set network = ap (option_map (λ id. id.kind)) (sym (same_id ids inside s within set)) ∙ network
 
 -- a link of an island is a link between two of its nodes
@@ -133,12 +133,12 @@ still_not_before a b c d (inr tie) = ap (λ (o : Ordering). is_lt (ordering_then
 -- two pairs of nodes are in order by their numbers in the island, as they are by those in the area
 pairs_keep : (inside : List Bool) (x y : Bond) → IsMarked inside x.a → is_lt (by_nodes_cmp y x) ≡ false → is_lt (pair_cmp (pair_of (link_by inside y)) (pair_of (link_by inside x))) ≡ false
 pairs_keep inside x y set not_lt =
-    still_not_before (number_of inside y.a) (number_of inside y.b) (number_of inside x.a) (number_of inside x.b)
+    still_not_before (number_inside inside y.a) (number_inside inside y.b) (number_inside inside x.a) (number_inside inside x.b)
     (by_number (not_before y.a y.b x.a x.b not_lt))
   where
-    by_number : (x.a < y.a) ⊎ ((x.a ≡ y.a) × (x.b ≤ y.b)) → (number_of inside x.a < number_of inside y.a) ⊎ ((number_of inside x.a ≡ number_of inside y.a) × (number_of inside x.b ≤ number_of inside y.b))
+    by_number : (x.a < y.a) ⊎ ((x.a ≡ y.a) × (x.b ≤ y.b)) → (number_inside inside x.a < number_inside inside y.a) ⊎ ((number_inside inside x.a ≡ number_inside inside y.a) × (number_inside inside x.b ≤ number_inside inside y.b))
     by_number (inl below) = inl (number_rises inside x.a y.a below set)
-    by_number (inr tie) = inr (ap (number_of inside) tie.0, number_keeps inside x.b y.b tie.1)
+    by_number (inr tie) = inr (ap (number_inside inside) tie.0, number_keeps inside x.b y.b tie.1)
 
 -- the order of pairs is total
 by_nodes_total : IsTotalOrder by_nodes_cmp

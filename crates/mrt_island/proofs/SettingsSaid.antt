@@ -16,7 +16,7 @@ use Rattle.text_parts.proofs.LinesTaken.{take_next}
 use Rattle.text_parts.proofs.WholeLists.{Means}
 use Rattle.mrt_island.specs.declared.profile_error.ProfileKind.{ProfileKind}
 use Rattle.mrt_island.specs.declared.setting.Setting.{Setting}
-use Rattle.mrt_island.specs.ProfileFaults.{AreSettings, IsFirstFault, fault_at, fault_behind, fault_in, setting_of, settings_of}
+use Rattle.mrt_island.specs.ProfileFaults.{AreSettings, IsFirstProfileFault, fault_at, fault_behind, fault_in, setting_of, settings_of}
 use Rattle.mrt_island.specs.ProfileLines.{line_setting}
 use Rattle.mrt_island.specs.ProfileTaking.{profile_rule, with_setting}
 use Rattle.mrt_island.specs.Settings.{same_subject}
@@ -133,7 +133,7 @@ is_text lines settings are =
 
 -- a first fault
 is_first : (lines : List (List ℕ)) (number : ℕ) (kind : ProfileKind) → IsFirstFaultBy profile_rule lines number kind
-    → IsFirstFault lines number kind
+    → IsFirstProfileFault lines number kind
 is_first lines number kind (OfLine said one counted say there wrong) =
     let inside = slice_get_within lines (number - 1) one there in
     let right = right_first lines (number - 1) said (omega (arith, inside)) say in record {
@@ -149,7 +149,7 @@ is_first lines number kind (OfLine said one counted say there wrong) =
     is_fault (Some other) is = cc
 is_first lines number kind (OfEnd said counted say wrong) = absurd cc
 
-is_first_by : (lines : List (List ℕ)) (number : ℕ) (kind : ProfileKind) → IsFirstFault lines number kind
+is_first_by : (lines : List (List ℕ)) (number : ℕ) (kind : ProfileKind) → IsFirstProfileFault lines number kind
     → IsFirstFaultBy profile_rule lines number kind
 is_first_by lines number kind first = elim (cases_lt (number - 1) (length lines)) [
   | inl inside ↦
@@ -165,7 +165,7 @@ is_first_by lines number kind first = elim (cases_lt (number - 1) (length lines)
       absurd cc
 ]
 
-pub profile_means : Means profile_rule AreSettings (λ lines number kind. IsFirstFault lines number kind)
+pub profile_means : Means profile_rule AreSettings (λ lines number kind. IsFirstProfileFault lines number kind)
 profile_means = record {
   texts = λ lines settings. (are_settings lines settings, is_text lines settings);
   faults = λ lines number kind. (is_first lines number kind, is_first_by lines number kind);

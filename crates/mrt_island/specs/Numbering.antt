@@ -24,8 +24,8 @@ abbrev pub ids_of : AreaParts → List Bool → List NodeId
 ids_of area inside = flagged inside area.ids
 
 -- the number that node s of the area has in the island: how many nodes before it are inside
-abbrev pub number_of : List Bool → ℕ → ℕ
-number_of inside s = flags_set (take s inside)
+abbrev pub number_inside : List Bool → ℕ → ℕ
+number_inside inside s = flags_set (take s inside)
 
 -- whether node s is inside
 abbrev pub is_inside : List Bool → ℕ → Bool
@@ -38,8 +38,8 @@ is_link policy ids inside bond = is_eligible policy ids bond && (is_inside insid
 -- the link that a bond is, its nodes by their numbers in the island
 abbrev pub link_by : List Bool → Bond → LinkIn
 link_by inside bond = record {
-  a = number_of inside bond.a;
-  b = number_of inside bond.b;
+  a = number_inside inside bond.a;
+  b = number_inside inside bond.b;
   metric_a = bond.metric_a;
   metric_b = bond.metric_b;
   data_a = bond.data_a;
@@ -52,7 +52,7 @@ links_of policy area inside = map (link_by inside) (filter (is_link policy area.
 
 -- the number of the flag at a place, where it is set: how many of those before it are set
 abbrev pub number_at : List Bool → ℕ → Option ℕ
-number_at flags k = if slice_index_or flags k false then Some (number_of flags k) else None
+number_at flags k = if slice_index_or flags k false then Some (number_inside flags k) else None
 
 -- of each flag that number
 pub record AreFlagNumbers (flags : List Bool) (numbers : List (Option ℕ)) : Type 0 where

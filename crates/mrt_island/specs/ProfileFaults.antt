@@ -39,7 +39,7 @@ pub record AreSettings (lines : List (List ℕ)) (settings : List Setting) : Typ
   pub said : settings ≡ settings_of lines
 
 -- the line with this number, from 1, is the first one with a fault, and this is the first of its faults
-pub record IsFirstFault (lines : List (List ℕ)) (number : ℕ) (kind : ProfileKind) : Type 0 where
+pub record IsFirstProfileFault (lines : List (List ℕ)) (number : ℕ) (kind : ProfileKind) : Type 0 where
   pub counted : 0 < number
   pub fault : fault_at lines (number - 1) ≡ Some kind
   pub first : (place : ℕ) → place < number - 1 → fault_at lines place ≡ None

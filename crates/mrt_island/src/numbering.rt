@@ -2,7 +2,7 @@
 
 ghost use Rattle.std.specs.Prelude.{◌≡◌, ◌<◌, ◌≤◌, ℕ, IfOk, length, map, slice_index};
 ghost use Rattle.std.specs.List.{AllByRecursion};
-ghost use Rattle.mrt_island.specs.Numbering.{AreFlagNumbers, flagged, link_by, number_of};
+ghost use Rattle.mrt_island.specs.Numbering.{AreFlagNumbers, flagged, link_by, number_inside};
 
 use area_graph::{Area, Bond, Spot};
 use mrt_graph::{LinkIn, LinkNo, NoMemory, NodeId, NodeNo};
@@ -27,7 +27,7 @@ pub fn ids_inside(alloc: Global, area: &Area, inside: &[bool]) -> Result<Vec<Nod
 pub fn node_numbers(alloc: Global, inside: &[bool]) -> Result<Vec<NodeNo>, NoMemory>
     requires few { length inside.now ≤ 4096 }
     ensures count { IfOk result (λ numbers. length numbers.items ≡ length inside.now) }
-    ensures numbers { IfOk result (λ numbers. (s : ℕ) → s < length inside.now → slice_index numbers.items s ≡ number_of inside.now s) }
+    ensures numbers { IfOk result (λ numbers. (s : ℕ) → s < length inside.now → slice_index numbers.items s ≡ number_inside inside.now s) }
 {
     let mut numbers = Vec::with_capacity(alloc, inside.len())?;
     let mut number: u16 = 0;
@@ -66,7 +66,7 @@ fn link(inside: &[bool], numbers: &[NodeNo], bond: &Bond) -> LinkIn
     requires a { bond.now.a < length inside.now }
     requires b { bond.now.b < length inside.now }
     requires count { length numbers.now ≡ length inside.now }
-    requires numbers { (s : ℕ) → s < length inside.now → slice_index numbers.now s ≡ number_of inside.now s }
+    requires numbers { (s : ℕ) → s < length inside.now → slice_index numbers.now s ≡ number_inside inside.now s }
     ensures { result ≡ link_by inside.now bond.now }
 {
     LinkIn {

@@ -4,7 +4,7 @@ ghost use Rattle.std.specs.Prelude.{◌≡◌, ◌≤◌, ℕ, Ok, Err, IfOk, Li
 ghost use Rattle.std.specs.Result.{result_map_both};
 ghost use Rattle.mrt_graph.specs.TextLines.{text_lines};
 ghost use Rattle.mrt_island.specs.{declared.profile_error.ProfileKind.ProfileKind, declared.setting.Setting.Setting, ProfileTaking.error_of};
-ghost use Rattle.mrt_island.specs.ProfileFaults.{AreSettings, IsFirstFault, OrNoMemory};
+ghost use Rattle.mrt_island.specs.ProfileFaults.{AreSettings, IsFirstProfileFault, OrNoMemory};
 
 use crate::profile::Profile;
 use crate::profile_error::{ProfileError, ProfileKind};
@@ -36,8 +36,8 @@ pub fn read_profile(alloc: Global, bytes: &[u8]) -> Result<Profile, ProfileError
     // Where no line has a fault, it is read.
     ensures only { (settings : List Setting) → AreSettings (text_lines bytes.now) settings → OrNoMemory result (Ok settings) }
     // A fault is the first one, and the first one is told.
-    ensures fault { (line : ℕ) (kind : ProfileKind) → result ≡ Err (ProfileError.Fault line kind) → IsFirstFault (text_lines bytes.now) line kind }
-    ensures faulty { (line : ℕ) (kind : ProfileKind) → IsFirstFault (text_lines bytes.now) line kind → OrNoMemory result (Err (ProfileError.Fault line kind)) }
+    ensures fault { (line : ℕ) (kind : ProfileKind) → result ≡ Err (ProfileError.Fault line kind) → IsFirstProfileFault (text_lines bytes.now) line kind }
+    ensures faulty { (line : ℕ) (kind : ProfileKind) → IsFirstProfileFault (text_lines bytes.now) line kind → OrNoMemory result (Err (ProfileError.Fault line kind)) }
 {
     told(text_of(bytes, Profile::keyed(alloc, FileKey::of(bytes))))
 }

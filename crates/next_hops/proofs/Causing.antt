@@ -17,7 +17,7 @@ use Rattle.mrt_graph.specs.NodeIds.{router}
 use Rattle.mrt_graph.specs.Topology.{Topology}
 use Rattle.mrt_graph.proofs.ListPlaces.{contains_at}
 use Rattle.mrt_island.specs.IslandOf.{IsIsland}
-use Rattle.mrt_island.specs.Numbering.{number_of}
+use Rattle.mrt_island.specs.Numbering.{number_inside}
 use Rattle.mrt_island.specs.Policy.{Policy, policy_of}
 use Rattle.mrt_island.specs.Settings.{supports}
 use Rattle.mrt_island.specs.declared.island_error.IslandError.{IslandError}
@@ -29,7 +29,7 @@ use Rattle.next_hops.specs.Failures.{area_failure, island_failure, lsa_failure}
 use Rattle.next_hops.specs.NextHops.{HasIsland}
 use Rattle.next_hops.specs.declared.failure.Failure.{Failure}
 use Rattle.next_hops.specs.declared.failure.Failure.TheVariants as failures
-use Rattle.ospf_lsa.specs.Outcome.{IsFirstFault}
+use Rattle.ospf_lsa.specs.Outcome.{IsFirstLsaFault}
 use Rattle.ospf_lsa.specs.declared.error.LsaError.{LsaError}
 use Rattle.ospf_lsa.specs.declared.error.LsaError.TheVariants as lsa_errors
 use Rattle.ospf_lsa.specs.declared.error.LsaKind.{LsaKind}
@@ -42,7 +42,7 @@ failed (Ok t) failure P is so = tt
 failed (Err told) failure P is so = subst P (sym is) so
 
 pub lsa_cause : {T : Type 0} (bytes : List ℕ) (number other : ℕ) (error : LsaError)
-    → ((at : ℕ) (kind : LsaKind) → ◌≡◌ {A = Result T LsaError} (Err error) (Err (lsa_errors.Fault at kind)) → IsFirstFault bytes at kind)
+    → ((at : ℕ) (kind : LsaKind) → ◌≡◌ {A = Result T LsaError} (Err error) (Err (lsa_errors.Fault at kind)) → IsFirstLsaFault bytes at kind)
     → IsCause bytes number other (lsa_failure error)
 lsa_cause bytes number other (lsa_errors.Fault at kind) first = first at kind refl
 lsa_cause bytes number other lsa_errors.NoMemory first = tt
@@ -87,7 +87,7 @@ inside policy area number graph root link_of island =
     let start = island.those.start in
     rw island.made.same_ids (
       slice_get_within _ root island.rooted.id island.rooted.there,
-      contains_at _ (number_of island.inside start) (router number)
+      contains_at _ (number_inside island.inside start) (router number)
           (flagged_at island.inside area.ids start (router number) island.those.there ((island.those.those start).1 ([], refl))),
     )
 

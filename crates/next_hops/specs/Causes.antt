@@ -11,7 +11,7 @@ use Rattle.mrt_graph.specs.declared.node_id.NodeId.{NodeId}
 use Rattle.next_hops.specs.NextHops.{HasIsland}
 use Rattle.next_hops.specs.declared.failure.Failure.{Failure}
 use Rattle.next_hops.specs.declared.failure.Failure.TheVariants.{Lsa, Conflict, TooLarge, NoIsland, NotThere, NoMemory}
-use Rattle.ospf_lsa.specs.Outcome.{IsFirstFault}
+use Rattle.ospf_lsa.specs.Outcome.{IsFirstLsaFault}
 use Rattle.ospf_lsa.specs.declared.lsa.Lsa.{Lsa as Advertisement}
 
 -- the destination is none of these nodes, or there was no memory
@@ -24,7 +24,7 @@ IsMissed ids other failure = ⊥
 -- is too large; that the router is none of its nodes; that the destination is none of the nodes of the router's island. Under the
 -- defaults each router supports the profile
 abbrev pub IsCause : List ℕ → ℕ → ℕ → Failure → Type 0
-IsCause bytes number other (Lsa at kind) = IsFirstFault bytes at kind
+IsCause bytes number other (Lsa at kind) = IsFirstLsaFault bytes at kind
 IsCause bytes number other (Conflict conflict) =
     (those : List Advertisement) × HoldsLsas bytes those × IsFirstConflictOf (entering those) conflict
 IsCause bytes number other (TooLarge nodes arcs) =

@@ -10,7 +10,7 @@ use Rattle.ospf_lsa.specs.declared.error.LsaError.TheVariants.{Fault, NoMemory}
 use Rattle.ospf_lsa.specs.declared.lsa.Lsa.{Lsa}
 use Rattle.ospf_lsa.specs.LsaText.{lsa_length, lsa_text, lsas_text}
 use Rattle.ospf_lsa.specs.Lsas.{AreLsas, IsByte, IsLsa}
-use Rattle.ospf_lsa.specs.Outcome.{IsFirstFault}
+use Rattle.ospf_lsa.specs.Outcome.{IsFirstLsaFault}
 use Rattle.ospf_lsa.specs.Reading.{record_in, Answers}
 use Rattle.ospf_lsa.proofs.FirstFaultsTold.{told_is_first}
 use Rattle.mrt_graph.proofs.Bytes.{IsBytes, bytes_after}
@@ -64,7 +64,7 @@ all_read bytes read at past so_far =
 
 -- where the next record has this fault, it is the first one
 pub first_found : (bytes : List ℕ) (read : List Lsa) (at : ℕ) (kind : LsaKind) → IsBytes bytes → at < length bytes
-    → IsReadTo bytes read at → record_in at (drop at bytes) ≡ Err kind → IsFirstFault bytes at kind
+    → IsReadTo bytes read at → record_in at (drop at bytes) ≡ Err kind → IsFirstLsaFault bytes at kind
 first_found bytes read at kind are lt so_far fault = record {
   before = read;
   faultless = so_far.so;
@@ -76,7 +76,7 @@ first_found bytes read at kind are lt so_far fault = record {
 -- these bytes are LSAs, or have a first fault
 abbrev pub AreEither : List ℕ → Type 0
 AreEither bytes = ((lsas : List Lsa) × AreLsas 0 lsas × (bytes ≡ lsas_text lsas))
-    ⊎ ((at : ℕ) × (kind : LsaKind) × IsFirstFault bytes at kind)
+    ⊎ ((at : ℕ) × (kind : LsaKind) × IsFirstLsaFault bytes at kind)
 
 -- with so many steps
 either_from : (steps : ℕ) (bytes : List ℕ) (read : List Lsa) (at : ℕ) → IsBytes bytes → length bytes ≤ at + steps
@@ -107,18 +107,18 @@ either_of bytes all = either_from (length bytes) bytes [] 0 (bytes_of_all bytes 
 -- the fault that is told is the first one
 pub told_first : (bytes front : List ℕ) (read : List Lsa) (at : ℕ) (e : LsaError) → IsBytes bytes → at < length bytes
     → IsReadTo bytes read at → front ≡ drop at bytes → Answers at (record_in at front) (Err e)
-    → (place : ℕ) (kind : LsaKind) → e ≡ Fault place kind → IsFirstFault bytes place kind
+    → (place : ℕ) (kind : LsaKind) → e ≡ Fault place kind → IsFirstLsaFault bytes place kind
 told_first bytes front read at NoMemory are lt so_far is answer place kind e = absurd cc
 told_first bytes front read at (Fault there told) are lt so_far is answer place kind e =
     let first = first_found bytes read at told are lt so_far (ap (record_in at) (sym is) ∙ answer.1) in
     let same_place : there ≡ place = cc in
     let same_told : told ≡ kind = cc in
-    subst (λ (k : ℕ). IsFirstFault bytes k kind) (sym answer.0 ∙ same_place)
-    (subst (λ (t : LsaKind). IsFirstFault bytes at t) same_told first)
+    subst (λ (k : ℕ). IsFirstLsaFault bytes k kind) (sym answer.0 ∙ same_place)
+    (subst (λ (t : LsaKind). IsFirstLsaFault bytes at t) same_told first)
 
 -- where a first fault is told, the bytes are no LSAs
 pub none_read : (bytes : List ℕ) (e : LsaError)
-    → ((place : ℕ) (kind : LsaKind) → e ≡ Fault place kind → IsFirstFault bytes place kind)
+    → ((place : ℕ) (kind : LsaKind) → e ≡ Fault place kind → IsFirstLsaFault bytes place kind)
     → (all : List Lsa) → AreLsas 0 all → bytes ≡ lsas_text all → e ≡ NoMemory
 none_read bytes NoMemory told all so text = refl
 none_read bytes (Fault place kind) told all so text =
@@ -126,8 +126,8 @@ none_read bytes (Fault place kind) told all so text =
 
 -- the first fault is told, or there was no memory
 pub first_told : (bytes : List ℕ) (e : LsaError)
-    → ((place : ℕ) (kind : LsaKind) → e ≡ Fault place kind → IsFirstFault bytes place kind)
-    → (place : ℕ) (kind : LsaKind) → IsFirstFault bytes place kind → (e ≡ Fault place kind) ⊎ (e ≡ NoMemory)
+    → ((place : ℕ) (kind : LsaKind) → e ≡ Fault place kind → IsFirstLsaFault bytes place kind)
+    → (place : ℕ) (kind : LsaKind) → IsFirstLsaFault bytes place kind → (e ≡ Fault place kind) ⊎ (e ≡ NoMemory)
 first_told bytes NoMemory told place kind first = inr refl
 first_told bytes (Fault there found) told place kind first =
     let same = one_fault bytes there place found kind (told there found refl) first in

@@ -6,7 +6,7 @@ use Rattle.ospf_lsa.specs.declared.lsa.Lsa.{Lsa}
 use Rattle.ospf_lsa.specs.Faults.{HasFault, HasFirstFault}
 use Rattle.ospf_lsa.specs.LsaText.{lsa_length, lsa_text, lsas_text}
 use Rattle.ospf_lsa.specs.Lsas.{AreLsas, IsLsa}
-use Rattle.ospf_lsa.specs.Outcome.{IsFirstFault}
+use Rattle.ospf_lsa.specs.Outcome.{IsFirstLsaFault}
 use Rattle.ospf_lsa.specs.Reading.{record_in}
 use Rattle.ospf_lsa.proofs.FaultlessAtFront.{no_fault_at_front}
 use Rattle.ospf_lsa.proofs.KindsInOrder.{one_first_kind}
@@ -83,7 +83,7 @@ record IsStop (bytes : List ℕ) (at : ℕ) (before : List Lsa) : Type 0 where
   text : bytes ≡ lsas_text before ++ drop at bytes
   none : HasNoneAtFront (drop at bytes)
 
-stop_of : (bytes : List ℕ) (at : ℕ) (kind : LsaKind) → (first : IsFirstFault bytes at kind)
+stop_of : (bytes : List ℕ) (at : ℕ) (kind : LsaKind) → (first : IsFirstLsaFault bytes at kind)
     → IsStop bytes at first.before
 stop_of bytes at kind first = record {
   placed = ap length (sym first.spelled) ∙ omega (arith, length-take at bytes, first.more);
@@ -101,15 +101,15 @@ one_list bytes lsas others are text are' text' =
     (whole lsas bytes text ∙ sym (whole others bytes text'))).same
 
 pub never_both : (bytes : List ℕ) (lsas : List Lsa) (at : ℕ) (kind : LsaKind) → AreLsas 0 lsas
-    → bytes ≡ lsas_text lsas → IsFirstFault bytes at kind → ⊥
+    → bytes ≡ lsas_text lsas → IsFirstLsaFault bytes at kind → ⊥
 never_both bytes lsas at kind are text first =
     let stop = stop_of bytes at kind first in
     let same = one_list_at 0 lsas first.before [] (drop at bytes) are first.faultless none_in_nothing stop.none
     (whole lsas bytes text ∙ stop.text) in
     omega (arith, ap length same.later, length-drop at bytes, first.more)
 
-pub one_fault : (bytes : List ℕ) (at place : ℕ) (kind other : LsaKind) → IsFirstFault bytes at kind
-    → IsFirstFault bytes place other → (at ≡ place) × (kind ≡ other)
+pub one_fault : (bytes : List ℕ) (at place : ℕ) (kind other : LsaKind) → IsFirstLsaFault bytes at kind
+    → IsFirstLsaFault bytes place other → (at ≡ place) × (kind ≡ other)
 one_fault bytes at place kind other first second =
     let stop = stop_of bytes at kind first in
     let stop' = stop_of bytes place other second in

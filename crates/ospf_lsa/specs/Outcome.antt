@@ -21,7 +21,7 @@ IsRefusal error (Ok answer) = ⊥
 IsRefusal error (Err told) = (told ≡ error) ⊎ (told ≡ NoMemory)
 
 -- the first record with a fault begins at this place, after LSAs without one, and this is the first of its faults
-pub record IsFirstFault (bytes : List ℕ) (at : ℕ) (kind : LsaKind) : Type 0 where
+pub record IsFirstLsaFault (bytes : List ℕ) (at : ℕ) (kind : LsaKind) : Type 0 where
   pub before : List Lsa
   pub faultless : AreLsas 0 before
   pub spelled : take at bytes ≡ lsas_text before

@@ -2,7 +2,7 @@
 
 ghost use Rattle.std.specs.Prelude.{◌≡◌, ◌≤◌, ℕ, List, IfOk, Err, length};
 ghost use Rattle.ospf_lsa.specs.{declared.lsa.Lsa.Lsa, LsaText.lsas_text, Lsas.AreLsas};
-ghost use Rattle.ospf_lsa.specs.Outcome.{AreAnswer, IsFirstFault, IsRefusal};
+ghost use Rattle.ospf_lsa.specs.Outcome.{AreAnswer, IsFirstLsaFault, IsRefusal};
 
 use crate::error::{LsaError, LsaKind};
 use crate::field::after;
@@ -33,9 +33,9 @@ pub fn read_lsas(alloc: Global, bytes: &[u8]) -> Result<Vec<Lsa>, LsaError>
 
     // A fault is the first one, and the first one is told.
     ensures fault { (at : ℕ) (kind : LsaKind)
-        → result ≡ Err (LsaError.Fault at kind) → IsFirstFault bytes.now at kind }
+        → result ≡ Err (LsaError.Fault at kind) → IsFirstLsaFault bytes.now at kind }
     ensures faulty { (at : ℕ) (kind : LsaKind)
-        → IsFirstFault bytes.now at kind → IsRefusal (LsaError.Fault at kind) result }
+        → IsFirstLsaFault bytes.now at kind → IsRefusal (LsaError.Fault at kind) result }
 {
     let mut lsas = Vec::new(alloc);
     let mut at = 0;

@@ -1,6 +1,6 @@
 use Rattle.std.proofs.Common.{◌≡◌, ◌<◌, ◌∙◌, ℕ, List, Some, length, refl, sym, ap, subst, arith}
 use Rattle.std.proofs.lemmas.Bool.{eqb-true, eqb-false}
-use Rattle.mrt_graph.specs.TreeWords.{number_of}
+use Rattle.mrt_graph.specs.TreeWords.{search_number}
 use Rattle.mrt_graph.specs.declared.tree.TreeNode.{TreeNode}
 use Rattle.std.proofs.lemmas.Option.{same_Some}
 use Rattle.lowpoint_dfs.specs.Subtree.{parent_of}
@@ -85,4 +85,4 @@ returns-clause-left c =
     ap (λ (nodes : List TreeNode). parent_of c.args.g.now nodes c.args.here) (sym c.deref-2.ensures.value) ∙ c.parent.ensures in
     let same : has.parent ≡ c.parent.result = same_Some has.parent c.parent.result (sym has.is ∙ onward) in
     back_less c.args.nodes.now.items c.parent.result c.args.here
-    (subst (λ (p : ℕ). number_of c.args.nodes.now.items p < number_of c.args.nodes.now.items c.args.here) same has.lower)
+    (subst (λ (p : ℕ). search_number c.args.nodes.now.items p < search_number c.args.nodes.now.items c.args.here) same has.lower)

@@ -2,7 +2,7 @@ use Rattle.std.proofs.Common.{◌≡◌, ℕ, List, Err, ap, inl, inr, refl}
 use Rattle.mrt_exit.specs.Faults.{flood_script_exit}
 use Rattle.mrt_exit.specs.Steps.{IsAnswer}
 use Rattle.mrt_graph.specs.TextLines.{text_lines}
-use Rattle.flood_script.specs.FloodScripts.{IsFirstFault}
+use Rattle.flood_script.specs.FloodScripts.{IsFirstFloodFault}
 use Rattle.flood_script.specs.declared.error.FloodScriptError.{FloodScriptError}
 use Rattle.flood_script.specs.declared.error.FloodScriptError.TheVariants as errors
 use Rattle.mrt_answer.specs.Reading.{deliveries_of}
@@ -10,7 +10,7 @@ use Rattle.mrt_exit.proofs.Stepping.{told_on}
 use Rattle.mrt_answer.proofs.flood.script_of.Goals as goal
 
 -- the error of the reader says what is wrong with the bytes
-told : (bytes : List ℕ) (error : FloodScriptError) → ((line : ℕ) → error ≡ errors.Fault line → IsFirstFault (text_lines bytes) line)
+told : (bytes : List ℕ) (error : FloodScriptError) → ((line : ℕ) → error ≡ errors.Fault line → IsFirstFloodFault (text_lines bytes) line)
     → IsAnswer (deliveries_of bytes) (Err (flood_script_exit error))
 told bytes (errors.Fault line) first = inl (first line refl)
 told bytes errors.NoMemory first = inr refl

@@ -2,7 +2,7 @@ use Rattle.std.proofs.Common.{◌≡◌, ℕ, List, Err, ap, inl, inr, refl}
 use Rattle.mrt_exit.specs.Faults.{script_exit}
 use Rattle.mrt_exit.specs.Steps.{IsAnswer}
 use Rattle.mrt_graph.specs.TextLines.{text_lines}
-use Rattle.fabric_script.specs.ScriptFaults.{IsFirstFault}
+use Rattle.fabric_script.specs.ScriptFaults.{IsFirstScriptFault}
 use Rattle.fabric_script.specs.declared.script_error.ScriptError.{ScriptError}
 use Rattle.fabric_script.specs.declared.script_error.ScriptError.TheVariants as errors
 use Rattle.mrt_answer.specs.Reading.{script_of}
@@ -10,7 +10,7 @@ use Rattle.mrt_exit.proofs.Stepping.{told_on}
 use Rattle.mrt_answer.proofs.input.script_of.Goals as goal
 
 -- the error of the reader says what is wrong with the bytes
-told : (bytes : List ℕ) (error : ScriptError) → ((line : ℕ) → error ≡ errors.Fault line → IsFirstFault (text_lines bytes) line)
+told : (bytes : List ℕ) (error : ScriptError) → ((line : ℕ) → error ≡ errors.Fault line → IsFirstScriptFault (text_lines bytes) line)
     → IsAnswer (script_of bytes) (Err (script_exit error))
 told bytes (errors.Fault line) first = inl (first line refl)
 told bytes errors.NoMemory first = inr refl

@@ -2,15 +2,15 @@ use Rattle.std.proofs.Common.{◌≡◌, ◌+◌, ◌<◌, ◌++◌, ◌∙◌, 
 use Rattle.std.proofs.lemmas.List.{get_or_append_left, get_or_push}
 use Rattle.std.proofs.lemmas.List.Sums.{count_by_more_no, count_by_more_yes}
 use borrow.Author.Count.{below_more}
-use Rattle.mrt_island.specs.Numbering.{number_of}
+use Rattle.mrt_island.specs.Numbering.{number_inside}
 use Rattle.mrt_island.proofs.numbering.node_numbers.Goals as goal
 use Rattle.mrt_island.proofs.numbering.node_numbers.Goals.{then-flag, else-flag}
 
 -- a number more
-one_more : (inside : List Bool) (k number : ℕ) (before after : List ℕ) → length before ≡ k → after ≡ before ++ number ∷ [] → number ≡ number_of inside k
-    → ((s : ℕ) → s < k → get_or before s 0 ≡ number_of inside s) → (s : ℕ) → s < k + 1 → get_or after s 0 ≡ number_of inside s
+one_more : (inside : List Bool) (k number : ℕ) (before after : List ℕ) → length before ≡ k → after ≡ before ++ number ∷ [] → number ≡ number_inside inside k
+    → ((s : ℕ) → s < k → get_or before s 0 ≡ number_inside inside s) → (s : ℕ) → s < k + 1 → get_or after s 0 ≡ number_inside inside s
 one_more inside k number before after long grown is so_far =
-    below_more (λ (s : ℕ). get_or after s 0 ≡ number_of inside s) k
+    below_more (λ (s : ℕ). get_or after s 0 ≡ number_inside inside s) k
     (λ s early. ap (λ (xs : List ℕ). get_or xs s 0) grown ∙ get_or_append_left before (number ∷ []) 0 s (omega (arith, long, early)) ∙ so_far s early)
     (ap (λ (xs : List ℕ). get_or xs k 0) grown ∙ get_or_push before number 0 k long ∙ is)
 
