@@ -13,9 +13,10 @@ use Rattle.mrt_graph.specs.declared.cert.Tag.TheVariants.{Sole, Head, Top, Below
 use Rattle.mrt_graph.specs.Accepted.{Accepted}
 use Rattle.mrt_graph.specs.FirstFault.{FirstFault}
 use Rattle.mrt_graph.specs.Places.{IsFirstPair}
-use Rattle.mrt_graph.specs.Rules.{Rule, GraphRule, OrderRule, HeadRule, LinkRule, LoneRule, ClosedRule, TagRule, BlockRule, rule_number, told}
+use Rattle.mrt_graph.specs.Rules.{Rule, GraphRule, OrderRule, HeadRule, LinkRule, LoneRule, ClosedRule, TagRule, BlockRule, rule_number, FailsAt, Holds}
 use Rattle.mrt_graph.specs.Tags.{tag_number}
 use Rattle.mrt_graph.specs.Topology.{Topology}
+use Rattle.mrt_graph.proofs.RowsByTag.{by_tag, first_two}
 use Rattle.mrt_graph.proofs.RuleFaults.{HoldBefore}
 
 few_tags : (tag : Tag) → tag_number tag ≤ 6
@@ -32,7 +33,7 @@ module _ (g : Topology) (root : ℕ) (file : CertFile) where
   pub all_hold : HoldBefore g root file 7
       → ((rule : Rule) (a b : ℕ) → Before file.cert (length file.cert.nodes) a b → row_test g root file.cert rule a b ≡ true)
       → Accepted g root file
-  all_hold before held (TagRule T) = λ a b first second. held (TagRule T) a b (first, second)
+  all_hold before held (TagRule T) = λ a b first second. by_tag g.links file.cert root T a b (held (TagRule T) a b (first, second))
   all_hold before held BlockRule = block_rule_holds g root file.cert (record {
     same_graph = before GraphRule (omega arith);
     heads = before HeadRule (omega arith);
@@ -67,8 +68,8 @@ module _ (g : Topology) (root : ℕ) (file : CertFile) where
       }
 
       fails : (rule : Rule) → IsFirstPair (row_test g root file.cert rule) (length file.cert.nodes) fault.a fault.b
-          → (told g root file rule).FailsAt fault.a fault.b
-      fails (TagRule T) here = here
+          → FailsAt g root file rule fault.a fault.b
+      fails (TagRule T) here = first_two g.links file.cert root T (length file.cert.nodes) fault.a fault.b here
       fails _ here = absurd (true≢false here.fails)
 
       -- it is one of those on tags
@@ -77,8 +78,8 @@ module _ (g : Topology) (root : ℕ) (file : CertFile) where
       of_tag (TagRule T) here = omega (arith, few_tags T)
       of_tag _ here = absurd (true≢false here.fails)
 
-      earlier : (other : Rule) → rule_number other < fault.rule → (told g root file other).Holds
-      earlier (TagRule T) less = λ a b first second. known.earlier (TagRule T) less a b (first, second)
+      earlier : (other : Rule) → rule_number other < fault.rule → Holds g root file other
+      earlier (TagRule T) less = λ a b first second. by_tag g.links file.cert root T a b (known.earlier (TagRule T) less a b (first, second))
       earlier BlockRule less = absurd (omega (arith, less, known.numbered, of_tag known.rule here))
       earlier GraphRule less = before GraphRule (omega arith)
       earlier OrderRule less = before OrderRule (omega arith)

@@ -23,6 +23,7 @@ use Rattle.mrt_graph.specs.Topology.{Topology}
 use Rattle.mrt_graph.proofs.Blocks.{Words, Common, Peers, ToHead, FromHead, Related, InOne, Under, Over}
 use Rattle.mrt_graph.proofs.Bridge.{color_leads}
 use Rattle.mrt_graph.proofs.ListTests.{Passing, some_passes}
+use Rattle.mrt_graph.proofs.RowsByTag.{passes}
 use Rattle.mrt_graph.proofs.RowFacts.{Says, NearRow, SameHops, Rows}
 use Rattle.mrt_graph.proofs.RowTests.{hop_to, told}
 use Rattle.mrt_graph.proofs.TestFacts.{unless, tag_is, tag_itself, found_by, unrelated_apart, common_block}
@@ -82,7 +83,7 @@ module _ (g : Topology) (root : ℕ) (file : CertFile) (accepted : Accepted g ro
       -- the row keeps what its tag asks
       pub row_keeps : row_rule row.tag g.links file.cert root s t row ≡ true
       row_keeps =
-          let asked = unless (s == t) _ (accepted (TagRule row.tag) s t s_within t_within) (ne_eqb s t differ) in
+          let asked = unless (s == t) _ (passes g.links file.cert root row.tag s t (accepted (TagRule row.tag) s t s_within t_within)) (ne_eqb s t differ) in
           let holds =
           subst (λ (o : Option Row). option_map_or
           (λ (r : Row). not (same_tag r.tag row.tag) || row_rule row.tag g.links file.cert root s t r) o false ≡ true)

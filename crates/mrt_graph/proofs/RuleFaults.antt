@@ -1,37 +1,54 @@
 -- Each rule holds or fails at one place, and so a file is accepted or has one first fault.
-use Rattle.std.proofs.Common.{◌≡◌, ◌<◌, ◌≤◌, ◌⊎◌, ◌+◌, ◌∙◌, inl, inr, ℕ, Bool, length, refl, sym, ap, subst, arith}
+use Rattle.std.proofs.Common.{◌≡◌, ◌<◌, ◌≤◌, ◌⊎◌, ◌+◌, ◌∙◌, inl, inr, ℕ, Bool, List, length, refl, sym, ap, subst, arith}
 use Rattle.std.proofs.lemmas.Bool.{both_ways, cases_Bool, cases_eq, cases_order, eq-eqb}
 use Rattle.mrt_graph.specs.declared.cert.CertFile.{CertFile}
 use Rattle.mrt_graph.specs.declared.cert.Tag.{Tag}
+use Rattle.mrt_graph.specs.declared.link.Link.{Link}
 use Rattle.mrt_graph.specs.declared.cert.Tag.TheVariants.{Sole, Head, Top, Below, Above, Unordered, Carried}
 use Rattle.mrt_graph.specs.Accepted.{Accepted}
 use Rattle.mrt_graph.specs.Certificate.{Certificate}
 use Rattle.mrt_graph.specs.FirstFault.{FirstFault}
-use Rattle.mrt_graph.specs.HeadsAndBlocks.{HeadHoldsAt, HeadFails, Alone, Beside, HeadsHold, HeadFault, placed, one_head}
+use Rattle.mrt_graph.specs.HeadsAndBlocks.{HeadHoldsAt, HeadFails, Alone, Beside, HeadsHold, HeadFault, closed_block, link_placed, lone_block, placed, one_head}
+use Rattle.mrt_graph.specs.Places.{Each, EachPair, EachTwo, IsFirst, IsFirstPair, IsFirstTwo}
 use Rattle.mrt_graph.specs.RootAndOrders.{RootAndOrders, OrderFault, AtRoot, EqualOrders, root_stands, orders_differ}
-use Rattle.mrt_graph.specs.Rules.{Rule, GraphRule, OrderRule, HeadRule, LinkRule, LoneRule, ClosedRule, TagRule, BlockRule, Told, rule_number, told, told_of_each, told_of_pairs}
+use Rattle.mrt_graph.specs.RowRules.{rows_in_block, rows_tagged}
+use Rattle.mrt_graph.specs.RowsByTag.{KeepsTag}
+use Rattle.mrt_graph.specs.Rules.{Rule, GraphRule, OrderRule, HeadRule, LinkRule, LoneRule, ClosedRule, TagRule, BlockRule, FailsAt, Holds, rule_number}
 use Rattle.mrt_graph.specs.SameGraph.{SameCounts, SameGraph, GraphFault, OtherCounts, OtherNode, OtherLink, same_node, same_link}
 use Rattle.mrt_graph.specs.Tags.{tag_number}
 use Rattle.mrt_graph.specs.Topology.{Topology}
 use Rattle.mrt_graph.proofs.FirstPlaces.{each_first, each_or_first, each_or_pair, first_of, one_first, one_pair, pairs_first}
+use Rattle.mrt_graph.proofs.RowsByTag.{by_tag, first_pair, first_two}
 use Rattle.mrt_graph.proofs.TestFacts.{tag_is}
 
 -- what is known of each rule: it holds or fails, never both, and fails at one place
-pub record IsTold (rule : Told) : Type 0 where
-  pub either : rule.Holds ⊎ ((a : ℕ) × ((b : ℕ) × rule.FailsAt a b))
-  pub never_both : (a b : ℕ) → rule.Holds → rule.FailsAt a b → ⊥
-  pub one_place : (a b x y : ℕ) → rule.FailsAt a b → rule.FailsAt x y → (a ≡ x) × (b ≡ y)
+pub record IsTold (Held : Type 0) (Fails : ℕ → ℕ → Type 0) : Type 0 where
+  pub either : Held ⊎ ((a : ℕ) × ((b : ℕ) × Fails a b))
+  pub never_both : (a b : ℕ) → Held → Fails a b → ⊥
+  pub one_place : (a b x y : ℕ) → Fails a b → Fails x y → (a ≡ x) × (b ≡ y)
 
-each_told : (test : ℕ → Bool) (n : ℕ) → IsTold (told_of_each test n)
+each_told : (test : ℕ → Bool) (n : ℕ) → IsTold (Each test n) (λ a b. IsFirst test n a × (b ≡ 0))
 each_told test n = record {
   either = elim (each_first test n) [ inl each ↦ inl each | inr found ↦ inr (found.0, (0, (found.1, refl))) ];
   never_both = λ a b each first. each_or_first test n a each first.0;
   one_place = λ a b x y first other. (one_first test n a x first.0 other.0, first.1 ∙ sym other.1);
 }
 
-pairs_told : (test : ℕ → ℕ → Bool) (n : ℕ) → IsTold (told_of_pairs test n)
+pairs_told : (test : ℕ → ℕ → Bool) (n : ℕ) → IsTold (EachPair test n) (IsFirstPair test n)
 pairs_told test n =
     record { either = pairs_first test n; never_both = each_or_pair test n; one_place = one_pair test n }
+
+tag_told : (links : List Link) (c : Certificate) (root : ℕ) (tag : Tag) (n : ℕ)
+    → IsTold (EachTwo (KeepsTag tag links c root) n) (IsFirstTwo (KeepsTag tag links c root) n)
+tag_told links c root tag n = record {
+  either = elim (pairs_first (rows_tagged tag links c root) n) [
+    | inl each ↦ inl (λ a b first second. by_tag links c root tag a b (each a b first second))
+    | inr found ↦ inr (found.0, (found.1.0, first_two links c root tag n found.0 found.1.0 found.1.1))
+  ];
+  never_both = λ a b each first. first.fails (each a b first.first_within first.second_within);
+  one_place = λ a b x y first other.
+      one_pair (rows_tagged tag links c root) n a b x y (first_pair links c root tag n a b first) (first_pair links c root tag n x y other);
+}
 
 -- ---- the first rule
 
@@ -147,7 +164,7 @@ heads_one c root a b x y fault other = elim (cases_order a x) [
 
 -- ---- all rules
 
-pub rule_told : (g : Topology) (root : ℕ) (file : CertFile) (rule : Rule) → IsTold (told g root file rule)
+pub rule_told : (g : Topology) (root : ℕ) (file : CertFile) (rule : Rule) → IsTold (Holds g root file rule) (FailsAt g root file rule)
 rule_told g root file GraphRule =
     record {
       either = graph_either g file.cert;
@@ -166,11 +183,11 @@ rule_told g root file HeadRule =
       never_both = heads_never file.cert root;
       one_place = heads_one file.cert root;
     }
-rule_told g root file LinkRule = each_told _ _
-rule_told g root file LoneRule = each_told _ _
-rule_told g root file ClosedRule = each_told _ _
-rule_told g root file (TagRule tag) = pairs_told _ _
-rule_told g root file BlockRule = pairs_told _ _
+rule_told g root file LinkRule = each_told (link_placed file.cert) (length file.cert.links)
+rule_told g root file LoneRule = each_told (lone_block file.cert root) (length file.cert.nodes)
+rule_told g root file ClosedRule = each_told (closed_block file.cert root) (length file.cert.nodes)
+rule_told g root file (TagRule tag) = tag_told g.links file.cert root tag (length file.cert.nodes)
+rule_told g root file BlockRule = pairs_told (rows_in_block file.cert) (length file.cert.nodes)
 
 tag_few : (T : Tag) → tag_number T < 7
 tag_few Sole = omega arith
@@ -207,17 +224,17 @@ to_fourteen _ = omega arith
 
 -- all rules before that number hold
 abbrev pub HoldBefore : Topology → ℕ → CertFile → ℕ → Type 0
-HoldBefore g root file number = (rule : Rule) → rule_number rule < number → (told g root file rule).Holds
+HoldBefore g root file number = (rule : Rule) → rule_number rule < number → Holds g root file rule
 
 module _ (g : Topology) (root : ℕ) (file : CertFile) where
   pub hold_none : HoldBefore g root file 1
   hold_none = λ rule less. absurd (omega (arith, less, from_one rule))
 
   -- and one rule more
-  pub hold_more : (rule : Rule) → HoldBefore g root file (rule_number rule) → (told g root file rule).Holds
+  pub hold_more : (rule : Rule) → HoldBefore g root file (rule_number rule) → Holds g root file rule
       → HoldBefore g root file (rule_number rule + 1)
   hold_more rule before holds = λ other less. elim (cases_eq (rule_number other) (rule_number rule)) [
-    | inl same ↦ subst (λ r. (told g root file r).Holds) (one_rule rule other (sym same)) holds
+    | inl same ↦ subst (λ r. Holds g root file r) (one_rule rule other (sym same)) holds
     | inr apart ↦ before other (omega (arith, less, apart))
   ]
 
@@ -269,7 +286,7 @@ module _ (g : Topology) (root : ℕ) (file : CertFile) where
     | inl same ↦
         let one = one_rule other.rule fault.rule (other.numbered ∙ sym same ∙ sym fault.numbered) in
         let place = (rule_told g root file fault.rule).one_place a b x y fault.fails
-        (subst (λ r. (told g root file r).FailsAt x y) one other.fails) in
+        (subst (λ r. FailsAt g root file r x y) one other.fails) in
         (same, place.0, place.1)
     | inr (inl less) ↦ absurd (not_earlier rule a b number x y fault other less)
     | inr (inr less) ↦ absurd (not_earlier number x y rule a b other fault less)

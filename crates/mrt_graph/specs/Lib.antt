@@ -40,6 +40,7 @@ pub mod RootAndOrders
 pub mod RowPlace
 pub mod RowRules
 pub mod Rows
+pub mod RowsByTag
 pub mod Rules
 pub mod SameGraph
 pub mod Search

@@ -1,11 +1,12 @@
 -- The fourteen rules, each by its number: when it holds, and where it fails.
-use Rattle.std.specs.Prelude.{◌≡◌, ◌+◌, ℕ, Bool, length}
+use Rattle.std.specs.Prelude.{◌≡◌, ◌+◌, ℕ, length}
 use Rattle.mrt_graph.specs.declared.cert.CertFile.{CertFile}
 use Rattle.mrt_graph.specs.declared.cert.Tag.{Tag}
 use Rattle.mrt_graph.specs.HeadsAndBlocks.{HeadsHold, HeadFault, link_placed, lone_block, closed_block}
-use Rattle.mrt_graph.specs.Places.{Each, IsFirst, EachPair, IsFirstPair}
+use Rattle.mrt_graph.specs.Places.{Each, IsFirst, EachPair, EachTwo, IsFirstPair, IsFirstTwo}
 use Rattle.mrt_graph.specs.RootAndOrders.{RootAndOrders, OrderFault}
-use Rattle.mrt_graph.specs.RowRules.{rows_tagged, rows_in_block}
+use Rattle.mrt_graph.specs.RowRules.{rows_in_block}
+use Rattle.mrt_graph.specs.RowsByTag.{KeepsTag}
 use Rattle.mrt_graph.specs.SameGraph.{SameGraph, GraphFault}
 use Rattle.mrt_graph.specs.Tags.{tag_number}
 use Rattle.mrt_graph.specs.Topology.{Topology}
@@ -33,26 +34,25 @@ rule_number ClosedRule = 6
 rule_number (TagRule tag) = 7 + tag_number tag
 rule_number BlockRule = 14
 
--- what a rule asks, and the place where it fails
-pub record Told : Type 1 where
-  pub Holds : Type 0
-  pub FailsAt : ℕ → ℕ → Type 0
+-- when each rule holds, of a file, for a graph and its root
+abbrev pub Holds : Topology → ℕ → CertFile → Rule → Type 0
+Holds g root file GraphRule = SameGraph g file.cert
+Holds g root file OrderRule = RootAndOrders g root file
+Holds g root file HeadRule = HeadsHold file.cert root
+Holds g root file LinkRule = Each (link_placed file.cert) (length file.cert.links)
+Holds g root file LoneRule = Each (lone_block file.cert root) (length file.cert.nodes)
+Holds g root file ClosedRule = Each (closed_block file.cert root) (length file.cert.nodes)
+Holds g root file (TagRule tag) = EachTwo (KeepsTag tag g.links file.cert root) (length file.cert.nodes)
+Holds g root file BlockRule = EachPair (rows_in_block file.cert) (length file.cert.nodes)
 
--- a test at each number below n: it fails at the least one, and 0
-abbrev pub told_of_each : (ℕ → Bool) → ℕ → Told
-told_of_each test n = record { Holds = Each test n; FailsAt = λ a b. IsFirst test n a × (b ≡ 0) }
-
--- a test at each two numbers below n: it fails at the least first one, and the least second one beside it
-abbrev pub told_of_pairs : (ℕ → ℕ → Bool) → ℕ → Told
-told_of_pairs test n = record { Holds = EachPair test n; FailsAt = IsFirstPair test n }
-
--- the rules of a file, for a graph and its root
-abbrev pub told : Topology → ℕ → CertFile → Rule → Told
-told g root file GraphRule = record { Holds = SameGraph g file.cert; FailsAt = GraphFault g file.cert }
-told g root file OrderRule = record { Holds = RootAndOrders g root file; FailsAt = OrderFault g root file }
-told g root file HeadRule = record { Holds = HeadsHold file.cert root; FailsAt = HeadFault file.cert root }
-told g root file LinkRule = told_of_each (link_placed file.cert) (length file.cert.links)
-told g root file LoneRule = told_of_each (lone_block file.cert root) (length file.cert.nodes)
-told g root file ClosedRule = told_of_each (closed_block file.cert root) (length file.cert.nodes)
-told g root file (TagRule tag) = told_of_pairs (rows_tagged tag g.links file.cert root) (length file.cert.nodes)
-told g root file BlockRule = told_of_pairs (rows_in_block file.cert) (length file.cert.nodes)
+-- where each fails: a rule on each of some numbers at the least one, and 0; a rule on each two of them at the least first one, and the
+-- least second one beside it
+abbrev pub FailsAt : Topology → ℕ → CertFile → Rule → ℕ → ℕ → Type 0
+FailsAt g root file GraphRule a b = GraphFault g file.cert a b
+FailsAt g root file OrderRule a b = OrderFault g root file a b
+FailsAt g root file HeadRule a b = HeadFault file.cert root a b
+FailsAt g root file LinkRule a b = IsFirst (link_placed file.cert) (length file.cert.links) a × (b ≡ 0)
+FailsAt g root file LoneRule a b = IsFirst (lone_block file.cert root) (length file.cert.nodes) a × (b ≡ 0)
+FailsAt g root file ClosedRule a b = IsFirst (closed_block file.cert root) (length file.cert.nodes) a × (b ≡ 0)
+FailsAt g root file (TagRule tag) a b = IsFirstTwo (KeepsTag tag g.links file.cert root) (length file.cert.nodes) a b
+FailsAt g root file BlockRule a b = IsFirstPair (rows_in_block file.cert) (length file.cert.nodes) a b

@@ -13,9 +13,10 @@ use Rattle.mrt_graph.specs.GraphInvariant.{IsTopology}
 use Rattle.mrt_graph.specs.Leads.{leads}
 use Rattle.mrt_graph.specs.Places.{EachPair}
 use Rattle.mrt_graph.specs.RowRules.{lies_in_block, near_row, row_rule, rows_in_block, rows_tagged}
-use Rattle.mrt_graph.specs.Rules.{Rule, told, BlockRule, ClosedRule, GraphRule, HeadRule, LinkRule, LoneRule, OrderRule, TagRule}
+use Rattle.mrt_graph.specs.Rules.{Rule, Holds, BlockRule, ClosedRule, GraphRule, HeadRule, LinkRule, LoneRule, OrderRule, TagRule}
 use Rattle.mrt_graph.specs.Tags.{same_tag}
 use Rattle.mrt_graph.specs.Topology.{Topology}
+use Rattle.mrt_graph.proofs.RowsByTag.{by_tag}
 use Rattle.mrt_graph.proofs.TestFacts.{tag_is, tag_itself}
 use Rattle.link_direction.specs.Directions.{Directions}
 use Rattle.link_direction.specs.OrderedGadag.{IsOrderedGadag}
@@ -78,14 +79,14 @@ module _ (og : OrderedGraph) (file : CertFile) (tells : Tells og.g og.root og.w 
         | inr far ↦ or_left _ _ (ap (λ (x : Tag). same_tag x tags.Carried) far.0 ∙ tag_itself tags.Carried)
       ])
 
-  rules_hold : (rule : Rule) → (told og.g og.root file rule).Holds
+  rules_hold : (rule : Rule) → Holds og.g og.root file rule
   rules_hold GraphRule = same_graph og file tells
   rules_hold OrderRule = ordered og file tells
   rules_hold HeadRule = heads_hold og file tells
   rules_hold LinkRule = links_placed og file tells
   rules_hold LoneRule = lone_blocks og file tells
   rules_hold ClosedRule = closed_blocks og file tells
-  rules_hold (TagRule tag) = tag_rule tag
+  rules_hold (TagRule tag) = λ s t first second. by_tag og.g.links c og.root tag s t (tag_rule tag s t first second)
   rules_hold BlockRule = block_rule
 
 pub accepted : (g : Topology) (root : ℕ) (w : Directions) (file : CertFile) → IsTopology g → IsOrderedGadag g root w

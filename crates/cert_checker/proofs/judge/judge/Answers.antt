@@ -1,32 +1,32 @@
 use Rattle.std.proofs.Common.{ℕ, refl}
 use Rattle.cert_checker.proofs.Verdicts.{all_hold, row_fails}
 use Rattle.mrt_graph.specs.declared.cert.CertFile.{CertFile}
-use Rattle.mrt_graph.specs.Rules.{GraphRule, OrderRule, HeadRule, LinkRule, LoneRule, ClosedRule, told}
+use Rattle.mrt_graph.specs.Rules.{GraphRule, OrderRule, HeadRule, LinkRule, LoneRule, ClosedRule, Holds}
 use Rattle.mrt_graph.specs.Topology.{Topology}
 use Rattle.mrt_graph.proofs.RuleFaults.{HoldBefore, hold_none, hold_more}
 use Rattle.cert_checker.proofs.judge.judge.Goals as goal
 
-module _ (g : Topology) (root : ℕ) (file : CertFile) (graph : (told g root file GraphRule).Holds) where
+module _ (g : Topology) (root : ℕ) (file : CertFile) (graph : Holds g root file GraphRule) where
   one : HoldBefore g root file 2
   one = hold_more g root file GraphRule (hold_none g root file) graph
 
-  module _ (orders : (told g root file OrderRule).Holds) where
+  module _ (orders : Holds g root file OrderRule) where
     two : HoldBefore g root file 3
     two = hold_more g root file OrderRule one orders
 
-    module _ (heads : (told g root file HeadRule).Holds) where
+    module _ (heads : Holds g root file HeadRule) where
       three : HoldBefore g root file 4
       three = hold_more g root file HeadRule two heads
 
-      module _ (links : (told g root file LinkRule).Holds) where
+      module _ (links : Holds g root file LinkRule) where
         four : HoldBefore g root file 5
         four = hold_more g root file LinkRule three links
 
-        module _ (lone : (told g root file LoneRule).Holds) where
+        module _ (lone : Holds g root file LoneRule) where
           five : HoldBefore g root file 6
           five = hold_more g root file LoneRule four lone
 
-          six : (told g root file ClosedRule).Holds → HoldBefore g root file 7
+          six : Holds g root file ClosedRule → HoldBefore g root file 7
           six closed = hold_more g root file ClosedRule five closed
 
 pub returns-in-Some : goal.returns-in-Some
