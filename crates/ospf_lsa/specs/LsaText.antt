@@ -13,12 +13,15 @@ link_text link =
     to_be_bytes w32 link.id ++ (to_be_bytes w32 link.link_data ++ (to_be_bytes w8 link.kind
     ++ (to_be_bytes w8 link.entries ++ to_be_bytes w16 link.metric)))
 
--- the links of a router-LSA and their TOS entries: after each link as many entries as it says, taken from the front of
--- the list; the links after it have those that are left
+-- each link of a router-LSA with its TOS entries: as many as it says, taken from the front of the list; the links after it have those
+-- that are left
+abbrev pub with_entries : List RouterLink → List ℕ → List (RouterLink × List ℕ)
+with_entries [] tos = []
+with_entries (link ∷ links) tos = (link, take link.entries tos) ∷ with_entries links (drop link.entries tos)
+
+-- each link and its TOS entries, one after another
 abbrev pub links_text : List RouterLink → List ℕ → List ℕ
-links_text [] tos = []
-links_text (link ∷ links) tos =
-    link_text link ++ (flat_map (to_be_bytes w32) (take link.entries tos) ++ links_text links (drop link.entries tos))
+links_text links tos = flat_map (λ (each : RouterLink × List ℕ). link_text each.0 ++ flat_map (to_be_bytes w32) each.1) (with_entries links tos)
 
 -- of a router its flags, the spare byte, the number of its links, and these with their TOS entries; of a network its
 -- mask and its routers
