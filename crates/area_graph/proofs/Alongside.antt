@@ -132,7 +132,7 @@ module _ {A B : Type 0} (R : A → B → Type 0) where
   zip_find p q same (x ∷ xs) [] zip = absurd zip
   zip_find p q same (x ∷ xs) (y ∷ ys) zip = find_by p q x y xs ys (p x) (q y) (same x y zip.0) zip.0 (zip_find p q same xs ys zip.1)
 
-  zip_place : (p : A → Bool) (q : B → Bool) → ((a : A) (b : B) → R a b → p a ≡ q b) → (xs : List A) (ys : List B) → AllZip R xs ys
+  pub zip_place : (p : A → Bool) (q : B → Bool) → ((a : A) (b : B) → R a b → p a ≡ q b) → (xs : List A) (ys : List B) → AllZip R xs ys
       → position_or_len p xs ≡ position_or_len q ys
   zip_place p q same [] [] zip = refl
   zip_place p q same [] (y ∷ ys) zip = absurd zip

@@ -8,7 +8,7 @@ use Rattle.std.specs.Option.{is_none, is_some, option_map_or, unwrap_or}
 use Rattle.std.specs.Ordering.{is_lt, nat_cmp, ordering_then, ordering_reverse}
 use Rattle.std.specs.declared.cmp.Ordering.{Ordering}
 use Rattle.std.specs.declared.cmp.Ordering.TheVariants.{Less, Equal, Greater}
-use Rattle.std.proofs.lemmas.Bool.{and_parts, cases_order, eqb-true, or_cases}
+use Rattle.std.proofs.lemmas.Bool.{and_parts, cases_order, or_cases}
 use Rattle.std.proofs.lemmas.Bool.Decides.{eqb_tells, nat_tests}
 use Rattle.std.proofs.lemmas.Cmp.{tied_itself}
 use Rattle.std.proofs.lemmas.Map.Keys.{Less-from_sorted}
@@ -23,13 +23,13 @@ use Rattle.mrt_graph.proofs.NodeIds.{node_id_total}
 use Rattle.area_graph.specs.declared.entry.NumberedEntry.{NumberedEntry}
 use Rattle.area_graph.specs.AreaOf.{arc_from, area_with, bond_by, bond_from, place_among}
 use Rattle.area_graph.specs.Arcs.{answers, arc_cmp, arcs_among, is_arc, pairing_cmp, parallel_cmp}
-use Rattle.area_graph.specs.Bonds.{are_partners, bond_of, bonds, is_of, pairs, partner, same_direction, same_entry, singles, tells_pair, turn_of}
+use Rattle.area_graph.specs.Bonds.{are_partners, bond_of, bonds, is_of, pairs, parallels, partner, same_entry, singles, tells_pair, turn_of}
 use Rattle.area_graph.specs.Entries.{Entry}
 use Rattle.mrt_graph.specs.NodeIds.{number_of}
 use Rattle.area_graph.specs.NumberedArcs.{answers as n_answers, arc_cmp as n_arc_cmp, arcs_among as n_arcs_among, is_arc as n_is_arc, pairing_cmp as n_pairing_cmp}
 use Rattle.area_graph.specs.NumberedArea.{arcs_of, bond_by as n_bond_by, bond_from as n_bond_from, bonds_of, numbered}
 use Rattle.area_graph.specs.NumberedBonds.{are_partners as n_are_partners, bond_of as n_bond_of, bonds as n_bonds, is_of as n_is_of, is_single, pairs as n_pairs, partner as n_partner, same_entry as n_same_entry, same_way, singles as n_singles, tells_pair as n_tells_pair, turn_of as n_turn_of}
-use Rattle.area_graph.proofs.Alongside.{AreBoth, length_zip, zip_any, zip_append, zip_filter, zip_find, zip_in_order, zip_map, zip_position}
+use Rattle.area_graph.proofs.Alongside.{AreBoth, length_zip, zip_any, zip_append, zip_filter, zip_find, zip_in_order, zip_map, zip_place, zip_position}
 use Rattle.mrt_graph.proofs.IdPlaces.{number_found, number_within}
 use Rattle.mrt_graph.proofs.SameIds.{not_one_node, one_node, same_itself}
 
@@ -130,7 +130,8 @@ module _ (ids : List NodeId) (ascend : IsStrictlySortedBy node_id_cmp ids) where
       and_alike (same_id back.from entry.to) (same_id back.to entry.from) (m.tail == n.far) (m.far == n.tail)
       (same_numbers back.from entry.to m.tail n.far s.from r.to) (same_numbers back.to entry.from m.far n.tail s.to r.from)
 
-  direction_alike : (arc other : Entry) (n m : NumberedEntry) → R arc n → R other m → same_direction arc other ≡ same_way n m
+  direction_alike : (arc other : Entry) (n m : NumberedEntry) → R arc n → R other m
+      → (same_id other.from arc.from && same_id other.to arc.to) ≡ same_way n m
   direction_alike arc other n m r s =
       and_alike (same_id other.from arc.from) (same_id other.to arc.to) (m.tail == n.tail) (m.far == n.far)
       (same_numbers other.from arc.from m.tail n.tail s.from r.from) (same_numbers other.to arc.to m.far n.far s.to r.to)
@@ -213,28 +214,10 @@ module _ (ids : List NodeId) (ascend : IsStrictlySortedBy node_id_cmp ids) where
   -- ---- partners
 
   module _ (arcs : List Entry) (nums : List NumberedEntry) (zip : AllZip R arcs nums) where
-    before_by : (b : Bool) (arc other : Entry) (n m : NumberedEntry) → R arc n → R other m → same_way n m ≡ b
-        → (b && is_lt (parallel_cmp other arc)) ≡ (b && is_lt (n_pairing_cmp m n))
-    before_by true arc other n m r s is =
-        let parts = and_parts (m.tail == n.tail) (m.far == n.far) is in
-        let tails : nat_cmp m.tail n.tail ≡ Equal = sym (nat_cmp_is m.tail n.tail Equal (eqb-true m.tail n.tail parts.0)) in
-        let fars : nat_cmp m.far n.far ≡ Equal = sym (nat_cmp_is m.far n.far Equal (eqb-true m.far n.far parts.1)) in
-        let read : n_pairing_cmp m n ≡ ordering_then (nat_cmp m.link_data n.link_data) (nat_cmp m.place n.place) =
-        ap (λ o. ordering_then (ordering_then (ordering_then o (nat_cmp m.far n.far)) (nat_cmp m.link_data n.link_data)) (nat_cmp m.place n.place)) tails
-        ∙ ap (λ o. ordering_then (ordering_then o (nat_cmp m.link_data n.link_data)) (nat_cmp m.place n.place)) fars in
-        ap is_lt (parallel_alike other arc m n s r ∙ sym read)
-    before_by false arc other n m r s is = refl
-
-    before_alike : (arc other : Entry) (n m : NumberedEntry) → R arc n → R other m
-        → (same_direction arc other && is_lt (parallel_cmp other arc)) ≡ (same_way n m && is_lt (n_pairing_cmp m n))
-    before_alike arc other n m r s =
-        ap (λ b. b && is_lt (parallel_cmp other arc)) (direction_alike arc other n m r s) ∙ before_by (same_way n m) arc other n m r s refl
-
     turn_alike : (arc : Entry) (n : NumberedEntry) → R arc n → turn_of arcs arc ≡ n_turn_of nums n
     turn_alike arc n r =
-        length_zip R (filter (λ other. same_direction arc other && is_lt (parallel_cmp other arc)) arcs) (filter (λ m. same_way n m && is_lt (n_pairing_cmp m n)) nums)
-        (zip_filter R (λ other. same_direction arc other && is_lt (parallel_cmp other arc)) (λ m. same_way n m && is_lt (n_pairing_cmp m n))
-        (λ other m s. before_alike arc other n m r s) arcs nums zip)
+        zip_place R (same_entry arc) (n_same_entry n) (λ one m s. entry_alike arc one n m r s) (parallels arcs arc.from arc.to) (filter (same_way n) nums)
+        (zip_filter R (λ other. same_id other.from arc.from && same_id other.to arc.to) (same_way n) (λ other m s. direction_alike arc other n m r s) arcs nums zip)
 
     partners_alike : (arc back : Entry) (n m : NumberedEntry) → R arc n → R back m → are_partners arcs arc back ≡ n_are_partners nums n m
     partners_alike arc back n m r s =

@@ -1,17 +1,13 @@
 -- Arcs of one way have different turns, an arc has one partner at most, and a partner's partner is the arc itself.
-use Rattle.std.proofs.Common.{◌≡◌, ◌∙◌, ◌<◌, ◌&&◌, ◌==◌, Bool, true, false, List, Some, refl, sym, ap, arith}
-use Rattle.std.specs.declared.cmp.Ordering.{Ordering}
-use Rattle.std.specs.declared.cmp.Ordering.TheVariants.{Less, Equal, Greater}
-use Rattle.std.specs.Cmp.{IsTotalOrder}
-use Rattle.std.specs.Ordering.{is_lt, ordering_reverse}
-use Rattle.std.proofs.lemmas.Bool.{and_parts, and_from, eq-eqb, eqb-true, false_from_ne_true}
-use Rattle.mrt_graph.proofs.InOrder.{not_before_itself}
-use Rattle.mrt_graph.proofs.Members.{Has, find_has, find_only}
-use Rattle.mrt_graph.proofs.Tallies.{length_is_tally, tally, tally_fewer}
+use Rattle.std.proofs.Common.{◌≡◌, ◌∙◌, ◌&&◌, ◌==◌, ℕ, Bool, true, List, [], ◌∷◌, Some, slice_get, inl, inr, refl, sym, ap, subst}
+use Rattle.std.specs.List.{filter, position_or_len}
+use Rattle.std.proofs.lemmas.Bool.{and_parts, and_from, both_ways, cases_Bool, eq-eqb, eqb-true}
+use Rattle.std.proofs.lemmas.Option.{same_Some}
+use Rattle.mrt_graph.proofs.Members.{Has, filter_has, find_has, find_only, has_at, has_filter}
 use Rattle.area_graph.specs.declared.entry.NumberedEntry.{NumberedEntry as Entry}
-use Rattle.area_graph.specs.NumberedArcs.{answers, pairing_cmp}
-use Rattle.area_graph.specs.NumberedBonds.{same_way, turn_of, are_partners, partner}
-use Rattle.area_graph.proofs.Apart.{Once, one_member, pairing_tie, pairing_total}
+use Rattle.area_graph.specs.NumberedArcs.{answers}
+use Rattle.area_graph.specs.NumberedBonds.{same_entry, same_way, turn_of, are_partners, partner}
+use Rattle.area_graph.proofs.Apart.{Once, one_member, same_itself}
 
 -- arcs of one way
 pub record OneWay (arc other : Entry) : Type 0 where
@@ -26,46 +22,51 @@ one_way arc other same =
 pub from_one_way : (arc other : Entry) → OneWay arc other → same_way arc other ≡ true
 from_one_way arc other one = and_from (other.tail == arc.tail) (other.far == arc.far) (eq-eqb other.tail arc.tail one.tail) (eq-eqb other.far arc.far one.far)
 
-less_from_lt : (o : Ordering) → is_lt o ≡ true → o ≡ Less
-less_from_lt Less lt = refl
-less_from_lt Equal lt = absurd cc
-less_from_lt Greater lt = absurd cc
+-- where something passes, the first that does
+record FirstOf {X : Type 0} (p : X → Bool) (xs : List X) : Type 0 where
+  item : X
+  at : slice_get xs (position_or_len p xs) ≡ Some item
+  passes : p item ≡ true
 
-chain_lt : {X : Type 0} (cmp : X → X → Ordering) → IsTotalOrder cmp → (x y z : X) → is_lt (cmp x y) ≡ true → is_lt (cmp y z) ≡ true → is_lt (cmp x z) ≡ true
-chain_lt cmp total x y z first second = ap is_lt (total.trans x y z (less_from_lt (cmp x y) first) (less_from_lt (cmp y z) second))
+first_that_passes : {X : Type 0} (p : X → Bool) (xs : List X) (x : X) → Has xs x → p x ≡ true → FirstOf p xs
+first_that_passes p [] x has is = absurd has
+first_that_passes p (y ∷ ys) x has is = elim (cases_Bool (p y)) [
+  | inl here ↦ record { item = y; at = rw here refl; passes = here }
+  | inr fails ↦ elim has [
+    | inl same ↦ absurd (both_ways (p y) fails (subst (λ z. p z ≡ true) (sym same) is))
+    | inr later ↦
+        let rest = first_that_passes p ys x later is in
+        record { item = rest.item; at = rw fails rest.at; passes = rest.passes }
+  ]
+]
 
--- the earlier of two arcs of one way has the lower turn
-lower_turn : (arcs : List Entry) (x y : Entry) → Has arcs x → OneWay x y → is_lt (pairing_cmp x y) ≡ true → turn_of arcs x < turn_of arcs y
-lower_turn arcs x y has way before =
-    let back : same_way y x ≡ true = from_one_way y x (record { tail = sym way.tail; far = sym way.far }) in
-    let test : Entry → Entry → Bool = λ arc other. same_way arc other && is_lt (pairing_cmp other arc) in
-    let more : (z : Entry) → Has arcs z → test x z ≡ true → test y z ≡ true = λ z at passes.
-    let parts = and_parts (same_way x z) (is_lt (pairing_cmp z x)) passes in
-    let first = one_way x z parts.0 in
-    and_from (same_way y z) (is_lt (pairing_cmp z y)) (from_one_way y z (record { tail = first.tail ∙ sym way.tail; far = first.far ∙ sym way.far }))
-    (chain_lt pairing_cmp pairing_total z x y parts.1 before) in
-    let not_itself : test x x ≡ false = false_from_ne_true (test x x) (λ passes.
-    let parts = and_parts (same_way x x) (is_lt (pairing_cmp x x)) passes in
-    let never = not_before_itself pairing_cmp pairing_total x in absurd cc) in
-    let itself : test y x ≡ true = and_from (same_way y x) (is_lt (pairing_cmp x y)) back before in
-    let fewer : tally (test x) arcs < tally (test y) arcs = tally_fewer (test x) (test y) arcs x more has not_itself itself in
-    let at_x : turn_of arcs x ≡ tally (test x) arcs = length_is_tally (test x) arcs in
-    let at_y : turn_of arcs y ≡ tally (test y) arcs = length_is_tally (test y) arcs in
-    omega (arith, fewer, at_x, at_y)
+-- arcs of one way have the same arcs of their way
+same_ways : (arcs : List Entry) (x y : Entry) → OneWay x y → filter (same_way x) arcs ≡ filter (same_way y) arcs
+same_ways arcs x y way =
+    ap (λ (tail : ℕ). filter (λ (other : Entry). (other.tail == tail) && (other.far == x.far)) arcs) (sym way.tail)
+    ∙ ap (λ (far : ℕ). filter (λ (other : Entry). (other.tail == y.tail) && (other.far == far)) arcs) (sym way.far)
 
-by_order : (arcs : List Entry) (x y : Entry) (o : Ordering) → pairing_cmp x y ≡ o → Once arcs → Has arcs x → Has arcs y → OneWay x y
-    → turn_of arcs x ≡ turn_of arcs y → x ≡ y
-by_order arcs x y Less is once has_x has_y way same = absurd (omega (arith, same, lower_turn arcs x y has_x way (ap is_lt is)))
-by_order arcs x y Equal is once has_x has_y way same =
-    one_member arcs x y once has_x has_y (pairing_tie x y is)
-by_order arcs x y Greater is once has_x has_y way same =
-    let back : pairing_cmp y x ≡ Less = pairing_total.antisymm y x ∙ ap ordering_reverse is in
-    let other : OneWay y x = record { tail = sym way.tail; far = sym way.far } in
-    absurd (omega (arith, same, lower_turn arcs y x has_y other (ap is_lt back)))
+-- an arc is what stands at its turn among those of its way
+module _ (arcs : List Entry) (x : Entry) (once : Once arcs) (has : Has arcs x) where
+  at_turn : FirstOf (same_entry x) (filter (same_way x) arcs)
+  at_turn =
+      first_that_passes (same_entry x) (filter (same_way x) arcs) x
+      (filter_has (same_way x) arcs x has (from_one_way x x (record { tail = refl; far = refl }))) (same_itself x)
+
+  is_at_turn : x ≡ at_turn.item
+  is_at_turn =
+      one_member arcs x at_turn.item once has
+      (has_filter (same_way x) arcs at_turn.item (has_at (filter (same_way x) arcs) (turn_of arcs x) at_turn.item at_turn.at)).0 at_turn.passes
 
 -- two arcs of one way and one turn are one
 pub one_turn : (arcs : List Entry) (x y : Entry) → Once arcs → Has arcs x → Has arcs y → OneWay x y → turn_of arcs x ≡ turn_of arcs y → x ≡ y
-one_turn arcs x y once has_x has_y way same = by_order arcs x y (pairing_cmp x y) refl once has_x has_y way same
+one_turn arcs x y once has_x has_y way same =
+    let here = at_turn arcs x once has_x in
+    let there = at_turn arcs y once has_y in
+    let item : here.item ≡ there.item =
+    same_Some here.item there.item (sym here.at ∙ ap (slice_get (filter (same_way x) arcs)) same
+    ∙ ap (λ (list : List Entry). slice_get list (turn_of arcs y)) (same_ways arcs x y way) ∙ there.at) in
+    is_at_turn arcs x once has_x ∙ item ∙ sym (is_at_turn arcs y once has_y)
 
 -- back is an arc of the way back, and of the same turn
 pub record IsPartner (arcs : List Entry) (arc back : Entry) : Type 0 where

@@ -1,33 +1,29 @@
 -- The turn of an arc is how far it stands after the first of its way, and so does its partner.
-use Rattle.std.proofs.Common.{◌≡◌, ◌∙◌, ◌≤◌, ◌<◌, ◌+◌, ◌-◌, ◌&&◌, zero, suc, ℕ, Bool, true, false, List, [], ◌∷◌, Option, Some, None, length, get_or, refl, sym, ap, inl, inr, arith}
-use Rattle.std.specs.List.{count_by}
-use Rattle.std.proofs.lemmas.Bool.{and_from, and_left, and_right, cases_lt, false_from_ne_true, true_from_ne_false, both_ways}
-use Rattle.std.proofs.lemmas.List.{get_or_default}
+use Rattle.std.proofs.Common.{◌≡◌, ◌∙◌, ◌≤◌, ◌<◌, ◌+◌, ◌-◌, zero, suc, ℕ, Bool, true, false, List, [], ◌∷◌, Option, Some, None, length, get_or, get_or-take, take, refl, sym, ap, inl, inr, arith}
+use Rattle.std.specs.List.{count_by, filter, position_or_len}
+use Rattle.std.proofs.lemmas.Bool.{both_ways, cases_Bool, cases_lt, false_from_ne_true}
+use Rattle.std.proofs.lemmas.List.{get_or_default, length-take-le}
 use Rattle.std.proofs.lemmas.List.Elements.{Contains-get_or}
-use Rattle.std.proofs.lemmas.List.Sorted.{sorted_far}
 use Rattle.std.proofs.lemmas.List.Sums.{sum_by-cons, length-filter}
-use Rattle.mrt_graph.proofs.InOrder.{is_before, before_ranks, tied}
 use Rattle.mrt_graph.proofs.Members.{contains_from_has, has_from_contains}
 use Rattle.mrt_graph.proofs.Tallies.{one_if}
 use Rattle.area_graph.specs.declared.entry.NumberedEntry.{NumberedEntry as Entry}
-use Rattle.area_graph.specs.NumberedArcs.{pairing_cmp}
 use Rattle.area_graph.specs.NumberedBonds.{same_way, same_entry, turn_of, partner}
 use Rattle.area_graph.specs.Pairing.{AreOrdered}
 use Rattle.area_graph.specs.Ways.{is_before_way, IsFirstOf}
-use Rattle.area_graph.proofs.Apart.{once_from_apart, pairing_tie, pairing_total}
+use Rattle.area_graph.proofs.Apart.{once_from_apart, same_from, same_itself, same_parts}
 use Rattle.area_graph.proofs.Partners.{from_one_way, one_way, only_partner, partner_is}
 use Rattle.area_graph.proofs.Ways.{below_from_true, squeezed, upto_from_false, ways_climb}
 
--- arcs stand in order
-pub not_before : (arcs : List Entry) → AreOrdered arcs → (i j : ℕ) (d : Entry) → i ≤ j → j < length arcs → is_before pairing_cmp (get_or arcs j d) (get_or arcs i d) ≡ false
-not_before arcs ordered i j d le within = sorted_far (is_before pairing_cmp) (before_ranks pairing_cmp pairing_total) arcs ordered.sorted i j d le within
-
-pub stands_before : (arcs : List Entry) → AreOrdered arcs → (i j : ℕ) (d : Entry) → i < j → j < length arcs → is_before pairing_cmp (get_or arcs i d) (get_or arcs j d) ≡ true
-stands_before arcs ordered i j d below within =
-    true_from_ne_false (is_before pairing_cmp (get_or arcs i d) (get_or arcs j d))
-    (λ neither.
-    let tie = tied pairing_cmp pairing_total (get_or arcs i d) (get_or arcs j d) neither (not_before arcs ordered i j d (omega arith) within) in
-    both_ways (same_entry (get_or arcs i d) (get_or arcs j d)) (ordered.apart i j d below within) (pairing_tie (get_or arcs i d) (get_or arcs j d) tie))
+-- the first that passes among some, where none before it does, stands after those of them before it
+place_in : {X : Type 0} (w p : X → Bool) (xs : List X) (i : ℕ) (d : X) → i < length xs → w (get_or xs i d) ≡ true → p (get_or xs i d) ≡ true
+    → ((k : ℕ) → k < i → p (get_or xs k d) ≡ false) → position_or_len p (filter w xs) ≡ length (filter w (take i xs))
+place_in w p [] i d within among passes none = absurd (omega (arith, within))
+place_in w p (x ∷ xs) zero d within among passes none = rw (among, passes) refl
+place_in w p (x ∷ xs) (suc i) d within among passes none =
+    let other : p x ≡ false = none 0 (omega arith) in
+    let rest = place_in w p xs i d (omega (arith, within)) among passes (λ k below. none (suc k) (omega (arith, below))) in
+    elim (cases_Bool (w x)) [ inl here ↦ rw (here, other) (ap suc rest) | inr not ↦ rw not rest ]
 
 -- how many pass where those pass that stand from one place up to another
 none_counted : {X : Type 0} (p : X → Bool) (xs : List X) → ((k : ℕ) (d : X) → k < length xs → p (get_or xs k d) ≡ false) → count_by p xs ≡ 0
@@ -70,27 +66,31 @@ pub turn_is : (tail far : ℕ) (arcs : List Entry) (first i : ℕ) (d : Entry) �
     → (get_or arcs i d).tail ≡ tail → (get_or arcs i d).far ≡ far → turn_of arcs (get_or arcs i d) + first ≡ i
 turn_is tail far arcs first i d ordered is_first within at_tail at_far =
     let arc : Entry = get_or arcs i d in
-    let p : Entry → Bool = λ other. same_way arc other && is_before pairing_cmp other arc in
     let le = first_upto tail far arcs first i d is_first at_tail at_far in
-    let count : count_by p arcs + first ≡ i =
-    counted_between p arcs first i le (omega arith)
+    let place : turn_of arcs arc ≡ length (filter (same_way arc) (take i arcs)) =
+    place_in (same_way arc) (same_entry arc) arcs i d within (from_one_way arc arc (record { tail = refl; far = refl })) (same_itself arc)
+    (λ k below.
+    false_from_ne_true (same_entry arc (get_or arcs k d))
+    (λ same.
+    let parts = same_parts arc (get_or arcs k d) same in
+    both_ways (same_entry (get_or arcs k d) arc) (ordered.apart k i d below within) (same_from (get_or arcs k d) arc (sym parts.0) (sym parts.1)))) in
+    let long : length (take i arcs) ≡ i = length-take-le i arcs (omega (arith, within)) in
+    let count : count_by (same_way arc) (take i arcs) + first ≡ i =
+    counted_between (same_way arc) (take i arcs) first i le (omega (arith, long))
     (λ k e under.
-    and_left (same_way arc (get_or arcs k e)) (is_before pairing_cmp (get_or arcs k e) arc)
-    (false_from_ne_true (same_way arc (get_or arcs k e))
+    let read : get_or (take i arcs) k e ≡ get_or arcs k e = get_or-take i arcs k e (omega (arith, under, le)) in
+    rw read (false_from_ne_true (same_way arc (get_or arcs k e))
     (λ same.
     let parts = one_way arc (get_or arcs k e) same in
-    not_of_way tail far (get_or arcs k e) (is_first.below k e (omega arith) under) (parts.tail ∙ at_tail) (parts.far ∙ at_far))))
+    not_of_way tail far (get_or arcs k e) (is_first.below k e (omega (arith, under, le, within)) under) (parts.tail ∙ at_tail) (parts.far ∙ at_far))))
     (λ k e from under.
-    let read : get_or arcs k d ≡ get_or arcs k e = get_or_default arcs k d e (omega arith) in
-    let up = upto_from_false tail far (get_or arcs k d) (is_first.above k d from (omega arith)) in
-    let way = squeezed tail far (get_or arcs k d).tail (get_or arcs k d).far arc.tail arc.far up (ways_climb arcs ordered.sorted k i d (omega arith) within) at_tail at_far in
-    let before = stands_before arcs ordered k i d under within in
-    rw (← read) (and_from (same_way arc (get_or arcs k d)) (is_before pairing_cmp (get_or arcs k d) arc)
-    (from_one_way arc (get_or arcs k d) (record { tail = way.0 ∙ sym at_tail; far = way.1 ∙ sym at_far })) before))
-    (λ k e from under.
-    let read : get_or arcs k d ≡ get_or arcs k e = get_or_default arcs k d e (omega arith) in
-    rw (← read) (and_right (same_way arc (get_or arcs k d)) (is_before pairing_cmp (get_or arcs k d) arc) (not_before arcs ordered i k d from under))) in
-    omega (arith, count, length-filter p arcs)
+    let short : k < length arcs = omega (arith, under, within) in
+    let read : get_or (take i arcs) k e ≡ get_or arcs k d = get_or-take i arcs k e under ∙ sym (get_or_default arcs k d e short) in
+    let up = upto_from_false tail far (get_or arcs k d) (is_first.above k d from short) in
+    let way = squeezed tail far (get_or arcs k d).tail (get_or arcs k d).far arc.tail arc.far up (ways_climb arcs ordered.sorted k i d under within) at_tail at_far in
+    rw read (from_one_way arc (get_or arcs k d) (record { tail = way.0 ∙ sym at_tail; far = way.1 ∙ sym at_far })))
+    (λ k e from under. absurd (omega (arith, from, under, long))) in
+    omega (arith, place, count, length-filter (same_way arc) (take i arcs))
 
 -- the partner stands as far after the first of the way back as the arc after the first of its own
 pub partner_at : (arcs : List Entry) → AreOrdered arcs → (arc : Entry) (place first first_back : ℕ) → place < length arcs → get_or arcs place arc ≡ arc

@@ -1,23 +1,28 @@
 -- How arcs are paired, and the bonds that they make. The lists of arcs are in the order in which they are paired.
 use Rattle.std.specs.Prelude.{◌++◌, ◌==◌, ◌&&◌, ◌||◌, ℕ, Bool, false, List, length, Option}
-use Rattle.std.specs.List.{filter, find, position}
+use Rattle.std.specs.List.{filter, find, position, position_or_len}
 use Rattle.std.specs.Option.{is_none, is_some, option_map_or, unwrap_or}
 use Rattle.std.specs.Ordering.{is_lt}
 use Rattle.mrt_graph.specs.NodeOrder.{node_id_cmp}
 use Rattle.mrt_graph.specs.InOrder.{in_order}
 use Rattle.mrt_graph.specs.SameGraph.{same_id}
-use Rattle.area_graph.specs.Arcs.{answers, arc_cmp, parallel_cmp}
+use Rattle.mrt_graph.specs.declared.node_id.NodeId.{NodeId}
+use Rattle.area_graph.specs.Arcs.{answers, arc_cmp}
 use Rattle.area_graph.specs.Entries.{Entry}
 
--- whether two arcs have one direction: they lead from one node to one node
-abbrev pub same_direction : Entry → Entry → Bool
-same_direction arc other = same_id other.from arc.from && same_id other.to arc.to
+-- whether two entries are one: each has a place of its own in its node's LSA
+abbrev pub same_entry : Entry → Entry → Bool
+same_entry entry other = same_id other.from entry.from && (other.place == entry.place)
 
--- how many parallel arcs of its direction stand before an arc
+-- the arcs from u to v, in order
+abbrev pub parallels : List Entry → NodeId → NodeId → List Entry
+parallels arcs u v = filter (λ arc. same_id arc.from u && same_id arc.to v) arcs
+
+-- the place of an arc among its parallel ones, from 0
 abbrev pub turn_of : List Entry → Entry → ℕ
-turn_of arcs arc = length (filter (λ other. same_direction arc other && is_lt (parallel_cmp other arc)) arcs)
+turn_of arcs arc = position_or_len (same_entry arc) (parallels arcs arc.from arc.to)
 
--- an arc, and one of the way back before which as many parallel arcs stand, are partners
+-- the k-th arc from one node to another and the k-th one back are partners
 abbrev pub are_partners : List Entry → Entry → Entry → Bool
 are_partners arcs arc back = answers arc back && (turn_of arcs back == turn_of arcs arc)
 
@@ -40,10 +45,6 @@ singles arcs = filter (λ arc. is_none (partner arcs arc)) (in_order arc_cmp arc
 -- the bonds, each told by one of its arcs: first the pairs, then the single arcs
 abbrev pub bonds : List Entry → List Entry
 bonds arcs = pairs arcs ++ singles arcs
-
--- whether two entries are one: each has a place of its own in its node's LSA
-abbrev pub same_entry : Entry → Entry → Bool
-same_entry entry other = same_id other.from entry.from && (other.place == entry.place)
 
 -- whether an arc is of a bond: it tells the bond, or is the partner of the one that does
 abbrev pub is_of : List Entry → Entry → Entry → Bool

@@ -1,20 +1,23 @@
 -- How arcs are paired, and the bonds that they make, as the code holds them. The lists of arcs are in the order in
 -- which they are paired.
 use Rattle.std.specs.Prelude.{◌++◌, ◌==◌, ◌&&◌, ◌||◌, ℕ, Bool, false, nat_lt, List, length, Option}
-use Rattle.std.specs.List.{filter, find, position}
+use Rattle.std.specs.List.{filter, find, position, position_or_len}
 use Rattle.std.specs.Option.{is_none, is_some, option_map_or, unwrap_or}
-use Rattle.std.specs.Ordering.{is_lt}
 use Rattle.mrt_graph.specs.InOrder.{in_order}
 use Rattle.area_graph.specs.declared.entry.NumberedEntry.{NumberedEntry as Entry}
-use Rattle.area_graph.specs.NumberedArcs.{answers, arc_cmp, pairing_cmp}
+use Rattle.area_graph.specs.NumberedArcs.{answers, arc_cmp}
 
 -- whether two arcs lead from one node to one node
 abbrev pub same_way : Entry → Entry → Bool
 same_way arc other = (other.tail == arc.tail) && (other.far == arc.far)
 
--- how many arcs of the same way stand before an arc, by link data, then by place
+-- whether two entries are one: each has a place of its own in its node's LSA
+abbrev pub same_entry : Entry → Entry → Bool
+same_entry entry other = (other.tail == entry.tail) && (other.place == entry.place)
+
+-- the place of an arc among those of its way, from 0
 abbrev pub turn_of : List Entry → Entry → ℕ
-turn_of arcs arc = length (filter (λ other. same_way arc other && is_lt (pairing_cmp other arc)) arcs)
+turn_of arcs arc = position_or_len (same_entry arc) (filter (same_way arc) arcs)
 
 -- the k-th arc of one way and the k-th of the way back are partners
 abbrev pub are_partners : List Entry → Entry → Entry → Bool
@@ -43,10 +46,6 @@ singles arcs = filter (is_single arcs) (in_order arc_cmp arcs)
 -- the bonds, each told by one of its arcs: first the pairs, then the single arcs
 abbrev pub bonds : List Entry → List Entry
 bonds arcs = pairs arcs ++ singles arcs
-
--- whether two entries are one: each has a place of its own in its node's LSA
-abbrev pub same_entry : Entry → Entry → Bool
-same_entry entry other = (other.tail == entry.tail) && (other.place == entry.place)
 
 -- whether an arc is of a bond: it tells the bond, or is the partner of the one that does
 abbrev pub is_of : List Entry → Entry → Entry → Bool

@@ -1,23 +1,19 @@
 -- Between the two routers of a link that is made there is a pair of arcs.
 use Rattle.std.proofs.Common.{◌≡◌, ◌≢◌, ◌≤◌, ◌<◌, ◌⊎◌, ◌∙◌, ◌+◌, ◌++◌, ◌==◌, ◌&&◌, ℕ, zero, suc, Bool, true, false, List, [], ◌∷◌, Option, Some, None, refl, sym, ap, subst, inl, inr, arith}
-use Rattle.std.specs.Cmp.{IsTotalOrder}
-use Rattle.std.specs.List.{enumerate_from, filter, filter_map, find, list_any}
+use Rattle.std.specs.List.{enumerate_from, filter, filter_map, find, list_any, position_or_len}
 use Rattle.std.specs.Option.{is_some, option_map, option_to_list}
-use Rattle.std.specs.Ordering.{is_lt}
 use Rattle.std.proofs.lemmas.Bool.{and_from, and_parts, cases_Bool, cases_eq, eq-eqb, eqb-true, ne_eqb, true≢false}
-use Rattle.std.proofs.lemmas.Cmp.{nat_cmp_total, on_total, then_total, tied_itself}
 use Rattle.mrt_graph.specs.InOrder.{in_order}
 use Rattle.mrt_graph.specs.SameGraph.{same_id}
 use Rattle.mrt_graph.specs.declared.node_id.NodeId.{NodeId}
-use Rattle.mrt_graph.proofs.InOrder.{Contains-in_order, Contains-from_in_order, Rises, in_order_rises, is_before}
+use Rattle.mrt_graph.proofs.InOrder.{Contains-in_order}
 use Rattle.mrt_graph.proofs.Members.{Has, all_has, contains_from_has, filter_has, has_filter, has_from_contains, none_pass}
 use Rattle.mrt_graph.proofs.NodeIds.{same_parts}
-use Rattle.mrt_graph.proofs.Tallies.{length_is_tally, tally_none}
 use Rattle.ospf_lsa.specs.declared.lsa.Lsa.{Lsa}
 use Rattle.ospf_lsa.specs.declared.lsa.RouterLink.{RouterLink}
 use Rattle.ospf_lsa.specs.LsaText.{lsa_length}
-use Rattle.area_graph.specs.Arcs.{answers, arcs, is_arc, pairing_cmp, parallel_cmp}
-use Rattle.area_graph.specs.Bonds.{are_partners, partner, same_direction, turn_of}
+use Rattle.area_graph.specs.Arcs.{answers, arcs, is_arc, pairing_cmp}
+use Rattle.area_graph.specs.Bonds.{are_partners, parallels, partner, same_entry, turn_of}
 use Rattle.area_graph.specs.Entries.{Entry, entries, entries_in, entries_of_links, entry_of_link, far_of}
 use Rattle.mrt_graph.specs.NodeIds.{router as router_node}
 use Rattle.mrt_survey.specs.declared.made_link.MadeLink.{MadeLink}
@@ -162,78 +158,46 @@ same_nodes x y same =
     let parts = and_parts (x.number == y.number) _ same in
     same_parts x y (eqb-true x.number y.number parts.0) (eqb-true _ _ parts.1)
 
-parallel_total : IsTotalOrder parallel_cmp
-parallel_total = then_total (on_total (λ (arc : Entry). arc.link_data) nat_cmp_total) (on_total (λ (arc : Entry). arc.place) nat_cmp_total)
-
 -- whether an arc leads from the one node to the other
 abbrev is_way : NodeId → NodeId → Entry → Bool
 is_way from to arc = same_id arc.from from && same_id arc.to to
 
--- an arc before which no parallel one stands
+-- the first of the arcs from the one router to the other
 pub record HasFirst (all : List Entry) (a b : ℕ) : Type 0 where
   pub way : HasWay all a b
   pub first : turn_of all way.entry ≡ 0
 
-not_before_itself : (arc : Entry) → is_lt (parallel_cmp arc arc) ≡ false
-not_before_itself arc = ap is_lt (tied_itself parallel_total arc)
-
 abbrev ways_of : List Entry → ℕ → ℕ → List Entry
-ways_of all a b = filter (is_way (router_node a) (router_node b)) all
+ways_of all a b = parallels all (router_node a) (router_node b)
 
 listed : (all : List Entry) (a b : ℕ) (arc : Entry) → Has all arc → arc.from ≡ router_node a → arc.to ≡ router_node b → Has (ways_of all a b) arc
 listed all a b arc has from to =
     filter_has (is_way (router_node a) (router_node b)) all arc has
     (and_from (same_id arc.from (router_node a)) _ (same_node arc.from (router_node a) from) (same_node arc.to (router_node b) to))
 
-unlisted : (all : List Entry) (a b : ℕ) (arc : Entry) → Has (ways_of all a b) arc → HasWay all a b
-unlisted all a b arc has =
-    let kept = has_filter (is_way (router_node a) (router_node b)) all arc has in
-    let parts = and_parts (same_id arc.from (router_node a)) _ kept.1 in
-    record { entry = arc; there = kept.0; from = same_nodes arc.from (router_node a) parts.0; to = same_nodes arc.to (router_node b) parts.1 }
-
--- the first of the ways in order
-head_first : (all : List Entry) (a b : ℕ) (sorted : List Entry) → Rises parallel_cmp sorted → ((arc : Entry) → Has sorted arc → Has (ways_of all a b) arc)
-    → ((arc : Entry) → Has (ways_of all a b) arc → Has sorted arc) → HasWay all a b → HasFirst all a b
-unfolding unlisted
-head_first all a b [] rises back forth some = absurd (forth some.entry (listed all a b some.entry some.there some.from some.to))
-head_first all a b (arc ∷ later_arcs) rises back forth some =
-    let way = unlisted all a b arc (back arc (inl refl)) in
-    record {
-      way = way;
-      first = length_is_tally (λ (other : Entry). same_direction arc other && is_lt (parallel_cmp other arc)) all
-          ∙ tally_none (λ (other : Entry). same_direction arc other && is_lt (parallel_cmp other arc)) all (λ other has. none other has (cases_Bool (same_direction arc other)));
-    }
-  where
-    in_sorted : (other : Entry) → Has (arc ∷ later_arcs) other → is_lt (parallel_cmp other arc) ≡ false
-    in_sorted other has = elim has [
-      | inl same ↦ subst (λ (x : Entry). is_lt (parallel_cmp x arc) ≡ false) same (not_before_itself arc)
-      | inr later ↦ all_has (λ (y : Entry). is_before parallel_cmp y arc ≡ false) later_arcs other rises.0 later
-    ]
-
-    and_no : (x : Bool) → (x && false) ≡ false
-    and_no true = refl
-    and_no false = refl
-
-    none : (other : Entry) → Has all other → (same_direction arc other ≡ true) ⊎ (same_direction arc other ≡ false)
-        → (same_direction arc other && is_lt (parallel_cmp other arc)) ≡ false
-    none other has (inr apart) = rw apart refl
-    none other has (inl alike) =
-        let mine = unlisted all a b arc (back arc (inl refl)) in
-        let own = has_filter (is_way (router_node a) (router_node b)) all arc (back arc (inl refl)) in
-        let at = and_parts (same_id arc.from (router_node a)) _ own.1 in
-        let parts = and_parts (same_id other.from arc.from) _ alike in
-        let from : other.from ≡ router_node a = same_nodes other.from arc.from parts.0 ∙ same_nodes arc.from (router_node a) at.0 in
-        let to : other.to ≡ router_node b = same_nodes other.to arc.to parts.1 ∙ same_nodes arc.to (router_node b) at.1 in
-        ap (λ (x : Bool). same_direction arc other && x) (in_sorted other (forth other (listed all a b other has from to))) ∙ and_no (same_direction arc other)
+first_place : (arc : Entry) (rest : List Entry) → position_or_len (same_entry arc) (arc ∷ rest) ≡ 0
+first_place arc rest =
+    let itself : same_entry arc arc ≡ true =
+    and_from (same_id arc.from arc.from) (arc.place == arc.place) (same_itself arc.from) (eq-eqb arc.place arc.place refl) in
+    rw itself refl
 
 first_of : (all : List Entry) (a b : ℕ) → HasWay all a b → HasFirst all a b
-first_of all a b some =
-    head_first all a b (in_order parallel_cmp (ways_of all a b)) (in_order_rises parallel_cmp parallel_total (ways_of all a b))
-    (λ arc has. has_from_contains (ways_of all a b) arc
-    (Contains-from_in_order parallel_cmp (ways_of all a b) arc (contains_from_has (in_order parallel_cmp (ways_of all a b)) arc has)))
-    (λ arc has. has_from_contains (in_order parallel_cmp (ways_of all a b)) arc
-    (Contains-in_order parallel_cmp (ways_of all a b) arc (contains_from_has (ways_of all a b) arc has)))
-    some
+first_of all a b some = go (ways_of all a b) refl
+  where
+    go : (ways : List Entry) → ways_of all a b ≡ ways → HasFirst all a b
+    go [] none =
+        absurd (subst (λ (ways : List Entry). Has ways some.entry) none (listed all a b some.entry some.there some.from some.to))
+    go (arc ∷ rest) is =
+        let kept = has_filter (is_way (router_node a) (router_node b)) all arc (subst (λ (ways : List Entry). Has ways arc) (sym is) (inl refl)) in
+        let parts = and_parts (same_id arc.from (router_node a)) _ kept.1 in
+        let from : arc.from ≡ router_node a = same_nodes arc.from (router_node a) parts.0 in
+        let to : arc.to ≡ router_node b = same_nodes arc.to (router_node b) parts.1 in
+        record {
+          way = record { entry = arc; there = kept.0; from = from; to = to };
+          first = ap (λ (u : NodeId). position_or_len (same_entry arc) (parallels all u arc.to)) from
+              ∙ ap (λ (v : NodeId). position_or_len (same_entry arc) (parallels all (router_node a) v)) to
+              ∙ ap (position_or_len (same_entry arc)) is ∙ first_place arc rest;
+        }
 
 -- an arc that has a partner
 pub record HasPair (all : List Entry) (a b : ℕ) : Type 0 where
