@@ -3,7 +3,7 @@ use Rattle.std.specs.Prelude.{ℕ, List, Option, slice_get}
 use Rattle.std.specs.Option.{option_and_then, option_map_or}
 use Rattle.mrt_graph.specs.declared.tree.TreeNode.{TreeNode}
 
--- a node's number
+-- a node's number in the order of the search
 abbrev pub search_number : List TreeNode → ℕ → ℕ
 search_number tree v = option_map_or (λ node. node.number) (slice_get tree v) 0
 

@@ -11,7 +11,7 @@ use Rattle.std.proofs.lemmas.Option.{slice_get-get_or, slice_get_past, slice_get
 use Rattle.std.proofs.Math.Numerals.{add-one}
 use borrow.Author.Count.{below_more}
 use Rattle.mrt_graph.specs.TextLines.{is_passed_over}
-use Rattle.text_parts.specs.TextRule.{IsFirstFault as IsFirstFaultBy, IsText, OfEnd, OfLine, said_by, with_line}
+use Rattle.text_parts.specs.TextRule.{IsFirstFault, IsText, OfEnd, OfLine, said_by, with_line}
 use Rattle.text_parts.proofs.LinesTaken.{take_next}
 use Rattle.text_parts.proofs.WholeLists.{Means}
 use Rattle.mrt_island.specs.declared.profile_error.ProfileKind.{ProfileKind}
@@ -132,7 +132,7 @@ is_text lines settings are =
     }
 
 -- a first fault
-is_first : (lines : List (List ℕ)) (number : ℕ) (kind : ProfileKind) → IsFirstFaultBy profile_rule lines number kind
+is_first : (lines : List (List ℕ)) (number : ℕ) (kind : ProfileKind) → IsFirstFault profile_rule lines number kind
     → IsFirstProfileFault lines number kind
 is_first lines number kind (OfLine said one counted say there wrong) =
     let inside = slice_get_within lines (number - 1) one there in
@@ -150,7 +150,7 @@ is_first lines number kind (OfLine said one counted say there wrong) =
 is_first lines number kind (OfEnd said counted say wrong) = absurd cc
 
 is_first_by : (lines : List (List ℕ)) (number : ℕ) (kind : ProfileKind) → IsFirstProfileFault lines number kind
-    → IsFirstFaultBy profile_rule lines number kind
+    → IsFirstFault profile_rule lines number kind
 is_first_by lines number kind first = elim (cases_lt (number - 1) (length lines)) [
   | inl inside ↦
       let one = line lines (number - 1) inside in
