@@ -1,5 +1,5 @@
 -- Arcs of one way have different turns, an arc has one partner at most, and a partner's partner is the arc itself.
-use Rattle.std.proofs.Common.{◌≡◌, ◌∙◌, ◌&&◌, ◌==◌, ℕ, Bool, true, List, [], ◌∷◌, Some, slice_get, inl, inr, refl, sym, ap, subst}
+use Rattle.std.proofs.Common.{◌≡◌, ◌∙◌, ◌+◌, ◌&&◌, ◌==◌, ℕ, suc, Bool, true, List, [], ◌∷◌, Some, slice_get, inl, inr, refl, sym, ap, subst, arith}
 use Rattle.std.specs.List.{filter, position_or_len}
 use Rattle.std.proofs.lemmas.Bool.{and_parts, and_from, both_ways, cases_Bool, eq-eqb, eqb-true}
 use Rattle.std.proofs.lemmas.Option.{same_Some}
@@ -22,6 +22,9 @@ one_way arc other same =
 pub from_one_way : (arc other : Entry) → OneWay arc other → same_way arc other ≡ true
 from_one_way arc other one = and_from (other.tail == arc.tail) (other.far == arc.far) (eq-eqb other.tail arc.tail one.tail) (eq-eqb other.far arc.far one.far)
 
+pub one_more : (n : ℕ) → 1 + n ≡ suc n
+one_more n = omega arith
+
 -- where something passes, the first that does
 record FirstOf {X : Type 0} (p : X → Bool) (xs : List X) : Type 0 where
   item : X
@@ -36,7 +39,7 @@ first_that_passes p (y ∷ ys) x has is = elim (cases_Bool (p y)) [
     | inl same ↦ absurd (both_ways (p y) fails (subst (λ z. p z ≡ true) (sym same) is))
     | inr later ↦
         let rest = first_that_passes p ys x later is in
-        record { item = rest.item; at = rw fails rest.at; passes = rest.passes }
+        record { item = rest.item; at = rw fails (ap (slice_get (y ∷ ys)) (one_more (position_or_len p ys)) ∙ rest.at); passes = rest.passes }
   ]
 ]
 

@@ -12,7 +12,7 @@ use Rattle.area_graph.specs.NumberedBonds.{same_way, same_entry, turn_of, partne
 use Rattle.area_graph.specs.Pairing.{AreOrdered}
 use Rattle.area_graph.specs.Ways.{is_before_way, IsFirstOf}
 use Rattle.area_graph.proofs.Apart.{once_from_apart, same_from, same_itself, same_parts}
-use Rattle.area_graph.proofs.Partners.{from_one_way, one_way, only_partner, partner_is}
+use Rattle.area_graph.proofs.Partners.{from_one_way, one_more, one_way, only_partner, partner_is}
 use Rattle.area_graph.proofs.Ways.{below_from_true, squeezed, upto_from_false, ways_climb}
 
 -- the first that passes among some, where none before it does, stands after those of them before it
@@ -23,7 +23,7 @@ place_in w p (x ∷ xs) zero d within among passes none = rw (among, passes) ref
 place_in w p (x ∷ xs) (suc i) d within among passes none =
     let other : p x ≡ false = none 0 (omega arith) in
     let rest = place_in w p xs i d (omega (arith, within)) among passes (λ k below. none (suc k) (omega (arith, below))) in
-    elim (cases_Bool (w x)) [ inl here ↦ rw (here, other) (ap suc rest) | inr not ↦ rw not rest ]
+    elim (cases_Bool (w x)) [ inl here ↦ rw (here, other) (one_more (position_or_len p (filter w xs)) ∙ ap suc rest) | inr not ↦ rw not rest ]
 
 -- how many pass where those pass that stand from one place up to another
 none_counted : {X : Type 0} (p : X → Bool) (xs : List X) → ((k : ℕ) (d : X) → k < length xs → p (get_or xs k d) ≡ false) → count_by p xs ≡ 0
@@ -87,7 +87,7 @@ turn_is tail far arcs first i d ordered is_first within at_tail at_far =
     let short : k < length arcs = omega (arith, under, within) in
     let read : get_or (take i arcs) k e ≡ get_or arcs k d = get_or-take i arcs k e under ∙ sym (get_or_default arcs k d e short) in
     let up = upto_from_false tail far (get_or arcs k d) (is_first.above k d from short) in
-    let way = squeezed tail far (get_or arcs k d).tail (get_or arcs k d).far arc.tail arc.far up (ways_climb arcs ordered.sorted k i d under within) at_tail at_far in
+    let way = squeezed tail far (get_or arcs k d).tail (get_or arcs k d).far arc.tail arc.far up (ways_climb arcs ordered.sorted k i d (omega (arith, under)) within) at_tail at_far in
     rw read (from_one_way arc (get_or arcs k d) (record { tail = way.0 ∙ sym at_tail; far = way.1 ∙ sym at_far })))
     (λ k e from under. absurd (omega (arith, from, under, long))) in
     omega (arith, place, count, length-filter (same_way arc) (take i arcs))
