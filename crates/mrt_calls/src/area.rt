@@ -8,13 +8,8 @@ ghost use Rattle.mrt_calls.specs.Areas.{area_within, files_within, input_in, unr
 use mrt_answer::{Given, given_of};
 use mrt_exit::{Exit, What};
 use mrt_lent::MrtBytes;
+use mrt_words::{DATABASE_LIMIT, PROFILE_LIMIT};
 use std::alloc::Global;
-
-/// How many bytes the LSAs of an area may have.
-const DATABASE_LIMIT: u32 = 8_388_608;
-
-/// How many bytes a profile may have.
-const PROFILE_LIMIT: u32 = 33_554_432;
 
 /// LSAs and a profile: `struct mrt_area` in C.
 #[repr(C)]

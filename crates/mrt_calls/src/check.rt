@@ -14,10 +14,8 @@ use mrt_answer::{Given, given_of, island_in, judge};
 use mrt_exit::{Exit, What};
 use mrt_graph::CertFile;
 use mrt_island::Island;
+use mrt_words::CERTIFICATE_LIMIT;
 use std::alloc::Global;
-
-/// How many bytes a certificate may have.
-const CERTIFICATE_LIMIT: u32 = 134_217_728;
 
 /// A certificate that is accepted: `struct mrt_verdict` in C.
 #[repr(C)]

@@ -6,7 +6,6 @@ mod certify;
 mod check;
 mod fault;
 mod footing;
-mod hop;
 mod line;
 mod proxy;
 mod putting;

@@ -12,13 +12,13 @@ ghost use Rattle.mrt_calls.specs.Proxies.{ArePairRows, IsOutHop, IsPairRow, betw
 
 use crate::area::{MrtArea, given_in};
 use crate::fault::{MrtFault, fault_of, tell};
-use crate::hop::link_hop;
 use crate::putting::exit_of;
 use crate::row::{MrtHop, hop_in};
 use mrt_answer::{Given, columns_of, island_in, node_of, own_node, proxy_rows_by};
 use mrt_exit::Exit;
 use mrt_graph::{Graph, NoMemory, NodeNo};
 use mrt_island::Island;
+use mrt_report::link_hop;
 use mrt_rows::RootedColumns;
 use proxy_rows::{Out, ProxyRow};
 use std::alloc::Global;

@@ -16,6 +16,7 @@ mod words;
 
 pub use line::push_row;
 pub use line_law::{lines_by_the_rows_for_one_destination, one_line_each};
+pub use making::link_hop;
 pub use primaries::primary_for;
 pub use row::{ArcRepairs, HopTo, TableRow};
 pub use table::{push_table_line, table_head, table_line, table_row};

@@ -32,7 +32,7 @@ pub fn row_of<R: RowsOf>(parts: &Parts<'_, R>) -> TableRow
 }
 
 /// The hop of a node over a link of the island that touches it.
-fn link_hop(g: &Graph, source: NodeNo, link: LinkNo) -> HopTo
+pub fn link_hop(g: &Graph, source: NodeNo, link: LinkNo) -> HopTo
     requires kept { IsTopology g.now }
     requires within { source < length g.now.ids }
     requires touches { IsSome (leads g.now.links link source) }

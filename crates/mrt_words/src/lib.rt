@@ -16,6 +16,7 @@ pub use arguments::argument_words;
 pub use file_name::FileName;
 pub use files_read::{FilesRead, FloodRead, read_files, read_flood_files};
 pub use form::{FileForm, FloodForm, Form};
+pub use named_file::{CERTIFICATE_LIMIT, DATABASE_LIMIT, PROFILE_LIMIT};
 pub use task::{RouterTask, Task, Work};
 pub use words::read_form;
 pub use words_law::words_spell_one_form;

@@ -9,16 +9,16 @@ use mrt_io::Word;
 use std::marker::Model;
 
 /// How many bytes a database file may have.
-const DATABASE_LIMIT: u32 = 8_388_608;
+pub const DATABASE_LIMIT: u32 = 8_388_608;
 
 /// How many bytes a file of Link State Update packets may have.
 const UPDATES_LIMIT: u32 = 33_554_432;
 
 /// How many bytes a profile file may have.
-const PROFILE_LIMIT: u32 = 33_554_432;
+pub const PROFILE_LIMIT: u32 = 33_554_432;
 
 /// How many bytes a certificate file may have.
-const CERTIFICATE_LIMIT: u32 = 134_217_728;
+pub const CERTIFICATE_LIMIT: u32 = 134_217_728;
 
 /// How many bytes a script file may have.
 const SCRIPT_LIMIT: u32 = 33_554_432;
