@@ -13,7 +13,7 @@
  * - All buffers are the caller's. What a call takes beside them it takes by malloc and realloc and gives back by free
  *   before it returns; where there is none it answers MRT_NO_MEMORY. A stack of 64 KiB serves. No call waits, starts a
  *   thread, writes to a stream, reads a file, a clock or a random number, or ends the process. The same arguments give
- *   the same answer, but for want of memory (proved of certificates, verdicts and texts, tested of rows).
+ *   the same answer, but for want of memory (proved).
  * - What the caller owes, and nothing checks: a pointer is never NULL, also where its length is 0; it is aligned as its
  *   type is; as many elements are there as the length says, which may be read, or written where the pointer is not to
  *   const, throughout the call, and which nothing else writes meanwhile; what a call writes overlaps with nothing else

@@ -229,7 +229,7 @@ one_area_of newest = one_value_or_exit (area_of newest) (λ of other one two. on
         (subst (λ (a : AreaParts). IsTooLarge (length a.ids) (length a.arcs) → ⊥) one.0 one.1) two
     no of e one two = two
 
-one_place_of : (ids : List NodeId) → IsStrictlySortedBy node_id_cmp ids → (number : ℕ) → IsOne (place_of ids number)
+pub one_place_of : (ids : List NodeId) → IsStrictlySortedBy node_id_cmp ids → (number : ℕ) → IsOne (place_of ids number)
 one_place_of ids ascend number =
     one_value_or_exit (place_of ids number) (λ a b. one_place ids a b (router_node number) ascend) ends no
   where
@@ -253,7 +253,7 @@ at_own_place : (ids : List NodeId) → IsStrictlySortedBy node_id_cmp ids → (n
 at_own_place ids ascend number next one =
     one_then_one (own_place ids number) next (one_such _ (λ a b. one_place ids a b (router_node number) ascend)) one
 
-one_judged : RuleLaws → (graph : Topology) (root : ℕ) (file : CertFile) → IsOne (judged graph root file)
+pub one_judged : RuleLaws → (graph : Topology) (root : ℕ) (file : CertFile) → IsOne (judged graph root file)
 one_judged laws graph root file = one_value_or_exit (judged graph root file) (λ x y one two. refl) ends no
   where
     ends : (e d : Exit) → judged graph root file (Err e) → judged graph root file (Err d) → e ≡ d
@@ -416,6 +416,28 @@ module _ (laws : Laws) where
     one_task (OfRouter (Lfa router)) last = one_loop_free router
     one_task (OfRouter (Order router)) last = one_ordered router
     one_task (OfRouter (Proxy router first second)) last = one_proxied router first second
+
+  -- ---- what is read of an area, whatever is made of it
+
+  module _ (database profile : List ℕ) (input : Input) (given : input_of database profile (Ok input)) where
+    pub one_island : (router : ℕ) → IsOne (island_in input router)
+    one_island = one_island_in input (area_kept laws.areas database profile input given) (bonds_kept laws.areas database profile input given)
+
+    pub read_area : (router : ℕ) (island : Island) → island_in input router (Ok island) → IsArea (area input)
+    read_area = area_is_kept input (area_kept laws.areas database profile input given)
+
+    pub read_nodes : (router : ℕ) (island : Island) → island_in input router (Ok island) → IsStrictlySortedBy node_id_cmp island.graph.ids
+    read_nodes router island (of, is, under) =
+        island_ascends (policy input) of (area_kept laws.areas database profile input given of is) router island.graph island.root island.link_of under
+
+    pub read_graph : (router : ℕ) (island : Island) → island_in input router (Ok island) → IsTopology island.graph
+    read_graph router island (of, is, under) =
+        its_graph input (area_kept laws.areas database profile input given) (bonds_kept laws.areas database profile input given)
+        (read_area router island (of, is, under)) router island (subst (λ (a : AreaParts). island_of (policy input) a router (Ok island)) is.0 under)
+
+    pub read_file : (router : ℕ) (island : Island) → island_in input router (Ok island) → (file other : CertFile)
+        → IsComputedFile island.graph island.root file → IsComputedFile island.graph island.root other → file ≡ other
+    read_file router island (of, is, under) = one_file (policy input) of router island (read_graph router island (of, is, under)) under
 
   -- ---- over the bytes of the files
 

@@ -36,7 +36,7 @@ pub record TableLaws : Type 0 where
       → IsPrimary area s t other → entry ≡ other
 
 -- a router has one list of primaries
-one_list : TableLaws → (area : AreaParts) (s : ℕ) (entries others : List (Option Primary)) → ArePrimaries area s entries
+pub one_list : TableLaws → (area : AreaParts) (s : ℕ) (entries others : List (Option Primary)) → ArePrimaries area s entries
     → ArePrimaries area s others → entries ≡ others
 one_list laws area s entries others one two =
     ext_get_or None entries others (one.one_each ∙ sym two.one_each)

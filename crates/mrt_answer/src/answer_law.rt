@@ -1,15 +1,17 @@
 //! What holds of answers.
 
 ghost use Rattle.std.specs.Prelude.{◌≡◌, ◌≤◌, ℕ, List, Ok, length};
+ghost use Rattle.std.specs.List.Sorted.{IsStrictlySortedBy};
 ghost use Rattle.fabric.specs.{FabricParts.ArePartsKept, FabricParts.FabricParts, Served.AreRowsOn, declared.event.Event.Event};
 ghost use Rattle.flood_verdict.specs.{Alike.ComparesAlike, Alike.IsToldAlike, Says.Says};
 ghost use Rattle.mrt_words.specs.{FileBytes.FileBytes, FileBytes.with_last, Files.certificate_limit, declared.task.RouterTask.TheVariants.Certify, Form.Task};
 ghost use Rattle.mrt_words.specs.declared.task.Task.TheVariants.{Check, Upgrade, OfRouter};
-ghost use Rattle.mrt_answer.specs.{Reading.HoldsFlood, Forms.flooded, Forms.over, Input.Input, Input.area, Islands.island_in, Texts.ArePartsIn};
+ghost use Rattle.mrt_answer.specs.{Reading.HoldsFlood, Forms.flooded, Forms.over, Input.Input, Input.area, Islands.island_in, Texts.ArePartsIn, Texts.IsComputedFile};
 ghost use Rattle.mrt_answer.specs.{Reading.input_of, Surveyed.IsSurveyed};
 ghost use Rattle.mrt_exit.specs.Steps.{IsOne};
 ghost use Rattle.mrt_island.specs.declared.island.Island.{Island};
-ghost use Rattle.area_graph.specs.Parts.{AreaParts};
+ghost use Rattle.area_graph.specs.{AreaInvariant.IsArea, Parts.AreaParts};
+ghost use Rattle.mrt_graph.specs.{GraphInvariant.IsTopology, NodeOrder.node_id_cmp, declared.cert.CertFile.CertFile};
 
 use crate::survey_law::made_networks_are_taken;
 use area_graph::{bonds_of_the_newest_records_fit, the_newest_records_give_an_area};
@@ -40,12 +42,28 @@ use primary_alt::one_primary_each;
 use proxy_rows::{one_proxy_text, proxy_rows_or_no_common_block};
 
 /// Laws: of the bytes of the files of a task, and of those of a form over packets, there comes one text at most, or one
-/// exit, and never both; and of a network that is made from a number there is one survey.
+/// exit, and never both; and of a network that is made from a number there is one survey. So whatever is made of an area:
+/// a database and a profile are read in one way at most, a router has one island, its area and the nodes of this island
+/// are in order, and one certificate is computed for it, of a graph.
 pub fn one_answer_comes()
     ensures task { (task : Task) (bytes : FileBytes) → IsOne (over task bytes) }
     ensures flood { (bytes : FileBytes) → IsOne (flooded bytes) }
     ensures survey { (number nodes : ℕ) (text other : List ℕ)
         → IsSurveyed number nodes text → IsSurveyed number nodes other → text ≡ other }
+    ensures input { (database profile : List ℕ) → IsOne (input_of database profile) }
+    ensures island { (database profile : List ℕ) (input : Input) → input_of database profile (Ok input)
+        → (router : ℕ) → IsOne (island_in input router) }
+    ensures area { (database profile : List ℕ) (input : Input) → input_of database profile (Ok input)
+        → (router : ℕ) (island : Island) → island_in input router (Ok island) → IsArea (area input) }
+    ensures nodes { (database profile : List ℕ) (input : Input) → input_of database profile (Ok input)
+        → (router : ℕ) (island : Island) → island_in input router (Ok island)
+        → IsStrictlySortedBy node_id_cmp island.graph.ids }
+    ensures graph { (database profile : List ℕ) (input : Input) → input_of database profile (Ok input)
+        → (router : ℕ) (island : Island) → island_in input router (Ok island) → IsTopology island.graph }
+    ensures file { (database profile : List ℕ) (input : Input) → input_of database profile (Ok input)
+        → (router : ℕ) (island : Island) → island_in input router (Ok island)
+        → (file other : CertFile) → IsComputedFile island.graph island.root file
+        → IsComputedFile island.graph island.root other → file ≡ other }
 {
     bytes_are_lsas_or_have_a_fault();
     refuses_exactly_where_not_settled();

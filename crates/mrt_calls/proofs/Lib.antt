@@ -4,7 +4,7 @@ pub mod Filling
 pub mod Footings
 pub mod Lent
 pub mod Names
-pub mod OneCertificate
+pub mod OneAnswer
 pub mod Pairs
 pub mod Puts
 pub mod TextFor

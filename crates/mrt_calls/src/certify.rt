@@ -6,9 +6,10 @@ ghost use Rattle.mrt_exit.specs.{Due.IsDue, declared.exit.Exit.Exit};
 ghost use Rattle.mrt_calls.specs.{Faults.IsTold, Putting.Gives, Putting.IsHeldIn, Shapes.certified_in};
 
 use crate::area::{MrtArea, given_in};
+use crate::calls_law::one_answer_each;
 use crate::fault::{MrtFault, tell};
 use crate::putting::{count_of, exit_of, put_text};
-use mrt_answer::{Text, certify, one_answer_comes};
+use mrt_answer::{Text, certify};
 use mrt_exit::Exit;
 use std::alloc::Global;
 
@@ -62,7 +63,7 @@ fn put_certificate(
         × IsHeldIn buffer.new count bytes) }
     ensures none { IfErr result (IsDue (λ exit. certified_in area.now router (Err exit))) }
 {
-    one_answer_comes();
+    one_answer_each();
     let text = certificate_of(alloc, area, router)?;
     match put_text(text, buffer) {
         Ok(count) => Ok(count),

@@ -2,6 +2,7 @@
 #![tactic(auto)]
 
 mod area;
+mod calls_law;
 mod certify;
 mod check;
 mod fault;
@@ -16,6 +17,7 @@ mod shape;
 mod table;
 
 pub use area::MrtArea;
+pub use calls_law::one_answer_each;
 pub use certify::certify_area;
 pub use check::{MrtVerdict, check_area};
 pub use fault::MrtFault;

@@ -78,7 +78,7 @@ one_end g s link one other a b =
     let ends : a.ends ≡ b.ends = same_Some a.ends b.ends (sym a.ends_are ∙ b.ends_are) in
     same_Some one other (sym a.is ∙ ap (λ (xs : List End). find (λ end. end.link == link) xs) ends ∙ b.is)
 
-one_link_hop : (g : Topology) (s link : ℕ) (one other : HopTo) → IsLinkHop g s link one → IsLinkHop g s link other → one ≡ other
+pub one_link_hop : (g : Topology) (s link : ℕ) (one other : HopTo) → IsLinkHop g s link one → IsLinkHop g s link other → one ≡ other
 one_link_hop g s link one other a b =
     let end : a.end ≡ b.end = one_end g s link a.end b.end a.end_is b.end_is in
     let far : one.far ≡ other.far = same_Some one.far other.far (sym a.far_is ∙ ap (λ (x : End). slice_get g.ids x.to) end ∙ b.far_is) in

@@ -9,11 +9,13 @@ use Rattle.mrt_graph.specs.declared.node_id.NodeId.{NodeId}
 use Rattle.mrt_graph.proofs.NodeIds.{one_place}
 use Rattle.primary_alt.specs.declared.shortest.Primary.{Primary}
 use Rattle.mrt_report.specs.Lines.{IsLine}
+use Rattle.mrt_report.specs.Rows.{IsRow}
 use Rattle.mrt_report.specs.TableParts.{IsPrimaryFor, TableParts, parts_of_lines}
-use Rattle.mrt_report.specs.TableText.{IsHead, IsTableLine, IsTableText, head_line, others}
-use Rattle.mrt_report.proofs.OneLine.{OneAlternate, one_line}
+use Rattle.mrt_report.specs.TableText.{IsHead, IsTableLine, IsTableRow, IsTableText, head_line, others}
+use Rattle.mrt_report.specs.declared.row.TableRow.{TableRow}
+use Rattle.mrt_report.proofs.OneLine.{OneAlternate, one_line, one_row}
 
-one_zip : {A B : Type 0} (R : A → B → Type 0) → ((x : A) (y z : B) → R x y → R x z → y ≡ z) → (xs : List A) (ys zs : List B) → AllZip R xs ys → AllZip R xs zs → ys ≡ zs
+pub one_zip : {A B : Type 0} (R : A → B → Type 0) → ((x : A) (y z : B) → R x y → R x z → y ≡ z) → (xs : List A) (ys zs : List B) → AllZip R xs ys → AllZip R xs zs → ys ≡ zs
 one_zip R one [] [] [] a b = refl
 one_zip R one [] [] (z ∷ zs) a b = absurd b
 one_zip R one [] (y ∷ ys) zs a b = absurd a
@@ -37,6 +39,13 @@ one_primary parts kept to one other a b =
     let spot : a.spot ≡ b.spot = one_place parts.area.ids a.spot b.spot b.node.id kept.ids_ascend
     (subst (λ (x : NodeId). slice_get parts.area.ids a.spot ≡ Some x) id a.node.in_area) b.node.in_area in
     same_Some one other (same_Some (Some one) (Some other) (sym a.entry ∙ ap (λ (k : ℕ). slice_get parts.primaries k) spot ∙ b.entry))
+
+-- a router has one row on each destination, and so one line
+pub one_table_row : OneAlternate → (parts : TableParts) → IsArea parts.area → IsTopology parts.island → (to : ℕ) (one other : TableRow)
+    → IsTableRow parts to one → IsTableRow parts to other → one ≡ other
+one_table_row alternate parts area_kept kept to one other a b =
+    let primary : a.primary ≡ b.primary = one_primary parts area_kept to a.primary b.primary a.primary_is b.primary_is in
+    one_row alternate (parts_of_lines parts) to b.primary one other kept (subst (λ (x : Primary). IsRow (parts_of_lines parts) to x one) primary a.row_is) b.row_is
 
 one_table_line : OneAlternate → (parts : TableParts) → IsArea parts.area → IsTopology parts.island → (to : ℕ) (one other : List ℕ)
     → IsTableLine parts to one → IsTableLine parts to other → one ≡ other

@@ -20,4 +20,4 @@ pub use making::link_hop;
 pub use primaries::primary_for;
 pub use row::{ArcRepairs, HopTo, TableRow};
 pub use table::{push_table_line, table_head, table_line, table_row};
-pub use table_law::{lines_make_the_table, one_table_each};
+pub use table_law::{lines_make_the_table, one_row_each, one_table_each};

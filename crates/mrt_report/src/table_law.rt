@@ -3,9 +3,10 @@
 ghost use Rattle.std.specs.Prelude.{◌≡◌, ◌≢◌, ◌<◌, ◌++◌, ℕ, List, IsSome, length};
 ghost use Rattle.std.specs.List.{AllZip, concat};
 ghost use Rattle.area_graph.specs.{AreaInvariant.IsArea, Fits.Fits};
-ghost use Rattle.mrt_graph.specs.{Certificate.row_of, GraphInvariant.IsTopology, Hop.color_hop, declared.cert.Color.Color};
-ghost use Rattle.mrt_report.specs.{ByColumn.IsLineByColumn, TableParts.AreItsPrimaries, TableParts.TableParts};
-ghost use Rattle.mrt_report.specs.TableText.{IsHead, IsTableText, others};
+ghost use Rattle.mrt_graph.specs.{Certificate.row_of, GraphInvariant.IsTopology, Hop.color_hop, Topology.Topology, declared.cert.Color.Color};
+ghost use Rattle.mrt_report.specs.{ByColumn.IsLineByColumn, Rows.IsLinkHop, TableParts.AreItsPrimaries, TableParts.TableParts};
+ghost use Rattle.mrt_report.specs.{TableText.IsHead, TableText.IsTableRow, TableText.IsTableText, TableText.others};
+ghost use Rattle.mrt_report.specs.{declared.row.HopTo.HopTo, declared.row.TableRow.TableRow};
 
 use primary_alt::one_alternate_each;
 
@@ -30,6 +31,16 @@ pub fn one_table_each()
     ensures one { (parts : TableParts) (root : ℕ) (text other : List ℕ) → IsArea parts.area
         → IsTopology parts.island → IsTableText parts root text → IsTableText parts root other
         → text ≡ other }
+{
+    one_alternate_each();
+}
+
+/// Laws: on each destination a router has one row at most, and over each link a node has one hop.
+pub fn one_row_each()
+    ensures row { (parts : TableParts) (to : ℕ) (row other : TableRow) → IsArea parts.area → IsTopology parts.island
+        → IsTableRow parts to row → IsTableRow parts to other → row ≡ other }
+    ensures hop { (g : Topology) (s link : ℕ) (hop other : HopTo) → IsLinkHop g s link hop → IsLinkHop g s link other
+        → hop ≡ other }
 {
     one_alternate_each();
 }

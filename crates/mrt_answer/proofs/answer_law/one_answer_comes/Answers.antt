@@ -1,4 +1,5 @@
-use Rattle.mrt_answer.proofs.OneAnswer.{Laws, one_flooded, one_over, one_survey}
+use Rattle.mrt_answer.proofs.OneAnswer.{Laws, one_flooded, one_island, one_over, one_survey, read_area, read_file, read_graph, read_nodes}
+use Rattle.mrt_answer.proofs.OneReading.{one_input_of}
 use Rattle.mrt_answer.proofs.answer_law.one_answer_comes.Goals as goal
 
 -- the laws of the layers below
@@ -67,3 +68,21 @@ returns-clause-flood c = one_flooded (laws c)
 pub returns-clause-survey : goal.returns-clause-survey
 returns-clause-survey c = λ number nodes text other one.
     one_survey (laws c) (c.made_networks_are_taken.ensures.input number nodes one.size) text other one
+
+pub returns-clause-input : goal.returns-clause-input
+returns-clause-input c = one_input_of (laws c).databases (laws c).profiles
+
+pub returns-clause-island : goal.returns-clause-island
+returns-clause-island c = one_island (laws c)
+
+pub returns-clause-area : goal.returns-clause-area
+returns-clause-area c = read_area (laws c)
+
+pub returns-clause-nodes : goal.returns-clause-nodes
+returns-clause-nodes c = read_nodes (laws c)
+
+pub returns-clause-graph : goal.returns-clause-graph
+returns-clause-graph c = read_graph (laws c)
+
+pub returns-clause-file : goal.returns-clause-file
+returns-clause-file c = read_file (laws c)
