@@ -131,7 +131,6 @@ UPDATES = {
 # The triangle's packets with bytes at places, cut after so many. They begin at 0, 172 and 248; a packet has its version at 0,
 # type 1, length 2, router 4, area 8, checksum 12, authentication 14, count 24, LSAs at 28.
 SPOILT_UPDATES = {
-    "without_the_last_byte": ([], 371),
     "cut_in_a_header": ([], 275),
     "cut_and_of_another_version": ([(248, 3)], 371),
     "of_another_version": ([(172, 3)], 372),
@@ -139,11 +138,10 @@ SPOILT_UPDATES = {
     "too_short": ([(2, 0), (3, 27)], 372),
     "a_spoilt_lsa": ([(326, 3)], 372),
     "a_spoilt_lsa_and_another_count": ([(326, 3), (275, 4)], 372),
-    "a_greater_count": ([(27, 4)], 372),
     "a_smaller_count": ([(199, 0)], 372),
-    # no fault: another router and area; the checksum and the authentication are passed over
-    "another_router_and_area": ([(252, 9), (259, 7), (260, 255), (271, 255)], 372),
 }
+# No fault: another router and area; the checksum and the authentication are passed over.
+OTHER_FIELDS = [(252, 9), (259, 7), (260, 255), (271, 255)], 372
 
 # Areas
 
@@ -222,10 +220,20 @@ ISLANDS = {
 }
 
 
+def spoilt_packets(places, kept):
+    return spoilt(b"".join(TRIANGLE_PACKETS), *places)[:kept]
+
+
+def files_of_forms():
+    """The bytes of files that rows of cmd_tests read, by their names."""
+    made = {f"{name}.updates": spoilt_packets(*told) for name, told in SPOILT_UPDATES.items()}
+    return {**made, "older_first.updates": b"".join(UPDATES["older_first"])}
+
+
 def files():
     """The bytes of each file, by its name."""
     made = {f"{name}.lsas": b"".join(lsas) for name, lsas in {**LSAS, **AREAS, **ISLANDS}.items()}
-    triangle, triangle_packets = b"".join(TRIANGLE), b"".join(TRIANGLE_PACKETS)
+    triangle = b"".join(TRIANGLE)
     for name, places in RENEWED.items():
         made[f"{name}.lsas"] = renewed(spoilt(triangle, *places), (0, 48, 96), 48)
     for name, places in NOT_RENEWED.items():
@@ -234,8 +242,7 @@ def files():
         made[f"{name}.lsas"] = spoilt(LAN_NETWORK, *places)
     for name, packets in UPDATES.items():
         made[f"{name}.updates"] = b"".join(packets)
-    for name, (places, kept) in SPOILT_UPDATES.items():
-        made[f"{name}.updates"] = spoilt(triangle_packets, *places)[:kept]
+    made["another_router_and_area.updates"] = spoilt_packets(*OTHER_FIELDS)
     made["ones.bytes"] = bytes([1] * 4099)
     return {**made, **OF_REPAIRS}
 

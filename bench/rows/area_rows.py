@@ -1,4 +1,4 @@
-"""Compares rows of crates/area_tests with the reference program: areas and what is found in them, islands, profiles, faults of LSAs, texts on floods.
+"""Compares rows of crates/area_tests with the reference program: areas and what is found in them, islands, profiles, faults of LSAs.
 
 usage: python3 -m bench.rows.area_rows --check
 
@@ -7,7 +7,6 @@ What nothing here computes is counted. The status is 1 where something differs.
 import re
 import sys
 
-from bench.reference import certify
 from bench.reference.database import NETWORK, ROUTER, Id, Refused, area_of, newest, read_lsas, text_of
 from bench.reference.island import address_of, island_of, read_profile, supports
 from bench.reference.lsas import spelled
@@ -114,11 +113,6 @@ def lsas_fault(file):
     raise Unknown
 
 
-def lines_of(answer):
-    text = answer.decode() if isinstance(answer, bytes) else answer
-    return text.removesuffix("\n").split("\n") if text else []
-
-
 def answer(call, words):
     files = []
     while words and "." in words[0] and words[0][0].islower() and ":" not in words[0]:
@@ -128,8 +122,6 @@ def answer(call, words):
         return profile_lines(words)
     if call == "lsas":
         return lsas_fault(files[0])
-    if call == "flood":
-        return lines_of(certify.flood(files[0], b"", text(words)))
     if call not in ("area", "find", "named", "island", "numbered"):
         raise Unknown
     area = area_in(files[0])

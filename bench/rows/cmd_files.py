@@ -10,6 +10,7 @@ import struct
 import sys
 
 from bench.reference.lsas import FIRST_SEQUENCE, address, lsa, update
+from bench.rows.area_files import files_of_forms
 from bench.rows.repair_files import FILES_OF_FORMS
 
 HERE = os.path.dirname(os.path.abspath(__file__))
@@ -485,7 +486,14 @@ FILES |= {
     "damaged.updates": changed(changed(packet("1.1.1.1", joined(1, 2, 3)), 27, "02"), 75, "0b"),
 }
 
-FILES |= FILES_OF_FORMS
+FILES |= FILES_OF_FORMS | files_of_forms()
+FILES |= {
+    "another_priority_after_a_comment.profile": b"priority 1.1.1.1 10\n# again\n\npriority\t1.1.1.1  20",
+    "a_carriage_return_too_many.profile": b"no-mrt 1.1.1.1\r\nno-mrt 2.2.2.2\r\r\n",
+    "a_carriage_return_at_the_end.profile": b"no-mrt 1.1.1.1\r",
+    "a_byte_that_is_no_text.profile": b"# \x80 may stand here\nno-mrt 1.1.1.1 \x80\n",
+    "three_faults.profile": b"priority 1.1.1.1 300\nno-mrt\nno-mrt 1.1.1.1 \x80\n",
+}
 
 
 def differences():

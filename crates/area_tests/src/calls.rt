@@ -15,9 +15,7 @@ pub enum Call {
     Install,
     Orders,
     Updates,
-    Deliver,
     Script,
-    Flood,
     Profile,
     Ring,
     Apart,
@@ -35,7 +33,7 @@ pub enum Call {
     Survey,
 }
 
-const CALLS: [(&str, Call); 30] = [
+const CALLS: [(&str, Call); 28] = [
     ("bytes", Call::Bytes),
     ("lsas", Call::Lsas),
     ("copies", Call::Copies),
@@ -48,9 +46,7 @@ const CALLS: [(&str, Call); 30] = [
     ("install", Call::Install),
     ("orders", Call::Orders),
     ("updates", Call::Updates),
-    ("deliver", Call::Deliver),
     ("script", Call::Script),
-    ("flood", Call::Flood),
     ("profile", Call::Profile),
     ("ring", Call::Ring),
     ("apart", Call::Apart),

@@ -5,15 +5,13 @@ ghost use Rattle.std.specs.Prelude.{◌<◌, length};
 use crate::told::{address_at, after, front, spell, text};
 use area_graph::Area;
 use mrt_graph::{Graph, LinkNo, NodeNo};
-use mrt_island::{
-    Island, IslandError, Profile, ProfileError, ProfileKind, find_island, read_profile,
-};
+use mrt_island::{Island, IslandError, Profile, find_island, read_profile};
 use parts_of_tests::Page;
 use std::alloc::Global;
 
 /// `profile ROUTER DATA TEXT..`: what a profile says of a router and of its links with link data.
 pub fn put_profile(alloc: Global, words: &str, page: &mut Page) {
-    if let Some(profile) = profile(alloc, after(words, 2), page) {
+    if let Some(profile) = profile(alloc, after(words, 2)) {
         let (router, data) = (address_at(words, 0), address_at(words, 1));
         page.number("priority ", profile.priority(router) as u64);
         page.truth(" supports ", profile.supports(router));
@@ -22,42 +20,15 @@ pub fn put_profile(alloc: Global, words: &str, page: &mut Page) {
     }
 }
 
-/// The profile that words tell; where they tell none, it says why.
-fn profile(alloc: Global, words: &str, page: &mut Page) -> Option<Profile> {
+/// The profile that words tell, if they tell one.
+fn profile(alloc: Global, words: &str) -> Option<Profile> {
     let text = text(alloc, words);
-    match read_profile(alloc, front(text.bytes())) {
-        Ok(profile) => Some(profile),
-        Err(error) => {
-            put_profile_error(page, error);
-            None
-        }
-    }
-}
-
-fn put_profile_error(page: &mut Page, error: ProfileError) {
-    match error {
-        ProfileError::Fault { line, kind } => {
-            page.put(kind_word(kind));
-            page.number(" in line ", line as u64);
-            page.end();
-        }
-        ProfileError::NoMemory => {}
-    }
-}
-
-fn kind_word(kind: ProfileKind) -> &'static str {
-    match kind {
-        ProfileKind::Bytes => "Bytes",
-        ProfileKind::Words => "Words",
-        ProfileKind::Address => "Address",
-        ProfileKind::Number => "Number",
-        ProfileKind::Repeated => "Repeated",
-    }
+    read_profile(alloc, front(text.bytes())).ok()
 }
 
 /// The island of a router of the area, which the first word names, under the profile of the others.
 pub fn put_island_of(alloc: Global, area: &Area, words: &str, page: &mut Page) {
-    if let Some(profile) = profile(alloc, after(words, 1), page) {
+    if let Some(profile) = profile(alloc, after(words, 1)) {
         match find_island(alloc, area, &profile, address_at(words, 0)) {
             Ok(island) => put_island(page, &island),
             Err(error) => put_error(page, error),

@@ -51,7 +51,7 @@ pub fn put_error(page: &mut Page, error: LsaError) {
     }
 }
 
-pub fn kind_word(kind: LsaKind) -> &'static str {
+fn kind_word(kind: LsaKind) -> &'static str {
     match kind {
         LsaKind::Truncated => "Truncated",
         LsaKind::Length => "Length",

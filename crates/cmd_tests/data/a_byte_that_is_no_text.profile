@@ -1,0 +1,2 @@
+# € may stand here
+no-mrt 1.1.1.1 €

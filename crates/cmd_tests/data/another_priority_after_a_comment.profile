@@ -1,0 +1,4 @@
+priority 1.1.1.1 10
+# again
+
+priority	1.1.1.1  20

@@ -1,0 +1,3 @@
+priority 1.1.1.1 300
+no-mrt
+no-mrt 1.1.1.1 €
