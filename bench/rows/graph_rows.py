@@ -231,23 +231,13 @@ def choosers(island):
                 yield s, t, block, Chooser(order, gadag.role, leads, view, s, t, rows[s][t].tag)
 
 
-def order_choice(island):
-    lines = []
-    for s, t, block, chooser in choosers(island):
-        if len(block.nodes) < len(island.ids):
-            raise Unknown
-        nodes = "".join("-" if failed in (s, t) else chooser.for_node(failed) for failed in sorted(block.nodes))
-        lines.append(f"from {s} to {t} {nodes} {''.join(map(chooser.for_link, sorted(block.links)))}")
-    return lines
-
-
 def order_walks(island):
     count = sum(len(set(block.nodes) - {s, t}) + len(block.links) for s, t, block, _ in choosers(island))
     return [f"{count} of {count} go round"]
 
 
 OF_ISLANDS = {
-    "search": search, "ears": ears, "direct": direct, "spf": spf, "spf_to": spf_to, "near_rows": near_rows, "order_choice": order_choice,
+    "search": search, "ears": ears, "direct": direct, "spf": spf, "spf_to": spf_to, "near_rows": near_rows,
     "order_walks": order_walks, "column_of": columns, "columns": columns,
     "rows_of": lambda island: row_lines(lowpoint.compute(island)),
     "compute": lambda island: cert_lines(island.ids, pairs_of(island), lowpoint.compute(island)),

@@ -21,8 +21,8 @@ class RowsTest(unittest.TestCase):
 
     def test_answers_are_those_of_the_reference_program(self):
         self.assertIn("area_tests: 210 rows, 98 computed, 0 wrong\n", self.check("area_rows"))
-        self.assertIn("graph_tests: 416 rows, 281 computed, 0 wrong\n", self.check("graph_rows"))
-        self.assertIn("cmd_tests: 440 rows, 424 computed, 0 wrong\n", self.check("cmd_rows"))
+        self.assertIn("graph_tests: 401 rows, 279 computed, 0 wrong\n", self.check("graph_rows"))
+        self.assertIn("cmd_tests: 461 rows, 445 computed, 0 wrong\n", self.check("cmd_rows"))
 
 
 if __name__ == "__main__":

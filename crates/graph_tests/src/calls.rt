@@ -33,7 +33,6 @@ pub enum Call {
     PutInSteps,
     PutInStepsFailing,
     Check,
-    ProxyText,
     ProxyRows,
     SoundProxies,
     Next,
@@ -47,11 +46,10 @@ pub enum Call {
     ColumnOf,
     Columns,
     Compute,
-    OrderChoice,
     OrderWalks,
 }
 
-const CALLS: [(&str, Call); 46] = [
+const CALLS: [(&str, Call); 44] = [
     ("number", Call::Number),
     ("address", Call::Address),
     ("lines", Call::Lines),
@@ -82,7 +80,6 @@ const CALLS: [(&str, Call); 46] = [
     ("put_in_steps", Call::PutInSteps),
     ("put_in_steps_failing", Call::PutInStepsFailing),
     ("check", Call::Check),
-    ("proxy_text", Call::ProxyText),
     ("proxy_rows", Call::ProxyRows),
     ("sound_proxies", Call::SoundProxies),
     ("next", Call::Next),
@@ -96,7 +93,6 @@ const CALLS: [(&str, Call); 46] = [
     ("column_of", Call::ColumnOf),
     ("columns", Call::Columns),
     ("compute", Call::Compute),
-    ("order_choice", Call::OrderChoice),
     ("order_walks", Call::OrderWalks),
 ];
 

@@ -3,7 +3,7 @@
 
 use crate::calls::Call;
 use crate::certs::cert_of;
-use crate::proxies::{is_accepted, put_each_two, put_proxy_rows, put_proxy_text};
+use crate::proxies::{is_accepted, put_each_two, put_proxy_rows};
 use crate::told::{graph, node};
 use cert_checker::{Verdict, check};
 use mrt_graph::{CertFile, Graph};
@@ -26,7 +26,6 @@ fn put_judged(alloc: Global, call: Call, g: &Graph, file: &CertFile, words: &str
     match call {
         Call::Check => put_verdict(page, check(g, root, file)),
         _ if !is_accepted(g, root, file) => page.put("not accepted\n"),
-        Call::ProxyText => put_proxy_text(alloc, g, root, &file.cert, words, page),
         Call::ProxyRows => put_proxy_rows(alloc, g, &file.cert, words, page),
         _ => put_each_two(alloc, call, g, &file.cert, page),
     }

@@ -4,7 +4,6 @@ ghost use Rattle.std.specs.Prelude.{◌<◌, length};
 
 use crate::calls::Call;
 use crate::gadags::{put_directions, put_ears};
-use crate::order_colors::put_colors;
 use crate::order_walks::put_walks;
 use crate::paths::put_paths;
 use crate::tables::{put_column_each, put_columns, put_computed, put_near_rows, put_rows};
@@ -48,7 +47,6 @@ fn put_ordered(alloc: Global, call: Call, g: &Graph, root: NodeNo, page: &mut Pa
             Call::Spf | Call::SpfTo => put_paths(alloc, call, g, &d, page),
             Call::RowsOf => put_rows(alloc, g, root, &d, page),
             Call::ColumnOf => put_column_each(alloc, g, root, &d, page),
-            Call::OrderChoice => put_colors(alloc, g, &d, page),
             _ => put_walks(alloc, g, root, &d, page),
         }
     }

@@ -14,7 +14,6 @@ mod gadags;
 mod graphs;
 mod hand_graphs;
 mod island;
-mod order_colors;
 mod order_walks;
 mod paths;
 mod plain;

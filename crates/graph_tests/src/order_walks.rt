@@ -7,10 +7,12 @@ ghost use Rattle.inc_dec_spf.specs.HasDirections.{HasDirections};
 ghost use Rattle.mrt_plain.specs.Within.{AreWithin};
 ghost use Rattle.order_repair.specs.Failed.{IsWithin};
 
-use crate::order_colors::color_of;
-use mrt_graph::{Cert, Directed, Element, Graph, Link, LinkNo, NoMemory, NodeNo};
+use crate::paths::reach_of;
+use inc_dec_spf::Dir;
+use mrt_graph::{Cert, Color, Directed, Element, Graph, Link, LinkNo, NoMemory, NodeNo};
 use mrt_plain::{Course, follow, links_of};
 use mrt_rows::compute;
+use order_repair::order_choice;
 use parts_of_tests::Page;
 use std::alloc::Global;
 
@@ -161,6 +163,25 @@ fn fail(walked: &Walked, s: NodeNo, to: NodeNo, failed: Element, tally: &mut Tal
     if let Ok(true) = goes_round(walked, s, to, failed) {
         tally.round = tally.round.saturating_add(1);
     }
+}
+
+/// The color from one node to another by order, after a failure.
+fn color_of(
+    alloc: Global,
+    g: &Graph,
+    d: &Directed,
+    s: NodeNo,
+    to: NodeNo,
+    failed: Element,
+) -> Result<Color, NoMemory>
+    requires directed { HasDirections g.now d.now }
+    requires source { s < length g.now.ids }
+    requires to { to < length g.now.ids }
+    requires failed { IsWithin g.now failed }
+{
+    let up = reach_of(alloc, g, d, s, Dir::Up)?;
+    let down = reach_of(alloc, g, d, s, Dir::Down)?;
+    Ok(order_choice(g, d, &up, &down, s, to, failed))
 }
 
 /// Whether the walk on the color by order arrives and does not use what has failed.

@@ -1,4 +1,4 @@
-//! Rows for a prefix that is attached to two routers, by an accepted certificate; their text; whether the plain programs find
+//! Rows for a prefix that is attached to two routers, by an accepted certificate; whether the plain programs find
 //! them sound; and where packets on a color go next.
 
 ghost use Rattle.std.specs.Prelude.{◌≢◌, ◌<◌, IsTrue, length};
@@ -12,7 +12,7 @@ use crate::told::two_nodes;
 use cert_checker::{Verdict, check};
 use mrt_graph::{Cert, CertFile, Color, Graph, LinkNo, NodeNo};
 use parts_of_tests::Page;
-use proxy_rows::{Out, ProxyError, ProxyRow, proxy_rows, proxy_text};
+use proxy_rows::{Out, ProxyError, ProxyRow, proxy_rows};
 use std::alloc::Global;
 
 pub fn is_accepted(g: &Graph, root: NodeNo, file: &CertFile) -> bool
@@ -22,28 +22,6 @@ pub fn is_accepted(g: &Graph, root: NodeNo, file: &CertFile) -> bool
     match check(g, root, file) {
         Verdict::Yes => true,
         Verdict::No { .. } => false,
-    }
-}
-
-/// The text on a prefix that is attached to two routers.
-pub fn put_proxy_text(
-    alloc: Global,
-    g: &Graph,
-    root: NodeNo,
-    c: &Cert,
-    words: &str,
-    page: &mut Page,
-)
-    requires accepted { IsAcceptedFor g.now c.now }
-    requires root { root < length g.now.ids }
-{
-    if let Some((a, b)) = two_nodes(words, "a", "b", g.node_count()) {
-        if a != b && root.get() < c.node_count() && c.node(root).order == 1 {
-            match proxy_text(alloc, g, root, c, a, b) {
-                Ok(text) => page.put_bytes(&text),
-                Err(error) => put_error(page, error),
-            }
-        }
     }
 }
 

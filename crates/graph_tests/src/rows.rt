@@ -86,7 +86,6 @@ fn put_of_files<R: Files + AllocGlobal>(
         | Call::ReadInTwo
         | Call::Feed
         | Call::Check
-        | Call::ProxyText
         | Call::ProxyRows
         | Call::SoundProxies
         | Call::Next => certs::put_of_file(rt, alloc, call, words, page),
