@@ -1,5 +1,5 @@
 -- The rows of one node of a certificate, of which all rows are held or those of related nodes.
-use Rattle.std.specs.Prelude.{◌≡◌, ◌<◌, ℕ, List, Option, IfSome, length}
+use Rattle.std.specs.Prelude.{◌≡◌, ◌<◌, ◌-◌, ◌*◌, ℕ, List, Option, IfSome, length}
 use Rattle.std.specs.Option.{option_map}
 use Rattle.mrt_graph.specs.declared.cert.Row.{Row}
 use Rattle.mrt_graph.specs.declared.relatives.BlockPlaces.{BlockPlaces}
@@ -24,8 +24,8 @@ pub record ArePlacesOf (s : ℕ) (places : BlockPlaces) : Type 0 where
   pub node : places.node ≡ s
 
 -- so the node's rows are read from these
-pub record AreNodeRows (c : Certificate) (rows : List Row) (s n : ℕ) (at : Option BlockPlaces) : Type 0 where
+pub record AreNodeRows (c : Certificate) (rows : List Row) (s begin : ℕ) (at : Option BlockPlaces) : Type 0 where
   pub within : s < length c.nodes
-  pub count : n ≡ length c.nodes
+  pub first : begin ≡ s * (length c.nodes - 1)
   pub held : AreHeldRows c rows (option_map (λ p. p.relatives.now) at)
   pub places : IfSome at (ArePlacesOf s)

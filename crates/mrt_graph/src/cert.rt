@@ -333,8 +333,25 @@ pub fn row_place(count: usize, s: NodeNo, t: NodeNo) -> usize
     ensures place { result ≡ place_of_row count s t }
     ensures within { result < count * (count - 1) }
 {
+    first_row(count, s) + column(s, t)
+}
+
+/// Where the rows of `s` begin among those of that many nodes.
+pub(crate) fn first_row(count: usize, s: NodeNo) -> usize
+    requires count { count ≤ 65535 }
+    requires source { s < count }
+    ensures { result ≡ s * (count - 1) }
+{
+    s.get() as usize * (count - 1)
+}
+
+/// The column of `t` among all nodes but `s`.
+pub(crate) fn column(s: NodeNo, t: NodeNo) -> usize
+    requires { s ≢ t }
+    ensures { result ≡ (if nat_lt t s then t else t - 1) }
+{
     let column = if t < s { t.get() } else { t.get() - 1 };
-    s.get() as usize * (count - 1) + column as usize
+    column as usize
 }
 
 /// The node in a column among all nodes but `s`.

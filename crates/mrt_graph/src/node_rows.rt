@@ -1,10 +1,10 @@
 //! The rows of one node, of which what serves for all of them is read once.
 
-ghost use Rattle.std.specs.Prelude.{◌≡◌, ◌≢◌, ◌<◌, IfSome, None, Some, length};
+ghost use Rattle.std.specs.Prelude.{◌≡◌, ◌≢◌, ◌<◌, ◌-◌, ◌*◌, IfSome, None, Some, length};
 ghost use Rattle.std.specs.Option.{option_map};
 ghost use Rattle.mrt_graph.specs.{BlockPlaces.AreBlockPlaces, Certificate.row_of, NodeRows.AreHeldRows, NodeRows.ArePlacesOf};
 
-use crate::cert::{Cert, Row, row_place};
+use crate::cert::{Cert, Row, column, first_row};
 use crate::numbers::NodeNo;
 use crate::relatives::{BlockPlaces, Relatives};
 use std::marker::Model;
@@ -16,7 +16,7 @@ pub struct NodeRows<'a> {
     cert: &'a Cert,
     rows: &'a [Row],
     node: NodeNo,
-    count: usize,
+    first: usize,
     places: Option<BlockPlaces<'a>>,
 }
 
@@ -27,7 +27,7 @@ impl<'a> Model for NodeRows<'a> {
 
     ghost view = { λ r. record { cert = r.cert.now; node = r.node } };
 
-    ghost invariant = { λ r. AreNodeRows r.cert.now r.rows.now r.node r.count r.places };
+    ghost invariant = { λ r. AreNodeRows r.cert.now r.rows.now r.node r.first r.places };
 }
 
 impl<'a> NodeRows<'a> {
@@ -50,7 +50,7 @@ impl<'a> NodeRows<'a> {
             cert,
             rows,
             node,
-            count: cert.nodes().len(),
+            first: first_row(cert.nodes().len(), node),
             places: places_in(relatives, node),
         }
     }
@@ -64,7 +64,7 @@ impl<'a> NodeRows<'a> {
         ensures within { IsCertRow (length self.now.cert.links) result }
     {
         match &self.places {
-            None => row_among(self.cert, self.rows, self.count, self.node, t),
+            None => row_among(self.cert, self.rows, self.first, self.node, t),
             Some(places) => row_by(self.cert, self.rows, places, t),
         }
     }
@@ -82,17 +82,18 @@ fn places_in<'a>(relatives: Option<&'a Relatives>, node: NodeNo) -> Option<Block
     }
 }
 
-/// The row of `s` for `t` among all rows of so many nodes.
+/// The row of `s` for `t` among all rows, of which those of `s` begin there.
 #[inline(always)]
-fn row_among(_cert: &Cert, rows: &[Row], count: usize, s: NodeNo, t: NodeNo) -> Row
+fn row_among(_cert: &Cert, rows: &[Row], first: usize, s: NodeNo, t: NodeNo) -> Row
     requires held { AreHeldRows _cert.now rows.now None }
-    requires count { count ≡ length _cert.now.nodes }
+    requires first { first ≡ s * (length _cert.now.nodes - 1) }
     requires source { s < length _cert.now.nodes }
     requires target { t < length _cert.now.nodes }
     requires different { s ≢ t }
     ensures { row_of _cert.now s t ≡ Some result }
 {
-    rows[row_place(count, s, t)]
+    let place = first + column(s, t);
+    rows[place]
 }
 
 /// The row of the node of these places for `t`.

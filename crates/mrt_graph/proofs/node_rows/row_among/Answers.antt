@@ -1,27 +1,34 @@
-use Rattle.std.proofs.Common.{◌≡◌, ◌<◌, ◌≤◌, ◌*◌, ◌-◌, ◌∙◌, ℕ, length, sym, ap, arith}
+use Rattle.std.proofs.Common.{◌≡◌, ◌<◌, ◌≤◌, ◌+◌, ◌*◌, ◌-◌, ◌∙◌, ℕ, length, sym, ap, arith}
 use Rattle.std.proofs.Math.Nat.{mul-le-mul_right}
 use Rattle.mrt_graph.specs.RowPlace.{place_of_row}
 use Rattle.mrt_graph.proofs.HeldRows.{all_row_is}
+use Rattle.mrt_graph.proofs.RowPlaces.{place_low}
+use Rattle.mrt_graph.proofs.node_rows.row_among.Goals.{After-column}
 use Rattle.mrt_graph.proofs.node_rows.row_among.Goals as goal
 
-pub row_place-requires-clause-count : goal.row_place-requires-clause-count
-row_place-requires-clause-count c = omega (arith, c.requires.count, c.requires.held.kept.0.few_nodes)
+-- it is the place of the row, which is there
+at : (c : After-column) → (c.args.first + c.column.result ≡ place_of_row (length c.args._cert.now.nodes) c.args.s c.args.t)
+    × (c.args.first + c.column.result < length c.args.rows.now) × (length c.args.rows.now ≤ 65535 * 65535)
+at c =
+    let n = length c.args._cert.now.nodes in
+    let same : c.args.first + c.column.result ≡ place_of_row n c.args.s c.args.t = ap (λ (k : ℕ). k + c.column.result) c.requires.first ∙ ap (λ (k : ℕ). c.args.s * (n - 1) + k) c.column.ensures in
+    let is = c.requires.held.kept.0 in
+    let low = place_low n c.args.s c.args.t c.requires.source c.requires.target c.requires.different in
+    let narrow : n * (n - 1) ≤ 65535 * (n - 1) = mul-le-mul_right (n - 1) is.few_nodes in
+    let wide : 65535 * (n - 1) ≤ 65535 * 65535 = omega (arith, is.few_nodes) in
+    (same, omega (arith, same, low, is.a_row_each), omega (arith, is.a_row_each, narrow, wide))
 
-pub bounds-rows-row_place : goal.bounds-rows-row_place
-bounds-rows-row_place c =
-    let many = ap (λ (k : ℕ). k * (k - 1)) c.requires.count ∙ sym c.requires.held.kept.0.a_row_each in
-    omega (arith, c.row_place.ensures.within, many)
+pub overflow_add-place : goal.overflow_add-place
+overflow_add-place c = let there = at (goal.at.overflow_add-place c).After-column in omega (arith, there.1.0, there.1.1)
 
-pub offset_bounds-rows-row_place : goal.offset_bounds-rows-row_place
-offset_bounds-rows-row_place c =
-    let few : c.args.count ≤ 65535 = omega (arith, c.requires.count, c.requires.held.kept.0.few_nodes) in
-    let narrow : c.args.count * (c.args.count - 1) ≤ 65535 * (c.args.count - 1) = mul-le-mul_right (c.args.count - 1) few in
-    let wide : 65535 * (c.args.count - 1) ≤ 65535 * 65535 = omega (arith, few) in
-    omega (arith, c.row_place.ensures.within, narrow, wide)
+pub bounds-rows-place : goal.bounds-rows-place
+bounds-rows-place c = (at (goal.at.bounds-rows-place c).After-column).1.0
+
+pub offset_bounds-rows-place : goal.offset_bounds-rows-place
+offset_bounds-rows-place c = let there = at (goal.at.offset_bounds-rows-place c).After-column in omega (arith, there.1.0, there.1.1)
 
 pub returns : goal.returns
 returns c =
-    let many = ap (λ (k : ℕ). k * (k - 1)) c.requires.count ∙ sym c.requires.held.kept.0.a_row_each in
-    let within : c.row_place.result < length c.args.rows.now = omega (arith, c.row_place.ensures.within, many) in
-    all_row_is c.args._cert.now c.args.rows.now c.args.s c.args.t c.row_place.result c.index-rows-row_place.result c.requires.held c.requires.source c.requires.target c.requires.different
-    (c.row_place.ensures.place ∙ ap (λ (k : ℕ). place_of_row k c.args.s c.args.t) c.requires.count) within c.index-rows-row_place.is
+    let there = at (goal.at.returns c).After-column in
+    all_row_is c.args._cert.now c.args.rows.now c.args.s c.args.t (c.args.first + c.column.result) c.index-rows-place.result c.requires.held c.requires.source c.requires.target c.requires.different
+    there.0 there.1.0 c.index-rows-place.is

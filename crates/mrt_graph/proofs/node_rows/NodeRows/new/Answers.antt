@@ -1,5 +1,6 @@
-use Rattle.std.proofs.Common.{◌≡◌, ◌<◌, ℕ, List, Option, None, Some, length, ap, sym, subst, arith}
+use Rattle.std.proofs.Common.{◌≡◌, ◌∙◌, ◌<◌, ◌-◌, ◌*◌, ℕ, List, Option, None, Some, length, ap, sym, subst, arith}
 use Rattle.std.specs.Option.{IfSome, option_map}
+use Rattle.mrt_graph.specs.declared.cert.CertNode.{CertNode}
 use Rattle.mrt_graph.specs.declared.cert.Row.{Row}
 use Rattle.mrt_graph.specs.Certificate.{Certificate}
 use Rattle.mrt_graph.specs.Kin.{Kin}
@@ -21,7 +22,7 @@ places_in-requires c = in_index (λ r. r.now) c.args.relatives c.args.cert.now c
 pub invariant_of-result : goal.invariant_of-result
 invariant_of-result c = record {
   within = c.requires.node;
-  count = ap length c.nodes.ensures.value;
+  first = c.first_row.ensures ∙ ap (λ (xs : List CertNode). c.args.node * (length xs - 1)) c.nodes.ensures.value;
   held = subst (λ (o : Option Kin). AreHeldRows c.args.cert.now c.args.rows.now o) (sym c.places_in.ensures.index) c.requires.held;
   places = c.places_in.ensures.places;
 }
