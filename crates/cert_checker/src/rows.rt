@@ -186,7 +186,15 @@ fn judge_row<'a>(
         a: s.number.get(),
         b: t.get(),
     };
-    last.kept = Some(first_of(last.kept, fault));
+    keep_first(&mut last.kept, fault);
+}
+
+/// Keeps the first of a fault and of what is kept. It is called, so that what is kept takes no room where rows are read.
+#[inline(never)]
+fn keep_first(kept: &mut Option<Fault>, fault: Fault)
+    ensures { kept.new ≡ Some (first_of kept.old fault) }
+{
+    *kept = Some(first_of(*kept, fault));
 }
 
 /// The first of a fault and of what is kept.

@@ -11,5 +11,5 @@ returns-clause-kept c =
       breaks_tag c.args.g.now c.args.root c.args.c.now c.args.s.now.number c.args.t c.row_for-row.result
           (eqb-false _ _ (sym c.eq.ensures ∙ c.if-eq.false)) c.row_for-row.ensures.value
           _ c.number_of.ensures.number _ _ c.turn_to.ensures.leads c.turn_to-2.ensures.leads (sym c.keeps_rule.ensures ∙ c.if-keeps_rule.false),
-      ap (λ (f : Fault). Some f) (rw (c.get.ensures.value, c.get-2.ensures.value) at c.first_of.ensures),
+      rw (c.get.ensures.value, c.get-2.ensures.value) at c.keep_first.ensures,
     )
