@@ -26,7 +26,6 @@ mod writing;
 pub use cert_reader::CertReader;
 pub use cert_writer::CertWriter;
 pub use error::{CertError, CertFault, CertKind};
-pub use limits::within_limits;
 pub use putting::WritableCert;
 pub use reading::{any_pieces, bytes_are_a_certificate_or_have_a_fault, one_spelling, read_cert};
 pub use writing::write_cert;

@@ -14,6 +14,8 @@ use std::alloc::Global;
 
 /// The certificate file of version 1 or 2 that the bytes spell, all of the bytes.
 ///
+/// The library's `check` calls it; the program reads a file in pieces ([`CertReader`](crate::CertReader)).
+///
 /// It is one pass, that of a [`CertReader`](crate::CertReader). Each list is reserved once, for no more than one part for each
 /// five bytes.
 ///

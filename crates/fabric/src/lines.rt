@@ -14,6 +14,8 @@ use std::alloc::Global;
 use text_parts::put;
 
 /// The line that tells an answer. An area node in the answer is in range.
+///
+/// Tests call it; `trace` and `fabric` put the same line at the end of a text.
 pub fn outcome_line(
     alloc: Global,
     area: &Area,

@@ -15,7 +15,6 @@ mod verdict;
 
 pub use comparing::Compare;
 pub use error::FloodScriptError;
-pub use lines::{push_answer, push_verdict};
 pub use reading::read_flood_script;
 pub use script::{FloodLine, FloodScript};
 pub use script_law::lines_are_a_flood_script_or_have_a_fault;

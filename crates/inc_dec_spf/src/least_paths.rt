@@ -40,6 +40,8 @@ pub fn spf(
 
 /// The least paths to a node from every node with which it has a block of more than one link in common, up or down.
 ///
+/// Tests call it; columns are made for many destinations side by side ([`Tile`](crate::Tile)).
+///
 /// It takes time in proportion to the nodes and the links.
 pub fn spf_to(
     alloc: Global,

@@ -68,6 +68,8 @@ impl Gadag {
     }
 
     /// The nodes, in the order in which they have their turns.
+    ///
+    /// Tests call it; what later steps need of it stands in places and marks.
     pub fn ear_order(&self) -> &[NodeNo]
         ensures { result.now ≡ self.now.order }
     {

@@ -146,6 +146,8 @@ impl Graph {
     }
 
     /// Where a packet for `to` goes from `at` on a color: to the other node of the link that the row of `at` for `to` has.
+    ///
+    /// Tests call it; packets read their rows by `primary_alt::next_hop`.
     pub fn next(&self, c: &Cert, at: NodeNo, to: NodeNo, color: Color) -> NodeNo
         requires nodes { length c.now.nodes ≡ length self.now.ids }
         requires links { length c.now.links ≡ length self.now.links }

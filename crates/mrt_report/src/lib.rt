@@ -19,5 +19,5 @@ pub use line_law::{lines_by_the_rows_for_one_destination, one_line_each};
 pub use making::link_hop;
 pub use primaries::primary_for;
 pub use row::{ArcRepairs, HopTo, TableRow};
-pub use table::{push_table_line, table_head, table_line, table_row};
+pub use table::{table_head, table_line, table_row};
 pub use table_law::{lines_make_the_table, one_row_each, one_table_each};

@@ -101,6 +101,8 @@ impl<'a> RowsOf for ColumnView<'a> {
 
 /// The rows of all nodes for `to`.
 ///
+/// For callers of these crates (docs/LIBRARY.md) and tests; forms make [`RootedColumns`](crate::RootedColumns).
+///
 /// For those of several destinations make [`RootedColumns`](crate::RootedColumns) once.
 pub fn column_of(
     alloc: Global,

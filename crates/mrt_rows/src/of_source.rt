@@ -158,6 +158,8 @@ impl Making {
 
 /// The rows of `source` for all other nodes, by ascending destination.
 ///
+/// For callers of these crates (docs/LIBRARY.md) and tests; `certify` takes [`SourceRows`](crate::SourceRows).
+///
 /// It takes time in proportion to the nodes and the links.
 pub fn rows_of(
     alloc: Global,

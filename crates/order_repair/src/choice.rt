@@ -22,6 +22,8 @@ use mrt_graph::{Color, Directed, Element, Graph, LinkNo, NodeNo, Role, Tag};
 /// head included, or a link of it. The block has more than one link, and `up` and `down` are the hops of `source`. Where
 /// something else has failed, there is no such color, and the answer says nothing.
 ///
+/// For callers of these crates (docs/LIBRARY.md) and tests; `order` goes through each block's nodes and links.
+///
 /// The order numbers and the hops of the source alone tell it; no walk is followed. It takes the same time always, and no
 /// memory.
 pub fn order_choice(

@@ -10,6 +10,8 @@ const RUN: usize = 4096;
 /// The two Fletcher sums of the bytes, each below 255. For each byte the first sum becomes the first sum plus the byte,
 /// then the second becomes the second plus the first, both modulo 255 (RFC 905, annex B).
 ///
+/// Tests that make LSAs call it too.
+///
 /// It takes no memory and reads the bytes once.
 ///
 /// It takes time in proportion to the bytes; one remainder is taken for each 4,096 of them.

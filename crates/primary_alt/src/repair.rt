@@ -11,6 +11,8 @@ use mrt_graph::{Cert, Color, Column, Element, Graph, NodeNo, RowsOf};
 /// The color on which `source` sends a packet for `to` after a failure; None where no color goes round it. A failure
 /// outside the graph is None as `failed`.
 ///
+/// For callers of these crates (docs/LIBRARY.md) and tests; a fabric calls [`alternate_by`].
+///
 /// It follows both color walks, so it takes time in proportion to the nodes at worst.
 pub fn alternate(
     g: &Graph,
@@ -31,6 +33,8 @@ pub fn alternate(
 }
 
 /// The same by the rows of all nodes for `to`, where these are sound.
+///
+/// For callers of these crates (docs/LIBRARY.md) and tests; a fabric calls [`alternate_by`].
 ///
 /// It follows both color walks, so it takes time in proportion to the nodes at worst, and no memory.
 pub fn alternate_on(

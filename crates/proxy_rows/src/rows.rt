@@ -21,6 +21,9 @@ use std::alloc::Global;
 /// Of each node its row for a prefix that two routers, `a` and `b`, are attached to: a named proxy-node (RFC 7811, section
 /// 5). The certificate is accepted for the graph. The rows stand by number of node.
 ///
+/// For callers of these crates (docs/LIBRARY.md) and tests; `proxy` has the rows for one node alone
+/// ([`proxy_rows_at`]).
+///
 /// It takes time in proportion to nodes and links.
 ///
 /// # Errors
