@@ -269,6 +269,13 @@ class Pages(unittest.TestCase):
             items = sections[crate].split(f"**[{module}]")[1].split("\n**[")[0]
             self.assertRegex(items, rf"(?m)^- .*`{re.escape(name)}`", f"{crate} {module}")
 
+    def test_what_no_public_contract_stands_on_is_in_steps(self) -> None:
+        public = set(reference.stood_on(ROOT, self.library))
+        for (crate, module), held in self.library.specs.items():
+            for name in held.lines:
+                private = Name(crate, module, name) not in public
+                self.assertEqual(module.startswith("steps."), private, f"{crate} {module} {name}")
+
 
 class Printed(unittest.TestCase):
     def test_a_law_with_all_below_it(self) -> None:

@@ -8,9 +8,9 @@ use Rattle.mrt_graph.specs.declared.node_id.NodeId.{NodeId}
 use Rattle.ospf_lsa.specs.declared.lsa.Lsa.{Lsa}
 use Rattle.ospf_lsa.specs.declared.lsa.RouterLink.{RouterLink}
 use Rattle.area_graph.specs.Entries.{Entry, entries_of, entries_of_links, entries_of_listed, entry_of_link, entry_of_listed}
-use Rattle.area_graph.specs.NumberedEntries.{by_number, entries_from, numbered_entry}
+use Rattle.area_graph.specs.steps.NumberedEntries.{by_number, entries_from, numbered_entry}
 use Rattle.area_graph.specs.Nodes.{node_of, speakers}
-use Rattle.area_graph.specs.Speaking.{IsSpeakerOf}
+use Rattle.area_graph.specs.steps.Speaking.{IsSpeakerOf}
 use Rattle.area_graph.specs.declared.entry.NumberedEntry.{NumberedEntry}
 use Rattle.area_graph.specs.declared.speaker.Speaker.{Speaker}
 use Rattle.area_graph.proofs.Alongside.{Beside, zip_at, length_zip}

@@ -19,9 +19,9 @@ use Rattle.mrt_graph.proofs.Tallies.{count_is_tally, one_if, tally, tally_filter
 use Rattle.mrt_graph.proofs.Filters.{filter-in_order}
 use Rattle.mrt_graph.proofs.Ties.{nat_tie, then_tie}
 use Rattle.area_graph.specs.declared.entry.NumberedEntry.{NumberedEntry as Entry}
-use Rattle.area_graph.specs.NumberedArcs.{answers, is_arc, arc_cmp, pairing_cmp, arcs_among}
-use Rattle.area_graph.specs.NumberedBonds.{same_entry}
-use Rattle.area_graph.specs.Listed.{AreApart}
+use Rattle.area_graph.specs.steps.NumberedArcs.{answers, is_arc, arc_cmp, pairing_cmp, arcs_among}
+use Rattle.area_graph.specs.steps.NumberedBonds.{same_entry}
+use Rattle.area_graph.specs.steps.Listed.{AreApart}
 
 pub pairing_total : IsTotalOrder pairing_cmp
 pairing_total =

@@ -13,9 +13,9 @@ use Rattle.mrt_graph.proofs.InOrder.{length-in_order}
 use Rattle.mrt_graph.proofs.Members.{Has, has_at, has_filter, has_from_contains}
 use Rattle.mrt_graph.proofs.Tallies.{IsFound, found_at, one_if, position_of_one, tally}
 use Rattle.area_graph.specs.declared.entry.NumberedEntry.{NumberedEntry as Entry}
-use Rattle.area_graph.specs.NumberedArcs.{arc_cmp}
-use Rattle.area_graph.specs.NumberedBonds.{partner, tells_pair, is_single, pairs, singles, bonds, is_of, bond_of}
-use Rattle.area_graph.specs.Pairing.{pairs_upto, bonds_upto}
+use Rattle.area_graph.specs.steps.NumberedArcs.{arc_cmp}
+use Rattle.area_graph.specs.steps.NumberedBonds.{partner, tells_pair, is_single, pairs, singles, bonds, is_of, bond_of}
+use Rattle.area_graph.specs.steps.Pairing.{pairs_upto, bonds_upto}
 use Rattle.area_graph.proofs.Apart.{Once}
 use Rattle.area_graph.proofs.OneBond.{from_tells, not_both, of_either, of_itself, of_no_pair, of_one_bond, of_one_pair, of_partner, tells}
 use Rattle.area_graph.proofs.OrderedMembers.{has_in_order}

@@ -14,15 +14,15 @@ use Rattle.ospf_lsa.specs.declared.lsa.Lsa.{Lsa}
 use Rattle.area_graph.specs.declared.entry.NumberedEntry.{NumberedEntry as Entry}
 use Rattle.area_graph.specs.AreaInvariant.{IsArea}
 use Rattle.area_graph.specs.AreaOf.{area_of}
-use Rattle.area_graph.specs.NumberedArea.{arcs_of, numbered, parts_of}
+use Rattle.area_graph.specs.steps.NumberedArea.{arcs_of, numbered, parts_of}
 use Rattle.area_graph.specs.AreaSize.{IsTooLarge, too_large as error_of}
 use Rattle.area_graph.specs.declared.area_error.AreaError.{AreaError}
 use Rattle.area_graph.specs.declared.area_error.AreaError.TheVariants.{NoMemory}
-use Rattle.area_graph.specs.NumberedArcs.{arc_cmp, arcs_among}
-use Rattle.area_graph.specs.NumberedEntries.{entries}
-use Rattle.area_graph.specs.Listed.{AreEntries}
+use Rattle.area_graph.specs.steps.NumberedArcs.{arc_cmp, arcs_among}
+use Rattle.area_graph.specs.steps.NumberedEntries.{entries}
+use Rattle.area_graph.specs.steps.Listed.{AreEntries}
 use Rattle.area_graph.specs.Nodes.{nodes}
-use Rattle.area_graph.specs.Pairing.{AreOrdered, IsBetween}
+use Rattle.area_graph.specs.steps.Pairing.{AreOrdered, IsBetween}
 use Rattle.area_graph.specs.Parts.{AreaParts}
 use Rattle.area_graph.proofs.Kept.{area_kept}
 use Rattle.area_graph.proofs.ListedByNumber.{area_by_number}

@@ -26,9 +26,9 @@ use Rattle.area_graph.specs.Arcs.{answers, arc_cmp, arcs_among, is_arc, pairing_
 use Rattle.area_graph.specs.Bonds.{are_partners, bond_of, bonds, is_of, pairs, parallels, partner, same_entry, singles, tells_pair, turn_of}
 use Rattle.area_graph.specs.Entries.{Entry}
 use Rattle.mrt_graph.specs.NodeIds.{number_of}
-use Rattle.area_graph.specs.NumberedArcs.{answers as n_answers, arc_cmp as n_arc_cmp, arcs_among as n_arcs_among, is_arc as n_is_arc, pairing_cmp as n_pairing_cmp}
-use Rattle.area_graph.specs.NumberedArea.{arcs_of, bond_by as n_bond_by, bond_from as n_bond_from, bonds_of, numbered}
-use Rattle.area_graph.specs.NumberedBonds.{are_partners as n_are_partners, bond_of as n_bond_of, bonds as n_bonds, is_of as n_is_of, is_single, pairs as n_pairs, partner as n_partner, same_entry as n_same_entry, same_way, singles as n_singles, tells_pair as n_tells_pair, turn_of as n_turn_of}
+use Rattle.area_graph.specs.steps.NumberedArcs.{answers as n_answers, arc_cmp as n_arc_cmp, arcs_among as n_arcs_among, is_arc as n_is_arc, pairing_cmp as n_pairing_cmp}
+use Rattle.area_graph.specs.steps.NumberedArea.{arcs_of, bond_by as n_bond_by, bond_from as n_bond_from, bonds_of, numbered}
+use Rattle.area_graph.specs.steps.NumberedBonds.{are_partners as n_are_partners, bond_of as n_bond_of, bonds as n_bonds, is_of as n_is_of, is_single, pairs as n_pairs, partner as n_partner, same_entry as n_same_entry, same_way, singles as n_singles, tells_pair as n_tells_pair, turn_of as n_turn_of}
 use Rattle.area_graph.proofs.Alongside.{AreBoth, length_zip, zip_any, zip_append, zip_filter, zip_find, zip_in_order, zip_map, zip_place, zip_position}
 use Rattle.mrt_graph.proofs.IdPlaces.{number_found, number_within}
 use Rattle.mrt_graph.proofs.SameIds.{not_one_node, one_node, same_itself}

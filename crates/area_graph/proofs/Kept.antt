@@ -15,11 +15,11 @@ use Rattle.mrt_graph.proofs.Filters.{rises_filter}
 use Rattle.mrt_graph.proofs.Ties.{first_not_lt}
 use Rattle.area_graph.specs.declared.area_types.Bond.{Bond}
 use Rattle.area_graph.specs.declared.entry.NumberedEntry.{NumberedEntry as Entry}
-use Rattle.area_graph.specs.NumberedArcs.{arc_cmp, pairing_cmp, is_arc, arcs_among}
+use Rattle.area_graph.specs.steps.NumberedArcs.{arc_cmp, pairing_cmp, is_arc, arcs_among}
 use Rattle.area_graph.specs.AreaInvariant.{by_tail_cmp, by_nodes_cmp, IsArea}
-use Rattle.area_graph.specs.NumberedArea.{numbered, bond_by, bond_from, arcs_of, bonds_of}
-use Rattle.area_graph.specs.NumberedBonds.{partner, tells_pair, is_single, pairs, singles}
-use Rattle.area_graph.specs.Listed.{IsEntry, AreEntries}
+use Rattle.area_graph.specs.steps.NumberedArea.{numbered, bond_by, bond_from, arcs_of, bonds_of}
+use Rattle.area_graph.specs.steps.NumberedBonds.{partner, tells_pair, is_single, pairs, singles}
+use Rattle.area_graph.specs.steps.Listed.{IsEntry, AreEntries}
 use Rattle.area_graph.proofs.Apart.{arc_total, arcs_apart, once_from_apart, pairing_total}
 use Rattle.area_graph.proofs.OneBond.{single, tells}
 use Rattle.area_graph.proofs.OrderedMembers.{has_in_order}

@@ -11,10 +11,10 @@ use Rattle.mrt_graph.proofs.Tallies.{IsFound, count_is_tally, found_at, position
 use Rattle.area_graph.specs.declared.area_types.Bond.{Bond}
 use Rattle.area_graph.specs.declared.entry.NumberedEntry.{NumberedEntry as Entry}
 use Rattle.area_graph.specs.AreaInvariant.{IsThere, IsBack, IsArc, IsBond, arcs_over, HasArcs}
-use Rattle.area_graph.specs.Listed.{IsEntry}
-use Rattle.area_graph.specs.NumberedArcs.{arc_cmp}
-use Rattle.area_graph.specs.NumberedArea.{numbered, bond_by, bond_from, arcs_of, bonds_of}
-use Rattle.area_graph.specs.NumberedBonds.{partner, bonds, same_entry, is_of, bond_of}
+use Rattle.area_graph.specs.steps.Listed.{IsEntry}
+use Rattle.area_graph.specs.steps.NumberedArcs.{arc_cmp}
+use Rattle.area_graph.specs.steps.NumberedArea.{numbered, bond_by, bond_from, arcs_of, bonds_of}
+use Rattle.area_graph.specs.steps.NumberedBonds.{partner, bonds, same_entry, is_of, bond_of}
 use Rattle.area_graph.proofs.Apart.{Once, count_itself, one_member, same_itself}
 use Rattle.area_graph.proofs.OneBond.{IsLower, IsTeller, all_tell, not_both, of_either, of_itself, of_one_bond, of_partner}
 use Rattle.area_graph.proofs.OrderedMembers.{has_in_order, tally_in_order}

@@ -22,10 +22,10 @@ use Rattle.ospf_lsa.specs.declared.lsa.Lsa.{Lsa}
 use Rattle.ospf_lsa.specs.declared.lsa.RouterLink.{RouterLink}
 use Rattle.lsdb.specs.Installing.{IsKept}
 use Rattle.ospf_lsa.specs.MaxAge.{is_at_max_age}
-use Rattle.area_graph.specs.NumberedBonds.{same_entry}
-use Rattle.area_graph.specs.NumberedEntries.{by_number, entries, entries_from, numbered_entry}
+use Rattle.area_graph.specs.steps.NumberedBonds.{same_entry}
+use Rattle.area_graph.specs.steps.NumberedEntries.{by_number, entries, entries_from, numbered_entry}
 use Rattle.area_graph.specs.Entries.{Entry, entries_of, entries_of_links, entries_of_listed, entry_of_link, far_of}
-use Rattle.area_graph.specs.Listed.{IsEntry, AreEntries}
+use Rattle.area_graph.specs.steps.Listed.{IsEntry, AreEntries}
 use Rattle.area_graph.specs.Nodes.{node_of, live, speaks, speakers, nodes}
 use Rattle.mrt_graph.specs.NodeIds.{router, network, number_of}
 use Rattle.area_graph.specs.declared.entry.NumberedEntry.{NumberedEntry}

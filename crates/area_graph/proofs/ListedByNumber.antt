@@ -18,9 +18,9 @@ use Rattle.area_graph.specs.AreaOf.{area_of}
 use Rattle.area_graph.specs.Entries.{Entry, entries, entries_in, entries_of, entries_of_links, entries_of_listed, far_of}
 use Rattle.area_graph.specs.Nodes.{node_of, nodes, speakers}
 use Rattle.mrt_graph.specs.NodeIds.{number_of}
-use Rattle.area_graph.specs.NumberedArcs.{arcs_among as n_arcs_among}
-use Rattle.area_graph.specs.NumberedArea.{arcs_of, bonds_of}
-use Rattle.area_graph.specs.NumberedEntries.{by_number, entries as n_entries, entries_from}
+use Rattle.area_graph.specs.steps.NumberedArcs.{arcs_among as n_arcs_among}
+use Rattle.area_graph.specs.steps.NumberedArea.{arcs_of, bonds_of}
+use Rattle.area_graph.specs.steps.NumberedEntries.{by_number, entries as n_entries, entries_from}
 use Rattle.area_graph.proofs.Alongside.{zip_append}
 use Rattle.area_graph.proofs.ByNumber.{IsNumbered, IsOfNode, leads_on, area_alike, arcs_alike}
 use Rattle.area_graph.proofs.ListedApart.{StandFrom, stand_from}

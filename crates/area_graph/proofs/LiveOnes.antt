@@ -8,7 +8,7 @@ use Rattle.mrt_graph.specs.declared.node_id.NodeId.{NodeId}
 use Rattle.ospf_lsa.specs.declared.lsa.Lsa.{Lsa}
 use Rattle.ospf_lsa.specs.MaxAge.{is_at_max_age}
 use Rattle.area_graph.specs.Nodes.{node_of, live}
-use Rattle.area_graph.specs.Speaking.{IsSpeakerOf}
+use Rattle.area_graph.specs.steps.Speaking.{IsSpeakerOf}
 use Rattle.area_graph.specs.declared.speaker.Speaker.{Speaker}
 use Rattle.area_graph.proofs.Alongside.{zip_push}
 

@@ -17,9 +17,9 @@ use Rattle.lsdb.proofs.Entered.{distinct_newest}
 use Rattle.area_graph.specs.AreaInvariant.{IsArea}
 use Rattle.area_graph.specs.AreaOf.{area_of}
 use Rattle.area_graph.specs.AreaSize.{IsTooLarge}
-use Rattle.area_graph.specs.NumberedArcs.{arcs_among}
-use Rattle.area_graph.specs.NumberedEntries.{entries}
-use Rattle.area_graph.specs.NumberedArea.{parts_of}
+use Rattle.area_graph.specs.steps.NumberedArcs.{arcs_among}
+use Rattle.area_graph.specs.steps.NumberedEntries.{entries}
+use Rattle.area_graph.specs.steps.NumberedArea.{parts_of}
 use Rattle.area_graph.specs.Nodes.{node_of, live, nodes, speakers, speaks}
 use Rattle.area_graph.specs.Parts.{AreaParts}
 use Rattle.area_graph.proofs.Built.{as_many, is_area, parts_are}

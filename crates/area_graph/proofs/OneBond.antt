@@ -9,8 +9,8 @@ use Rattle.mrt_graph.specs.InOrder.{in_order}
 use Rattle.mrt_graph.proofs.Members.{Has, all_append, all_from_has, has_filter, same_tests}
 use Rattle.mrt_graph.proofs.Tallies.{tally, tally_alike, tally_append, tally_filter, tally_none}
 use Rattle.area_graph.specs.declared.entry.NumberedEntry.{NumberedEntry as Entry}
-use Rattle.area_graph.specs.NumberedArcs.{arc_cmp}
-use Rattle.area_graph.specs.NumberedBonds.{partner, tells_pair, is_single, pairs, singles, bonds, same_entry, is_of}
+use Rattle.area_graph.specs.steps.NumberedArcs.{arc_cmp}
+use Rattle.area_graph.specs.steps.NumberedBonds.{partner, tells_pair, is_single, pairs, singles, bonds, same_entry, is_of}
 use Rattle.area_graph.proofs.Apart.{Once, count_itself, one_member, same_itself}
 use Rattle.area_graph.proofs.OrderedMembers.{has_in_order, tally_in_order}
 use Rattle.area_graph.proofs.Partners.{partner_back, partner_is}

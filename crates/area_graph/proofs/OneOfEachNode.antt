@@ -24,7 +24,7 @@ use Rattle.ospf_lsa.specs.MaxAge.{is_at_max_age}
 use Rattle.lsdb.specs.declared.key.Key.{Key}
 use Rattle.area_graph.specs.Nodes.{node_of, live, is_above, speaks, speakers, nodes}
 use Rattle.mrt_graph.specs.NodeIds.{router, network}
-use Rattle.area_graph.specs.Speaking.{IsSpeakerOf}
+use Rattle.area_graph.specs.steps.Speaking.{IsSpeakerOf}
 use Rattle.area_graph.specs.declared.speaker.Speaker.{Speaker}
 use Rattle.area_graph.proofs.Alongside.{zip_any, zip_filter, zip_map, zip_in_order, zip_distinct}
 use Rattle.area_graph.proofs.Foremost.{is_over, none_over, greatest_first, AreForemost, foremost}

@@ -6,9 +6,9 @@ use Rattle.mrt_graph.proofs.Filters.{all_filter}
 use Rattle.mrt_graph.proofs.InOrder.{all_in_order}
 use Rattle.mrt_graph.proofs.Members.{all_weaker}
 use Rattle.area_graph.specs.declared.entry.NumberedEntry.{NumberedEntry as Entry}
-use Rattle.area_graph.specs.NumberedArcs.{is_arc, pairing_cmp, arcs_among}
-use Rattle.area_graph.specs.Listed.{AreApart, AreEntries, IsEntry}
-use Rattle.area_graph.specs.Pairing.{AreOrdered, IsBetween}
+use Rattle.area_graph.specs.steps.NumberedArcs.{is_arc, pairing_cmp, arcs_among}
+use Rattle.area_graph.specs.steps.Listed.{AreApart, AreEntries, IsEntry}
+use Rattle.area_graph.specs.steps.Pairing.{AreOrdered, IsBetween}
 use Rattle.area_graph.proofs.Apart.{arcs_apart, arcs_sorted}
 
 pub arcs_are_ordered : (all : List Entry) → AreApart all → AreOrdered (arcs_among all)

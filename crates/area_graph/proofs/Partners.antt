@@ -5,8 +5,8 @@ use Rattle.std.proofs.lemmas.Bool.{and_parts, and_from, both_ways, cases_Bool, e
 use Rattle.std.proofs.lemmas.Option.{same_Some}
 use Rattle.mrt_graph.proofs.Members.{Has, filter_has, find_has, find_only, has_at, has_filter}
 use Rattle.area_graph.specs.declared.entry.NumberedEntry.{NumberedEntry as Entry}
-use Rattle.area_graph.specs.NumberedArcs.{answers}
-use Rattle.area_graph.specs.NumberedBonds.{same_entry, same_way, turn_of, are_partners, partner}
+use Rattle.area_graph.specs.steps.NumberedArcs.{answers}
+use Rattle.area_graph.specs.steps.NumberedBonds.{same_entry, same_way, turn_of, are_partners, partner}
 use Rattle.area_graph.proofs.Apart.{Once, one_member, same_itself}
 
 -- arcs of one way

@@ -18,7 +18,7 @@ use Rattle.mrt_graph.proofs.Tallies.{one_if}
 use Rattle.mrt_graph.proofs.Ties.{first_not_lt}
 use Rattle.area_graph.specs.declared.area_types.Arc.{Arc}
 use Rattle.area_graph.specs.AreaInvariant.{by_tail_cmp}
-use Rattle.area_graph.specs.Starts.{AreStarts, below, starts_to}
+use Rattle.area_graph.specs.steps.Starts.{AreStarts, below, starts_to}
 
 by_tail_total : IsTotalOrder by_tail_cmp
 by_tail_total =

@@ -8,9 +8,9 @@ use Rattle.std.proofs.lemmas.List.Sums.{sum_by-cons, length-filter}
 use Rattle.mrt_graph.proofs.Members.{contains_from_has, has_from_contains}
 use Rattle.mrt_graph.proofs.Tallies.{one_if}
 use Rattle.area_graph.specs.declared.entry.NumberedEntry.{NumberedEntry as Entry}
-use Rattle.area_graph.specs.NumberedBonds.{same_way, same_entry, turn_of, partner}
-use Rattle.area_graph.specs.Pairing.{AreOrdered}
-use Rattle.area_graph.specs.Ways.{is_before_way, IsFirstOf}
+use Rattle.area_graph.specs.steps.NumberedBonds.{same_way, same_entry, turn_of, partner}
+use Rattle.area_graph.specs.steps.Pairing.{AreOrdered}
+use Rattle.area_graph.specs.steps.Ways.{is_before_way, IsFirstOf}
 use Rattle.area_graph.proofs.Apart.{once_from_apart, same_from, same_itself, same_parts}
 use Rattle.area_graph.proofs.Partners.{from_one_way, one_more, one_way, only_partner, partner_is}
 use Rattle.area_graph.proofs.Ways.{below_from_true, squeezed, upto_from_false, ways_climb}

@@ -14,8 +14,8 @@ use Rattle.std.proofs.lemmas.Map.Keys.{ge_from_not_lt}
 use Rattle.mrt_graph.proofs.InOrder.{before_ranks, is_before}
 use Rattle.mrt_graph.proofs.Ties.{first_not_lt, second_not_lt}
 use Rattle.area_graph.specs.declared.entry.NumberedEntry.{NumberedEntry as Entry}
-use Rattle.area_graph.specs.NumberedArcs.{answers, is_arc, pairing_cmp}
-use Rattle.area_graph.specs.Ways.{is_before_way, IsFirstOf}
+use Rattle.area_graph.specs.steps.NumberedArcs.{answers, is_arc, pairing_cmp}
+use Rattle.area_graph.specs.steps.Ways.{is_before_way, IsFirstOf}
 use Rattle.area_graph.proofs.Apart.{pairing_total}
 
 -- the way from one node to another does not stand after that of another pair of nodes

@@ -2,9 +2,11 @@
 
 ghost use Rattle.std.specs.Prelude.{◌≡◌, ◌⊎◌, IfOk, IfErr, length};
 ghost use Rattle.std.specs.{List.filter, List.Sorted.IsSorted};
-ghost use Rattle.area_graph.specs.NumberedArcs.{arcs_among, is_arc, pairing_cmp};
+ghost use Rattle.area_graph.specs.steps.NumberedArcs.{arcs_among, is_arc, pairing_cmp};
 ghost use Rattle.mrt_graph.specs.InOrder.{in_order};
-ghost use Rattle.area_graph.specs.{Listed.AreApart, Ways.IsFirstOf, AreaSize.IsTooLarge, AreaSize.TellsTooLarge};
+ghost use Rattle.area_graph.specs.steps.Listed.{AreApart};
+ghost use Rattle.area_graph.specs.steps.Ways.{IsFirstOf};
+ghost use Rattle.area_graph.specs.AreaSize.{IsTooLarge, TellsTooLarge};
 
 use crate::area_error::AreaError;
 use crate::entry::NumberedEntry;

@@ -2,7 +2,8 @@
 
 ghost use Rattle.std.specs.Prelude.{◌≡◌, ◌<◌, ◌==◌};
 ghost use Rattle.std.specs.{List.filter, List.find, Option.option_map, List.Sorted.IsSorted};
-ghost use Rattle.area_graph.specs.{AreaInvariant.by_tail_cmp, Starts.AreStarts};
+ghost use Rattle.area_graph.specs.AreaInvariant.{by_tail_cmp};
+ghost use Rattle.area_graph.specs.steps.Starts.{AreStarts};
 
 use crate::area_types::{Arc, Bond};
 use crate::numbers::{ArcNo, BondNo, Spot};
@@ -36,7 +37,9 @@ impl Drop for Area {
 
 impl Model for Area {
     ghost use Rattle.std.specs.Prelude.{length};
-    ghost use Rattle.area_graph.specs.{AreaInvariant.IsArea, Parts.AreaParts, Starts.AreStarts};
+    ghost use Rattle.area_graph.specs.AreaInvariant.{IsArea};
+    ghost use Rattle.area_graph.specs.Parts.{AreaParts};
+    ghost use Rattle.area_graph.specs.steps.Starts.{AreStarts};
 
     ghost Value = { AreaParts };
 

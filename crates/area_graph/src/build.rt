@@ -3,7 +3,10 @@
 ghost use Rattle.std.specs.Prelude.{◌≡◌, ◌≤◌, ◌⊎◌, None, IfOk, IfErr, length, map};
 ghost use Rattle.std.specs.List.{AllByRecursion};
 ghost use Rattle.lsdb.specs.Conflicts.{least_conflict};
-ghost use Rattle.area_graph.specs.{AreaOf.area_of, NumberedArea.parts_of, AreaInvariant.IsArea, Pairing.AreOrdered, Pairing.IsBetween};
+ghost use Rattle.area_graph.specs.AreaOf.{area_of};
+ghost use Rattle.area_graph.specs.steps.NumberedArea.{parts_of};
+ghost use Rattle.area_graph.specs.AreaInvariant.{IsArea};
+ghost use Rattle.area_graph.specs.steps.Pairing.{AreOrdered, IsBetween};
 ghost use Rattle.area_graph.specs.AreaSize.{IsTooLarge, TellsTooLarge};
 
 use crate::arcs::arcs_by_way;

@@ -4,7 +4,9 @@ ghost use Rattle.std.specs.Prelude.{◌≡◌, IfOk, IfErr};
 ghost use Rattle.std.specs.{List.AllByRecursion, List.Sorted.IsStrictlySortedBy};
 ghost use Rattle.mrt_graph.specs.NodeOrder.{node_id_cmp};
 ghost use Rattle.lsdb.specs.{Installing.IsKept, Keys.AreDistinct};
-ghost use Rattle.area_graph.specs.{NumberedEntries.entries as all_entries, Listed.AreEntries, Nodes.nodes};
+ghost use Rattle.area_graph.specs.steps.NumberedEntries.{entries as all_entries};
+ghost use Rattle.area_graph.specs.steps.Listed.{AreEntries};
+ghost use Rattle.area_graph.specs.Nodes.{nodes};
 
 use crate::area_error::AreaError;
 use crate::entries::entries;

@@ -2,11 +2,11 @@
 
 ghost use Rattle.std.specs.Prelude.{◌≡◌, ◌<◌, ◌≤◌, ◌+◌, ◌++◌, ◌∷◌, [], ℕ, length, map, take, if◌then◌else◌, IfOk, IfErr, OnOk, MatchOption, IfSome, Some, None, slice_index_or};
 ghost use Rattle.std.specs.{List.AllByRecursion, List.position, Option.is_none, Option.unwrap_or};
-ghost use Rattle.area_graph.specs.NumberedArea.{arcs_of, bonds_of, bond_by, bond_from};
-ghost use Rattle.area_graph.specs.NumberedArcs.{arc_cmp};
-ghost use Rattle.area_graph.specs.NumberedBonds.{is_of, pairs, partner};
+ghost use Rattle.area_graph.specs.steps.NumberedArea.{arcs_of, bonds_of, bond_by, bond_from};
+ghost use Rattle.area_graph.specs.steps.NumberedArcs.{arc_cmp};
+ghost use Rattle.area_graph.specs.steps.NumberedBonds.{is_of, pairs, partner};
 ghost use Rattle.mrt_graph.specs.InOrder.{in_order};
-ghost use Rattle.area_graph.specs.Pairing.{AreOrdered, IsBetween, pairs_upto, with_pair};
+ghost use Rattle.area_graph.specs.steps.Pairing.{AreOrdered, IsBetween, pairs_upto, with_pair};
 
 use crate::arcs::first_of;
 use crate::area_error::AreaError;

@@ -6,7 +6,7 @@ ghost use Rattle.mrt_graph.specs.NodeOrder.{node_id_cmp};
 ghost use Rattle.lsdb.specs.{Installing.IsKept, Keys.AreDistinct};
 ghost use Rattle.ospf_lsa.specs.MaxAge.{is_at_max_age};
 ghost use Rattle.area_graph.specs.Nodes.{node_of, live, speakers as all_speakers};
-ghost use Rattle.area_graph.specs.Speaking.{IsSpeakerOf};
+ghost use Rattle.area_graph.specs.steps.Speaking.{IsSpeakerOf};
 
 use crate::area_error::AreaError;
 use crate::speaker::Speaker;

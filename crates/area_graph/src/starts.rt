@@ -2,7 +2,8 @@
 
 ghost use Rattle.std.specs.Prelude.{◌≡◌, ◌<◌, ◌≤◌, ◌+◌, IfOk, IfErr, length};
 ghost use Rattle.std.specs.List.Sorted.{IsSorted};
-ghost use Rattle.area_graph.specs.{AreaInvariant.by_tail_cmp, Starts.AreStarts, Starts.below};
+ghost use Rattle.area_graph.specs.AreaInvariant.{by_tail_cmp};
+ghost use Rattle.area_graph.specs.steps.Starts.{AreStarts, below};
 
 use crate::area_error::AreaError;
 use crate::area_types::Arc;

@@ -14,7 +14,8 @@ use Rattle.mrt_graph.specs.Leads.{leads}
 use Rattle.mrt_graph.specs.Places.{Each, EachPair}
 use Rattle.mrt_graph.specs.Related.{is_common_block}
 use Rattle.mrt_graph.specs.Roles.{is_plain, is_sole, is_closing}
-use Rattle.mrt_graph.specs.RowRules.{above_row, below_row, closing_to_head, head_row, higher_beside, higher_tagged, lies_in_block, lower_beside, lower_tagged, near_row, plain_to_head, row_rule, rows_in_block, rows_tagged, sole_row, top_row, unordered_row}
+use Rattle.mrt_graph.specs.steps.RowRules.{above_row, below_row, head_row, near_row, row_rule, rows_tagged, sole_row, top_row, unordered_row}
+use Rattle.mrt_graph.specs.RowRules.{closing_to_head, higher_beside, higher_tagged, lies_in_block, lower_beside, lower_tagged, plain_to_head, rows_in_block}
 use Rattle.mrt_graph.specs.SameGraph.{SameGraph}
 use Rattle.mrt_graph.specs.Tags.{same_tag}
 use Rattle.mrt_graph.specs.Topology.{Topology}

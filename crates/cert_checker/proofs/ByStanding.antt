@@ -4,7 +4,7 @@ use Rattle.std.specs.List.{list_all}
 use Rattle.std.specs.Option.{option_and_then}
 use Rattle.std.proofs.lemmas.Bool.{and_from, and_parts, cases_Bool, cases_eq, eq-eqb, eqb-false, eqb-true, false≢true, le-leb, ne_eqb, not-true, or_cases, or_left, or_right}
 use Rattle.std.proofs.lemmas.Option.{same_Some, slice_get_within}
-use Rattle.cert_checker.specs.Standing.{BlocksHold, FitsRole, HasOpen, IsOver, NodeFits, across, link_fits, standing}
+use Rattle.cert_checker.specs.steps.Standing.{BlocksHold, FitsRole, HasOpen, IsOver, NodeFits, across, link_fits, standing}
 use Rattle.mrt_graph.specs.declared.cert.CertLink.{CertLink}
 use Rattle.mrt_graph.specs.declared.cert.CertNode.{CertNode}
 use Rattle.mrt_graph.specs.declared.cert.Role.{Role}

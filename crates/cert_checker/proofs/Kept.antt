@@ -2,7 +2,7 @@
 use Rattle.std.proofs.Common.{◌≡◌, ◌⊎◌, ◌∙◌, ◌<◌, ◌≤◌, ◌==◌, ◌&&◌, ◌||◌, ℕ, Bool, true, false, Option, Some, None, nat_lt, inl, inr, sym, subst, arith}
 use Rattle.std.proofs.lemmas.Bool.{and_parts, both_ways, cases_lt, cond_both, eq-eqb, eqb-true, lt-ltb, ltb-true, or_cases, or_left, or_right, and_from}
 use Rattle.cert_checker.specs.declared.fault.Fault.{Fault}
-use Rattle.cert_checker.specs.RowFaults.{FailsFirst, FirstRead, IsAfter, Kept, Precedes, first_of, is_before}
+use Rattle.cert_checker.specs.steps.RowFaults.{FailsFirst, FirstRead, IsAfter, Kept, Precedes, first_of, is_before}
 use Rattle.mrt_graph.specs.Rules.{Rule, rule_number}
 use Rattle.mrt_graph.proofs.RuleFaults.{one_rule}
 

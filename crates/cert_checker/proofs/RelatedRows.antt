@@ -6,14 +6,14 @@ use Rattle.std.proofs.lemmas.Bool.{cases_Bool, cases_eq, eq-eqb, eqb-true, false
 use Rattle.std.proofs.lemmas.List.{take_more}
 use Rattle.std.proofs.lemmas.Option.{get_or_from_slice_get, slice_get_within}
 use Rattle.cert_checker.specs.declared.fault.Fault.{Fault}
-use Rattle.cert_checker.specs.RowFaults.{AndSome, Before, IsAfter, Kept, row_test}
+use Rattle.cert_checker.specs.steps.RowFaults.{AndSome, Before, IsAfter, Kept, row_test}
 use Rattle.mrt_graph.specs.Certificate.{Certificate, row_of}
 use Rattle.mrt_graph.specs.CertWords.{head_of}
 use Rattle.mrt_graph.specs.Foldable.{IsFoldable}
 use Rattle.mrt_graph.specs.Groups.{with_key}
 use Rattle.mrt_graph.specs.Kin.{IsUpper, Kin, is_upper, kin_of}
 use Rattle.mrt_graph.specs.Related.{are_unrelated}
-use Rattle.mrt_graph.specs.RowRules.{row_rule}
+use Rattle.mrt_graph.specs.steps.RowRules.{row_rule}
 use Rattle.mrt_graph.specs.Rules.{Rule, TagRule}
 use Rattle.mrt_graph.specs.Tags.{same_tag}
 use Rattle.mrt_graph.specs.Topology.{Topology}

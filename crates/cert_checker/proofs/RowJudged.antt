@@ -2,14 +2,14 @@
 use Rattle.std.proofs.Common.{◌≡◌, ◌≢◌, ◌<◌, ◌+◌, ◌∙◌, ◌||◌, ℕ, Bool, true, false, not, Option, Some, refl, sym, ap, subst, inl, inr, arith}
 use Rattle.std.proofs.lemmas.Bool.{cases_Bool, ne_eqb}
 use Rattle.std.specs.Option.{option_map_or}
-use Rattle.cert_checker.specs.RowAt.{rule_by}
-use Rattle.cert_checker.specs.RowFaults.{FailsFirst, row_test}
+use Rattle.cert_checker.specs.steps.RowAt.{rule_by}
+use Rattle.cert_checker.specs.steps.RowFaults.{FailsFirst, row_test}
 use Rattle.mrt_graph.specs.declared.cert.Row.{Row}
 use Rattle.mrt_graph.specs.declared.cert.Tag.{Tag}
 use Rattle.mrt_graph.specs.declared.cert.Tag.TheVariants.{Sole, Head, Top, Below, Above, Unordered, Carried}
 use Rattle.mrt_graph.specs.Certificate.{Certificate, row_of}
 use Rattle.mrt_graph.specs.Leads.{leads}
-use Rattle.mrt_graph.specs.RowRules.{row_rule, rows_tagged}
+use Rattle.mrt_graph.specs.steps.RowRules.{row_rule, rows_tagged}
 use Rattle.mrt_graph.specs.Rules.{Rule, TagRule, rule_number}
 use Rattle.mrt_graph.specs.Tags.{same_tag, tag_number}
 use Rattle.mrt_graph.specs.Topology.{Topology}

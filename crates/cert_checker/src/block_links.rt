@@ -2,7 +2,8 @@
 
 ghost use Rattle.std.specs.Prelude.{◌≡◌, ◌==◌, ◌<◌, ◌&&◌, IsTrue, length, nat_le, not};
 ghost use Rattle.std.specs.List.{list_all};
-ghost use Rattle.cert_checker.specs.{Found.FoundFirst, Standing.BlocksHold};
+ghost use Rattle.cert_checker.specs.steps.Found.{FoundFirst};
+ghost use Rattle.cert_checker.specs.steps.Standing.{BlocksHold};
 ghost use Rattle.mrt_graph.specs.{CertWords.links_of, CertWords.members, Roles.is_closing, Roles.is_sole};
 ghost use Rattle.mrt_graph.specs.HeadsAndBlocks.{
   lone_block,

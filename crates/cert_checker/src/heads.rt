@@ -1,7 +1,7 @@
 //! The third and the fourth rule: heads, and the blocks of links.
 
 ghost use Rattle.std.specs.Prelude.{IsTrue, ◌≡◌, ◌<◌, Some, MatchOption, length};
-ghost use Rattle.cert_checker.specs.Found.{FoundFirst};
+ghost use Rattle.cert_checker.specs.steps.Found.{FoundFirst};
 ghost use Rattle.mrt_graph.specs.HeadsAndBlocks.{HeadFails, HeadFault, HeadHoldsAt, HeadsHold, link_placed, one_head, placed};
 ghost use Rattle.mrt_graph.specs.{Places.EachPair, Related.is_common_block};
 

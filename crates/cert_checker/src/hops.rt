@@ -3,7 +3,7 @@
 
 ghost use Rattle.std.specs.Prelude.{◌≡◌, ◌==◌, ◌<◌, IfSome, false, length};
 ghost use Rattle.std.specs.Option.{option_map, option_map_or};
-ghost use Rattle.cert_checker.specs.KnownNode.{IsHop};
+ghost use Rattle.cert_checker.specs.steps.KnownNode.{IsHop};
 ghost use Rattle.mrt_graph.specs.{Leads.leads, SameGraph.SameCounts};
 
 use crate::known_node::{KnownNode, known_node};
@@ -26,13 +26,7 @@ pub(crate) struct Hops<'a> {
 
 /// Makes it the hop by a link from `s`, which it stays where it has that link. None where the link does not touch `s`.
 #[inline(always)]
-pub(crate) fn turn_to<'a>(
-    g: &Graph,
-    c: &'a Cert,
-    s: NodeNo,
-    hop: &mut Option<Hop<'a>>,
-    e: LinkNo,
-)
+pub(crate) fn turn_to<'a>(g: &Graph, c: &'a Cert, s: NodeNo, hop: &mut Option<Hop<'a>>, e: LinkNo)
     requires counts { SameCounts g.now c.now }
     requires link { e < length c.now.links }
     requires last { IfSome hop.old (λ hop. IsHop g.now c.now s hop) }

@@ -1,7 +1,7 @@
 //! The fourteen rules in their order.
 
 ghost use Rattle.std.specs.Prelude.{◌≡◌, ◌<◌, ◌↔◌, ℕ, length};
-ghost use Rattle.cert_checker.specs.Judged.{Judged};
+ghost use Rattle.cert_checker.specs.steps.Judged.{Judged};
 ghost use Rattle.mrt_graph.specs.{Accepted.Accepted, Certificate.row_of, FirstFault.FirstFault, Sound.Sound};
 
 use crate::block_links::{first_closed_fault, first_lone_fault};

@@ -1,7 +1,7 @@
 //! A node with what the certificate says of it, read once for many rows.
 
 ghost use Rattle.std.specs.Prelude.{◌≡◌, ◌≢◌, ◌<◌, Some, length};
-ghost use Rattle.cert_checker.specs.KnownNode.{IsKnown};
+ghost use Rattle.cert_checker.specs.steps.KnownNode.{IsKnown};
 ghost use Rattle.mrt_graph.specs.{CertWords.tagged, Certificate.IsCertRow, Certificate.row_of};
 
 use crate::row_words::number_of;

@@ -1,22 +1,10 @@
 //! The rules on rows between related nodes, by the nodes to which a row's two links lead.
 
 ghost use Rattle.std.specs.Prelude.{◌≡◌, ◌<◌, length};
-ghost use Rattle.cert_checker.specs.{KnownNode.IsKnown, RowAt.IsNearRowAt};
-ghost use Rattle.mrt_graph.specs.RowRules.{
-  above_row,
-  below_row,
-  closing_to_head,
-  head_row,
-  higher_beside,
-  higher_tagged,
-  lower_beside,
-  lower_tagged,
-  near_row,
-  plain_to_head,
-  sole_row,
-  top_row,
-  unordered_row,
-};
+ghost use Rattle.cert_checker.specs.steps.KnownNode.{IsKnown};
+ghost use Rattle.cert_checker.specs.steps.RowAt.{IsNearRowAt};
+ghost use Rattle.mrt_graph.specs.steps.RowRules.{above_row, below_row, head_row, near_row, sole_row, top_row, unordered_row};
+ghost use Rattle.mrt_graph.specs.RowRules.{closing_to_head, higher_beside, higher_tagged, lower_beside, lower_tagged, plain_to_head};
 
 use crate::known_node::{KnownNode, has_tag};
 use crate::row_words::{is_closing_link, is_plain_link, is_sole_link};

@@ -1,7 +1,7 @@
 //! The second rule: the root stands first, and the order numbers differ.
 
 ghost use Rattle.std.specs.Prelude.{◌≡◌, ◌<◌, IsTrue, length, MatchOption};
-ghost use Rattle.cert_checker.specs.Found.{FoundFirst, FoundPair};
+ghost use Rattle.cert_checker.specs.steps.Found.{FoundFirst, FoundPair};
 ghost use Rattle.mrt_graph.specs.Places.{EachPair};
 ghost use Rattle.mrt_graph.specs.RootAndOrders.{RootAndOrders, OrderFault, root_stands, orders_differ};
 ghost use Rattle.mrt_graph.specs.SameGraph.{SameCounts};

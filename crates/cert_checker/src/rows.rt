@@ -2,8 +2,8 @@
 
 ghost use Rattle.std.specs.Prelude.{◌≡◌, ◌<◌, ◌+◌, ◌++◌, Contains, ℕ, List, IfSome, Some, length, slice_get};
 ghost use Rattle.std.specs.{List.All, Option.option_map, Option.option_to_list};
-ghost use Rattle.cert_checker.specs.KnownNode.{AreHops, IsKnown};
-ghost use Rattle.cert_checker.specs.RowFaults.{AndSome, Before, IsAfter, KeptRows, first_of, is_before, row_test, targets_of};
+ghost use Rattle.cert_checker.specs.steps.KnownNode.{AreHops, IsKnown};
+ghost use Rattle.cert_checker.specs.steps.RowFaults.{AndSome, Before, IsAfter, KeptRows, first_of, is_before, row_test, targets_of};
 ghost use Rattle.mrt_graph.specs.{CertWords.head_of, Foldable.IsFoldable, HeadsAndBlocks.HeadsHold, Kin.kin_of, SameGraph.SameCounts};
 
 use crate::fault::Fault;

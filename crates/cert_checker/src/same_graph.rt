@@ -1,7 +1,7 @@
 //! The first rule: the certificate speaks of this graph.
 
 ghost use Rattle.std.specs.Prelude.{◌≡◌, ◌<◌, length, MatchBool, MatchOption};
-ghost use Rattle.cert_checker.specs.Found.{FoundFirst};
+ghost use Rattle.cert_checker.specs.steps.Found.{FoundFirst};
 ghost use Rattle.mrt_graph.specs.SameGraph.{GraphFault, SameCounts, SameGraph, same_id, same_link, same_node};
 
 use crate::fault_at::FaultAt;

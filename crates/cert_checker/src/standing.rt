@@ -1,8 +1,9 @@
 //! The fifth and the sixth rule in one pass, where they hold.
 
 ghost use Rattle.std.specs.Prelude.{◌≡◌, ◌≢◌, ◌<◌, IfSome, IsTrue, Some, length, true};
-ghost use Rattle.cert_checker.specs.{KnownNode.IsKnown, Standing.BlocksHold};
-ghost use Rattle.cert_checker.specs.Standing.{FitsRole, HasOpen, IsOver, NodeFits, across, link_fits, standing};
+ghost use Rattle.cert_checker.specs.steps.KnownNode.{IsKnown};
+ghost use Rattle.cert_checker.specs.steps.Standing.{BlocksHold};
+ghost use Rattle.cert_checker.specs.steps.Standing.{FitsRole, HasOpen, IsOver, NodeFits, across, link_fits, standing};
 ghost use Rattle.mrt_graph.specs.{HeadsAndBlocks.HeadsHold, SameGraph.SameCounts};
 
 use crate::known_node::{KnownNode, known_node};

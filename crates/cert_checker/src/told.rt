@@ -1,7 +1,7 @@
 //! A table of a number for each key: of all that are told of a key, the last one.
 
 ghost use Rattle.std.specs.Prelude.{◌≡◌, Some};
-ghost use Rattle.cert_checker.specs.Told.{tells};
+ghost use Rattle.cert_checker.specs.steps.Told.{tells};
 
 /// As many keys as serve: the orders of nodes are from 1 to 4,096, and their blocks are below that.
 pub(crate) const KEYS: usize = 4097;

@@ -16,7 +16,7 @@ use Rattle.cert_format.specs.declared.header.Header.{Header}
 use Rattle.cert_format.specs.CertText.{header_text, link_text, node_text, row_text, cert_text}
 use Rattle.cert_format.specs.FirstFault.{fault_in, field_value, first_fault}
 use Rattle.cert_format.specs.Layout.{End, Field, Form, Then, after_nodes, allows, any, collected, exactly, head_place, header_form, known_version, link_form, link_named, node_form, node_named, row_form, row_named, tag, within, after_links}
-use Rattle.cert_format.specs.Reading.{IsFileRow, IsHeader, IsListOf, IsNode, Rest, Took, TookField, rest_of}
+use Rattle.cert_format.specs.steps.Reading.{IsFileRow, IsHeader, IsListOf, IsNode, Rest, Took, TookField, rest_of}
 use Rattle.cert_format.specs.Versions.{most_links, most_nodes, stray_head, row_count, tag_count}
 use Rattle.cert_format.proofs.Fields.{IsWide, wide8, wide16, wide32, took_field}
 use Rattle.cert_format.proofs.Files.{head_fails, heads_pass}
@@ -25,7 +25,7 @@ use Rattle.cert_format.proofs.Lists.{Took-then}
 use Rattle.cert_format.proofs.Parts.{link_read, node_read, row_read, took_as}
 use Rattle.mrt_graph.specs.declared.cert.CertFile.{CertFile}
 use Rattle.cert_format.specs.Limits.{IsCertFile}
-use Rattle.cert_format.specs.Steps.{text_of}
+use Rattle.cert_format.specs.steps.Steps.{text_of}
 use Rattle.cert_format.proofs.Finished.{file_of}
 
 -- what was read at the front, and then bytes in which no field of the form is at fault

@@ -19,7 +19,7 @@ use Rattle.cert_format.specs.CertText.{kind_number, role_number}
 use Rattle.cert_format.specs.Layout.{any, Field, Form, Then, allows}
 use Rattle.cert_format.specs.FirstFault.{field_value, fault_in}
 use Rattle.cert_format.specs.declared.error.CertFault.{CertFault}
-use Rattle.cert_format.specs.Reading.{Rest, Names, Took, TookField, ReadsNumber, ReadsField}
+use Rattle.cert_format.specs.steps.Reading.{Rest, Names, Took, TookField, ReadsNumber, ReadsField}
 
 -- numbers of this width and their bytes
 pub record IsWide (w : Width) : Type 0 where

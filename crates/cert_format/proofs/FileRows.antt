@@ -3,7 +3,8 @@ use Rattle.std.proofs.Common.{◌≡◌, ◌∙◌, ◌==◌, ◌||◌, ◌<◌,
 use Rattle.std.proofs.lemmas.Bool.{cases_Bool, cases_eq, eq-eqb, false≢true, ne_eqb}
 use Rattle.std.proofs.lemmas.List.{same_lists, length-map}
 use Rattle.std.specs.List.{flat_map, AllByRecursion}
-use Rattle.cert_format.specs.CertText.{row_text, row_text_in}
+use Rattle.cert_format.specs.CertText.{row_text}
+use Rattle.cert_format.specs.steps.CertText.{row_text_in}
 use Rattle.std.proofs.lemmas.Option.{get_or_from_slice_get, slice_get-map}
 use Rattle.std.specs.Option.{option_map}
 use Rattle.mrt_graph.specs.declared.cert.CertFile.{CertFile}
@@ -15,7 +16,7 @@ use Rattle.mrt_graph.proofs.RowPlaces.{placed, row_at}
 use Rattle.mrt_graph.proofs.Tallies.{length_is_tally, tally_map}
 use Rattle.mrt_graph.specs.RelatedPairs.{related_pairs, set_marks}
 use Rattle.cert_format.specs.Limits.{IsCertFile, IsOfVersion}
-use Rattle.cert_format.specs.Reading.{IsFileRow}
+use Rattle.cert_format.specs.steps.Reading.{IsFileRow}
 use Rattle.cert_format.specs.Versions.{row_count, rows_in, stands_in, tag_count}
 use Rattle.cert_format.proofs.Fields.{few_tags}
 use Rattle.mrt_graph.proofs.OneUnfolding.{folded_at, near_told}

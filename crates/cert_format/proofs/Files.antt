@@ -12,7 +12,7 @@ use Rattle.cert_format.specs.CertText.{header_text}
 use Rattle.cert_format.specs.Layout.{Form, End, after_links, after_nodes, any, collected, exactly, head_place, known_version, within, header_form, link_form, Fails}
 use Rattle.cert_format.specs.FirstFault.{fault_in}
 use Rattle.cert_format.specs.Limits.{HasNumber, IsCertFile, IsOfVersion}
-use Rattle.cert_format.specs.Reading.{IsFileRow, IsNode, IsHeader}
+use Rattle.cert_format.specs.steps.Reading.{IsFileRow, IsNode, IsHeader}
 use Rattle.cert_format.specs.Versions.{most_links, most_nodes, rows_in, stray_head, tag_count}
 use Rattle.cert_format.proofs.Fields.{wide16, wide32, field_passes}
 use Rattle.cert_format.proofs.FileRows.{file_rows_kept}

@@ -5,7 +5,8 @@ use Rattle.std.proofs.lemmas.Bool.{cases_eq, ne_eqb}
 use Rattle.std.proofs.lemmas.Option.{same_Some}
 use Rattle.mrt_graph.specs.Certificate.{Certificate, IsCertificate, IsCertNode, IsCertLink, IsCertRow, certificate_of}
 use Rattle.mrt_graph.specs.Foldable.{IsFoldable}
-use Rattle.mrt_graph.specs.FoldedRows.{IsFolded, unfolded_rows}
+use Rattle.mrt_graph.specs.FoldedRows.{IsFolded}
+use Rattle.mrt_graph.specs.steps.FoldedRows.{unfolded_rows}
 use Rattle.mrt_graph.specs.Kin.{Kin, kin_of}
 use Rattle.mrt_graph.specs.Tags.{is_near, tag_number}
 use Rattle.mrt_graph.specs.declared.cert.CertNode.{CertNode}
@@ -20,8 +21,8 @@ use Rattle.cert_format.specs.declared.header.Header.{Header}
 use Rattle.cert_format.specs.CertText.{cert_text, header_text, node_text, link_text, row_text, kind_number, role_number}
 use Rattle.cert_format.specs.Folded.{head_fault}
 use Rattle.cert_format.specs.Limits.{HasNumber, IsCertFile, IsOfVersion}
-use Rattle.cert_format.specs.Reading.{IsFileRow, IsNode}
-use Rattle.cert_format.specs.Steps.{AreKnown, AreWhole, Finishes, IsFileOf, Parts, text_of, text_of_header}
+use Rattle.cert_format.specs.steps.Reading.{IsFileRow, IsNode}
+use Rattle.cert_format.specs.steps.Steps.{AreKnown, AreWhole, Finishes, IsFileOf, Parts, text_of, text_of_header}
 use Rattle.cert_format.specs.Stream.{Progress, end_fault}
 use Rattle.cert_format.specs.Versions.{rows_in, tag_count, row_count}
 use Rattle.cert_format.proofs.FileRows.{all_stand, tag_near, file_rows_count}

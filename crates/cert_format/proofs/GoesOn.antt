@@ -18,8 +18,8 @@ use Rattle.cert_format.specs.CertText.{cert_text, header_text, node_text, link_t
 use Rattle.cert_format.specs.Layout.{End, Form, after_links, after_nodes, collected, node_form, link_form, row_form}
 use Rattle.cert_format.specs.FirstFault.{fault_in, first_fault}
 use Rattle.cert_format.specs.Limits.{IsCertFile}
-use Rattle.cert_format.specs.Reading.{IsFileRow, IsHeader, IsListOf, IsNode}
-use Rattle.cert_format.specs.Steps.{AreBelow, AreFirst, AreParts, AreUnder, AreWhole, Parts, text_of, text_of_header}
+use Rattle.cert_format.specs.steps.Reading.{IsFileRow, IsHeader, IsListOf, IsNode}
+use Rattle.cert_format.specs.steps.Steps.{AreBelow, AreFirst, AreParts, AreUnder, AreWhole, Parts, text_of, text_of_header}
 use Rattle.cert_format.specs.Versions.{all_rows, row_count, rows_in, stray_head, tag_count}
 use Rattle.cert_format.proofs.FileRows.{file_rows_count}
 use Rattle.cert_format.proofs.Files.{ended, few_most_links, few_most_nodes, file_header, file_nodes, file_rows, header_passes, heads_pass, links_few, nodes_few, version_heads}

@@ -7,8 +7,8 @@ use Rattle.mrt_graph.proofs.Members.{all_append}
 use Rattle.cert_format.specs.declared.error.CertKind.{CertKind}
 use Rattle.cert_format.specs.Layout.{End, Form, collected}
 use Rattle.cert_format.specs.FirstFault.{fault_in}
-use Rattle.cert_format.specs.Reading.{Rest, Took, TookMore}
-use Rattle.cert_format.specs.Steps.{AreFirst}
+use Rattle.cert_format.specs.steps.Reading.{Rest, Took, TookMore}
+use Rattle.cert_format.specs.steps.Steps.{AreFirst}
 use Rattle.cert_format.proofs.Forms.{Spans}
 
 -- what keeps this is spelled in so many bytes, at most 14, and the form of the part allows its spelling

@@ -12,7 +12,7 @@ use Rattle.mrt_graph.specs.Tags.{tag_number}
 use Rattle.cert_format.specs.CertText.{kind_number, role_number, node_text, link_text, row_text}
 use Rattle.cert_format.specs.Layout.{any, kind_named, link_named, node_named, role_named, row_named, tag_named, within, tag, node_form, link_form, row_form}
 use Rattle.cert_format.specs.FirstFault.{fault_in}
-use Rattle.cert_format.specs.Reading.{IsFileRow, IsNode, ReadsPart, Rest, Took, TookField}
+use Rattle.cert_format.specs.steps.Reading.{IsFileRow, IsNode, ReadsPart, Rest, Took, TookField}
 use Rattle.cert_format.proofs.Fields.{wide8, wide16, wide32, field_passes, few_tags, kind_fits, role_fits}
 use Rattle.cert_format.proofs.Lists.{IsPart, Took-then}
 

@@ -9,7 +9,8 @@ use Rattle.mrt_io.specs.Counts.{Rose, last_count}
 use Rattle.mrt_io.specs.Writing.{Gained, GainedPart}
 use Rattle.mrt_io.specs.declared.device.PutError.{PutError}
 use Rattle.mrt_io.specs.declared.device.PutError.TheVariants.{Failed}
-use Rattle.cert_format.specs.Putting.{IsFailedWithin, IsGiven, Puts, Writer, Wrote, later_error}
+use Rattle.cert_format.specs.steps.Putting.{IsFailedWithin, Wrote, later_error}
+use Rattle.cert_format.specs.Putting.{IsGiven, Puts, Writer}
 
 -- more bytes are held, and the sink is left alone
 pub puts_held : (told : Option (List ℕ)) (was : ℕ) (healthy : ℕ → Type 0) (more : List ℕ) (old new : Writer) → new.version ≡ old.version → new.gone ≡ old.gone → new.held ≡ old.held ++ more

@@ -8,8 +8,8 @@ use Rattle.cert_format.specs.declared.error.CertError.TheVariants as errors
 use Rattle.cert_format.specs.declared.error.CertFault.{CertFault}
 use Rattle.cert_format.specs.declared.error.CertKind.TheVariants.{Truncated}
 use Rattle.cert_format.specs.FirstFault.{first_fault}
-use Rattle.cert_format.specs.Reading.{Rest}
-use Rattle.cert_format.specs.Steps.{AreParts, AreReading, Parts, ReadsOn, TookParts, has_failed, no_parts, progress_by, text_of}
+use Rattle.cert_format.specs.steps.Reading.{Rest}
+use Rattle.cert_format.specs.steps.Steps.{AreParts, AreReading, Parts, ReadsOn, TookParts, has_failed, no_parts, progress_by, text_of}
 use Rattle.cert_format.specs.Stream.{Progress, end_fault, fed, is_cut, seen, if_certain, certain_fault, fed_all}
 use Rattle.cert_format.proofs.GoesOn.{are_under, faultless}
 use Rattle.std.specs.Int.{w32, from_be_bytes}

@@ -18,8 +18,8 @@ use Rattle.cert_format.specs.declared.header.Header.{Header}
 use Rattle.cert_format.specs.CertText.{header_text, node_text, link_text, row_text}
 use Rattle.cert_format.specs.Layout.{End, Form, after_links, after_nodes, cert_form, collected, header_form, node_form, link_form, row_form}
 use Rattle.cert_format.specs.FirstFault.{fault_in, first_fault}
-use Rattle.cert_format.specs.Reading.{Ends, IsFileRow, IsHeader, IsNode, Names, ReadsList, Rest, Took, TookMore}
-use Rattle.cert_format.specs.Steps.{AreBelow, AreFirst, AreKnown, AreParts, AreUnder, AreWhole, Begins, Grew, Knows, Parts, ReadsOn, TookParts, text_of, text_of_header}
+use Rattle.cert_format.specs.steps.Reading.{Ends, IsFileRow, IsHeader, IsNode, Names, ReadsList, Rest, Took, TookMore}
+use Rattle.cert_format.specs.steps.Steps.{AreBelow, AreFirst, AreKnown, AreParts, AreUnder, AreWhole, Begins, Grew, Knows, Parts, ReadsOn, TookParts, text_of, text_of_header}
 use Rattle.cert_format.specs.Stream.{is_cut}
 use Rattle.cert_format.specs.Versions.{row_count, tag_count}
 use Rattle.cert_format.proofs.Files.{head_fails, links_few, nodes_few, trailing}

@@ -1,5 +1,5 @@
 -- The bytes of a certificate file. All its numbers are in network order.
-use Rattle.std.specs.Prelude.{ℕ, List, [], ◌++◌, length, codes, if◌then◌else◌}
+use Rattle.std.specs.Prelude.{ℕ, List, ◌++◌, length, codes}
 use Rattle.std.specs.Int.{w8, w16, w32, to_be_bytes}
 use Rattle.std.specs.List.{flat_map}
 use Rattle.mrt_graph.specs.declared.node_id.Kind.{Kind}
@@ -11,7 +11,7 @@ use Rattle.mrt_graph.specs.declared.cert.CertNode.{CertNode}
 use Rattle.mrt_graph.specs.declared.cert.CertLink.{CertLink}
 use Rattle.mrt_graph.specs.declared.cert.CertFile.{CertFile}
 use Rattle.mrt_graph.specs.Tags.{tag_number}
-use Rattle.cert_format.specs.Versions.{rows_in, stands_in}
+use Rattle.cert_format.specs.Versions.{rows_in}
 
 -- the number that spells a kind
 abbrev pub kind_number : Kind → ℕ
@@ -42,10 +42,6 @@ link_text link =
 -- a row: its two links and its tag
 abbrev pub row_text : Row → List ℕ
 row_text row = to_be_bytes w16 row.blue ++ (to_be_bytes w16 row.red ++ to_be_bytes w8 (tag_number row.tag))
-
--- its bytes in a file of this version, where it stands there
-abbrev pub row_text_in : ℕ → Row → List ℕ
-row_text_in version row = if stands_in version row then row_text row else []
 
 -- the header, then the nodes and the links by number, and those rows that stand in a file of this version, by ascending
 -- source, then by ascending destination; of a foldable file these are in version 2 the rows of related nodes

@@ -1,10 +1,8 @@
 -- Which node's head is at fault.
-use Rattle.std.specs.Prelude.{◌≡◌, ◌<◌, ℕ, zero, suc, Bool, List, [], Option, Some, None, not, length, if◌then◌else◌}
-use Rattle.std.specs.List.{slice_index_or}
+use Rattle.std.specs.Prelude.{ℕ, zero, suc, Bool, Option, Some, None, not, length, if◌then◌else◌}
 use Rattle.std.specs.Option.{option_map_or, option_or}
-use Rattle.mrt_graph.specs.Certificate.{Certificate, certificate_of}
-use Rattle.mrt_graph.specs.Foldable.{comes_to, in_chain, is_own_head}
-use Rattle.mrt_graph.specs.declared.cert.CertNode.{CertNode}
+use Rattle.mrt_graph.specs.Certificate.{Certificate}
+use Rattle.mrt_graph.specs.Foldable.{comes_to, is_own_head}
 
 -- the least number below n that passes a test
 abbrev pub least : (ℕ → Bool) → ℕ → Option ℕ
@@ -16,8 +14,3 @@ least test (suc n) = option_or (least test n) (if test n then Some n else None)
 abbrev pub head_fault : Certificate → Option ℕ
 head_fault c =
     option_map_or (λ r. least (λ a. not (comes_to c r a)) (length c.nodes)) (least (is_own_head c) (length c.nodes)) (Some 0)
-
--- of each node the one to which its chain of heads comes after so many steps
-pub record AreEnds (nodes : List CertNode) (steps : ℕ) (ends : List ℕ) : Type 0 where
-  pub many : length ends ≡ length nodes
-  pub each : (v : ℕ) → v < length nodes → in_chain (certificate_of nodes [] []) steps v ≡ Some (slice_index_or ends v 0)

@@ -5,7 +5,6 @@ pub mod Layout
 pub mod Limits
 pub mod Outcome
 pub mod Putting
-pub mod Reading
-pub mod Steps
 pub mod Stream
 pub mod Versions
+pub mod steps

@@ -31,7 +31,8 @@ impl Drop for CertReader {
 }
 
 impl Model for CertReader {
-    ghost use Rattle.cert_format.specs.{Steps.IsReading, Steps.progress_of, Stream.Progress};
+    ghost use Rattle.cert_format.specs.steps.Steps.{IsReading, progress_of};
+    ghost use Rattle.cert_format.specs.Stream.{Progress};
 
     ghost Value = { Progress };
 

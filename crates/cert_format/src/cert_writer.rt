@@ -6,7 +6,8 @@ ghost use Rattle.mrt_io.specs.{Counts.Rose, Writing.Gained, Writing.GainedPart};
 ghost use Rattle.cert_format.specs.{Versions.rows_in};
 ghost use Rattle.cert_format.specs.CertText.{cert_text, header_text, link_text, node_text, row_text};
 ghost use Rattle.cert_format.specs.Limits.{IsOfVersion};
-ghost use Rattle.cert_format.specs.Putting.{IsFailedWithin, IsGiven, IsWritable, Puts, Wrote, later_error, parts_text};
+ghost use Rattle.cert_format.specs.steps.Putting.{IsFailedWithin, IsWritable, Wrote, later_error, parts_text};
+ghost use Rattle.cert_format.specs.Putting.{IsGiven, Puts};
 
 use crate::header::header_bytes;
 use crate::limits::within_limits;

@@ -21,7 +21,7 @@ pub struct Header {
 }
 
 impl Header {
-    ghost use Rattle.cert_format.specs.Reading.{ReadsHeader};
+    ghost use Rattle.cert_format.specs.steps.Reading.{ReadsHeader};
 
     /// The header at the front.
     pub fn read(rest: Rest<'_>) -> Result<(Header, Rest<'_>), CertFault>

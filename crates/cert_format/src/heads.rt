@@ -3,7 +3,8 @@
 ghost use Rattle.std.specs.Prelude.{◌≡◌, ◌==◌, ◌<◌, ◌≤◌, ◌/◌, [], Some, IfOk, length, not, if◌then◌else◌};
 ghost use Rattle.std.specs.List.{AllByRecursion, slice_index_or};
 ghost use Rattle.mrt_graph.specs.{Certificate.IsCertNode, Certificate.certificate_of, CertWords.head_of, Foldable.is_own_head};
-ghost use Rattle.cert_format.specs.Folded.{AreEnds, head_fault, least};
+ghost use Rattle.cert_format.specs.steps.Folded.{AreEnds};
+ghost use Rattle.cert_format.specs.Folded.{head_fault, least};
 
 use mrt_graph::{CertNode, NoMemory};
 use std::alloc::Global;

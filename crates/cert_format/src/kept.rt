@@ -3,8 +3,8 @@
 ghost use Rattle.std.specs.Prelude.{◌≡◌, ◌<◌, ◌≤◌, ◌+◌, ◌-◌, ◌*◌, ◌^◌, ◌++◌, None, Some, length};
 ghost use Rattle.std.specs.List.{AllByRecursion};
 ghost use Rattle.cert_format.specs.Layout.{head_place};
-ghost use Rattle.cert_format.specs.Reading.{IsHeader, IsNode};
-ghost use Rattle.cert_format.specs.Steps.{AreParts, AreWhole, IsFileOf, Knows, ReadsOn, front_of, mark_of, no_parts, parts_of, text_of, text_of_header};
+ghost use Rattle.cert_format.specs.steps.Reading.{IsHeader, IsNode};
+ghost use Rattle.cert_format.specs.steps.Steps.{AreParts, AreWhole, IsFileOf, Knows, ReadsOn, front_of, mark_of, no_parts, parts_of, text_of, text_of_header};
 ghost use Rattle.cert_format.specs.Versions.{all_rows, row_count};
 
 use crate::error::{CertError, CertKind};

@@ -2,7 +2,7 @@
 
 ghost use Rattle.std.specs.Prelude.{◌≡◌, ◌<◌, ◌≤◌, ◌+◌, ◌-◌, ◌*◌, ◌^◌, ◌++◌, length, vec_len, vec_capacity};
 ghost use Rattle.std.specs.List.{flat_map};
-ghost use Rattle.cert_format.specs.Reading.{ReadsList};
+ghost use Rattle.cert_format.specs.steps.Reading.{ReadsList};
 
 use crate::error::CertError;
 use crate::header::Header;

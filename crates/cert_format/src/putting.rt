@@ -25,7 +25,7 @@ impl Drop for WritableCert {
 
 impl Model for WritableCert {
     ghost use Rattle.mrt_graph.specs.declared.cert.CertFile.{CertFile};
-    ghost use Rattle.cert_format.specs.Putting.{IsWritable};
+    ghost use Rattle.cert_format.specs.steps.Putting.{IsWritable};
 
     ghost Value = { CertFile };
 

@@ -13,7 +13,7 @@ pub struct Rest<'a> {
 }
 
 impl<'a> Model for Rest<'a> {
-    ghost use Rattle.cert_format.specs.Reading.{Rest, rest_of};
+    ghost use Rattle.cert_format.specs.steps.Reading.{Rest, rest_of};
 
     ghost Value = { Rest };
 
@@ -22,7 +22,7 @@ impl<'a> Model for Rest<'a> {
 
 impl<'a> Rest<'a> {
     ghost use Rattle.std.specs.Int.{w8, w16, w32};
-    ghost use Rattle.cert_format.specs.Reading.{Ends, ReadsNumber, rest_of};
+    ghost use Rattle.cert_format.specs.steps.Reading.{Ends, ReadsNumber, rest_of};
 
     pub fn new(at: u32, bytes: &'a [u8]) -> Rest<'a>
         ensures { result ≡ rest_of at bytes.now }

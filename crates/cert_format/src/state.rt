@@ -1,8 +1,8 @@
 //! How far a stream is read.
 
 ghost use Rattle.std.specs.Prelude.{◌≡◌, ◌++◌, ◌∷◌, [], Ok, Err, IfErr, OnOk, OnErr, true, false, length};
-ghost use Rattle.cert_format.specs.Steps.{AreParts, Finishes, Grew, IsReading, Parts, ReadsOn, Tells, has_failed, parts_of, progress_of, text_of};
-ghost use Rattle.cert_format.specs.Reading.{rest_of};
+ghost use Rattle.cert_format.specs.steps.Steps.{AreParts, Finishes, Grew, IsReading, Parts, ReadsOn, Tells, has_failed, parts_of, progress_of, text_of};
+ghost use Rattle.cert_format.specs.steps.Reading.{rest_of};
 ghost use Rattle.cert_format.specs.Stream.{fed, is_cut, seen};
 
 use crate::error::{CertError, CertFault, CertKind};

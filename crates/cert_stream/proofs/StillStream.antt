@@ -7,7 +7,7 @@ use Rattle.mrt_rows.specs.CertOf.{IsCertOf}
 use Rattle.mrt_rows.specs.Making.{MakeRows}
 use Rattle.mrt_rows.specs.RowsFound.{RowsFound}
 use Rattle.cert_format.specs.Putting.{Writer}
-use Rattle.cert_stream.specs.Stream.{IsStream}
+use Rattle.cert_stream.specs.steps.Stream.{IsStream}
 
 -- what makes the rows, from the same root, may have found other ones
 pub still_stream : (g : Topology) (number : ℕ) (nodes : List CertNode) (links : List CertLink) (rows after : RowsFound) (writer : Writer)

@@ -8,16 +8,18 @@ use Rattle.mrt_graph.specs.GraphInvariant.{IsTopology}
 use Rattle.mrt_graph.specs.Topology.{Topology}
 use Rattle.mrt_rows.specs.CertOf.{IsCertOf}
 use Rattle.cert_format.specs.CertText.{cert_text, header_text}
-use Rattle.cert_format.specs.Putting.{Writer, parts_text}
+use Rattle.cert_format.specs.Putting.{Writer}
+use Rattle.cert_format.specs.steps.Putting.{parts_text}
 use Rattle.cert_format.specs.Versions.{rows_in, stands_in}
 use Rattle.cert_format.proofs.GoesOn.{few_rows}
 use Rattle.cert_format.proofs.SpellingLength.{spelling_length}
-use Rattle.cert_stream.specs.Stream.{AreOfFile, IsStream}
+use Rattle.cert_stream.specs.steps.Stream.{AreOfFile, IsStream}
 use Rattle.std.specs.List.{AllByRecursion}
 use Rattle.mrt_graph.specs.Certificate.{IsCertificate}
 use Rattle.mrt_graph.proofs.Folding.{accepted_folds}
 use Rattle.mrt_rows.specs.RowsFound.{RowsFound}
-use Rattle.mrt_rows.specs.RowsOf.{AreAllRows, HasRow, row_among}
+use Rattle.mrt_rows.specs.steps.RowsOf.{AreAllRows, row_among}
+use Rattle.mrt_rows.specs.RowsOf.{HasRow}
 use Rattle.mrt_rows.proofs.CertAccepted.{cert_accepted, ordered_words}
 use Rattle.mrt_rows.proofs.CertMade.{cert_kept}
 use Rattle.mrt_rows.proofs.OrderedGraphs.{OrderedGraph}

@@ -1,3 +1,3 @@
-pub mod Same
-pub mod Stream
 pub mod OfGraph
+pub mod Stream
+pub mod steps

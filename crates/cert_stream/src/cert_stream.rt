@@ -5,7 +5,7 @@ ghost use Rattle.mrt_graph.specs.{declared.cert.CertFile.CertFile, GraphInvarian
 ghost use Rattle.mrt_io.specs.{Counts.Rose, Writing.Gained, Writing.GainedPart};
 ghost use Rattle.mrt_rows.specs.CertOf.{IsCertOf};
 ghost use Rattle.cert_format.specs.{CertText.cert_text, Limits.IsCertFile};
-ghost use Rattle.cert_stream.specs.Same.{HaveSameParts};
+ghost use Rattle.cert_stream.specs.steps.Same.{HaveSameParts};
 
 use crate::numbers::numbers_fit;
 use crate::parts::put_parts;
@@ -46,7 +46,8 @@ impl Drop for CertStream {
 }
 
 impl Model for CertStream {
-    ghost use Rattle.cert_stream.specs.Stream.{IsRootOf, IsStream, Stream};
+    ghost use Rattle.cert_stream.specs.steps.Stream.{IsRootOf, IsStream};
+    ghost use Rattle.cert_stream.specs.Stream.{Stream};
 
     ghost Value = { Stream };
 

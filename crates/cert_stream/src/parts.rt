@@ -3,7 +3,8 @@
 ghost use Rattle.std.specs.Prelude.{◌≡◌, ◌<◌, ◌+◌, ◌^◌, ◌++◌, length};
 ghost use Rattle.mrt_graph.specs.declared.cert.CertFile.{CertFile};
 ghost use Rattle.mrt_rows.specs.{CertOf.IsCertOf, Making.MakeRows};
-ghost use Rattle.cert_format.specs.Putting.{Puts, parts_text};
+ghost use Rattle.cert_format.specs.Putting.{Puts};
+ghost use Rattle.cert_format.specs.steps.Putting.{parts_text};
 
 use crate::rows::put_rows;
 use cert_format::CertWriter;

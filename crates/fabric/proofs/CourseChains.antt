@@ -4,7 +4,7 @@ use Rattle.std.specs.Prelude.{AllPairs, Contains}
 use Rattle.fabric.specs.Course.{KeepsMode, course, is_on_color, is_primary, visits}
 use Rattle.fabric.specs.FabricParts.{ArePartsKept, AreRowsFor, FabricParts}
 use Rattle.fabric.specs.FabricState.{Answer, FabricState, entering, packet_after, start, state_after}
-use Rattle.fabric.specs.KeptState.{IsKeptPacket}
+use Rattle.fabric.specs.steps.KeptState.{IsKeptPacket}
 use Rattle.fabric.specs.Runs.{IsRun}
 use Rattle.fabric.specs.Served.{AreRowsOn}
 use Rattle.fabric.specs.declared.event.Event.{Event}

@@ -9,7 +9,7 @@ use Rattle.fabric.specs.FabricParts.{ArePartsKept, AreRowsFor, FabricParts}
 use Rattle.fabric.specs.FabricState.{entering, packet_after, state_of}
 use Rattle.fabric.specs.Runs.{FabricStep}
 use Rattle.fabric.specs.Handling.{IsHandled}
-use Rattle.fabric.specs.KeptState.{IsKeptPacket, IsKeptState}
+use Rattle.fabric.specs.steps.KeptState.{IsKeptPacket, IsKeptState}
 use Rattle.fabric.specs.declared.event.Event.TheVariants.{Inject}
 use Rattle.fabric.specs.declared.event.Failure.{Failure}
 use Rattle.fabric.specs.declared.event.Outcome.{Outcome}

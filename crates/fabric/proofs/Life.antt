@@ -4,7 +4,7 @@ use Rattle.std.specs.Prelude.{IsSome}
 use Rattle.std.specs.Option.{option_map}
 use Rattle.fabric.specs.FabricParts.{ArePartsKept, FabricParts, element_of, node_at}
 use Rattle.fabric.specs.Causes.{IsCut}
-use Rattle.fabric.specs.KeptState.{IsKeptPacket}
+use Rattle.fabric.specs.steps.KeptState.{IsKeptPacket}
 use Rattle.fabric.specs.PacketHop.{IsColorHop, IsHop}
 use Rattle.fabric.specs.declared.event.Failure.{Failure}
 use Rattle.fabric.specs.declared.next_hop.NextHop.{NextHop}

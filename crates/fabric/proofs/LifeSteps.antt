@@ -7,7 +7,7 @@ use Rattle.fabric.specs.FabricParts.{ArePartsKept, AreRowsFor, FabricParts, elem
 use Rattle.fabric.specs.FabricState.{entering, mode_of, packet_after}
 use Rattle.fabric.specs.Causes.{IsCutOff}
 use Rattle.fabric.specs.Handling.{IsHandled, IsInside, IsRepair}
-use Rattle.fabric.specs.KeptState.{IsKeptPacket}
+use Rattle.fabric.specs.steps.KeptState.{IsKeptPacket}
 use Rattle.fabric.specs.PacketHop.{IsHop}
 use Rattle.fabric.specs.declared.event.Failure.{Failure}
 use Rattle.fabric.specs.declared.event.Outcome.{Outcome}

@@ -5,7 +5,7 @@ use Rattle.fabric.specs.Course.{KeepsMode}
 use Rattle.fabric.specs.FabricParts.{ArePartsKept, AreRowsFor, FabricParts, node_at}
 use Rattle.fabric.specs.FabricState.{packet_after}
 use Rattle.fabric.specs.Handling.{IsHandled, IsInside}
-use Rattle.fabric.specs.KeptState.{IsKeptPacket}
+use Rattle.fabric.specs.steps.KeptState.{IsKeptPacket}
 use Rattle.fabric.specs.OutcomeText.{IsTellable}
 use Rattle.fabric.specs.PacketHop.{IsHop}
 use Rattle.fabric.specs.declared.event.Failure.{Failure}

@@ -7,7 +7,7 @@ use Rattle.std.proofs.lemmas.List.Kept.{AllPairs-cons}
 use Rattle.std.proofs.lemmas.Option.{same_Some}
 use Rattle.fabric.specs.Course.{KeepsMode, is_lost, is_on_color, is_primary, visits}
 use Rattle.fabric.specs.FabricParts.{ArePartsKept, AreRowsFor, FabricParts, node_at}
-use Rattle.fabric.specs.KeptState.{IsKeptPacket}
+use Rattle.fabric.specs.steps.KeptState.{IsKeptPacket}
 use Rattle.fabric.specs.PacketHop.{IsHop}
 use Rattle.fabric.specs.declared.next_hop.NextHop.{NextHop}
 use Rattle.fabric.specs.declared.packet.Mode.{Mode}

@@ -6,7 +6,7 @@ use Rattle.fabric.specs.Course.{steps_of}
 use Rattle.fabric.specs.FabricParts.{ArePartsKept, AreRowsFor, FabricParts}
 use Rattle.fabric.specs.FabricState.{Answer, FabricState, start}
 use Rattle.fabric.specs.Handling.{IsHandled, IsHopOrNone}
-use Rattle.fabric.specs.KeptState.{IsKeptPacket}
+use Rattle.fabric.specs.steps.KeptState.{IsKeptPacket}
 use Rattle.fabric.specs.OutcomeText.{IsTellable}
 use Rattle.fabric.specs.PacketHop.{over_arc}
 use Rattle.fabric.specs.Runs.{IsRun}

@@ -4,10 +4,10 @@ pub mod Course
 pub mod FabricParts
 pub mod FabricState
 pub mod Handling
-pub mod KeptState
 pub mod OutcomeText
 pub mod OwnEvents
 pub mod PacketHop
 pub mod Runs
 pub mod Served
 pub mod Viewed
+pub mod steps

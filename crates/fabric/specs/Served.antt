@@ -1,12 +1,11 @@
 -- The destinations for which a fabric has what it reads, and those for which other rows agree.
-use Rattle.std.specs.Prelude.{◌≡◌, ◌<◌, ⊤, ℕ, Contains, List, Some, length, slice_get}
+use Rattle.std.specs.Prelude.{◌≡◌, ◌<◌, ⊤, ℕ, Contains, List, Some, length}
 use Rattle.fabric_script.specs.declared.entry.Entry.{Entry}
 use Rattle.primary_alt.specs.RouteLists.{HasColumn, RouteLists}
 use Rattle.mrt_graph.specs.Rows.{AreSameFor, Rows}
 use Rattle.fabric.specs.FabricParts.{AreRowsFor, FabricParts, node_at}
 use Rattle.fabric.specs.declared.event.Event.{Event}
 use Rattle.fabric.specs.declared.event.Event.TheVariants.{Fail, Inject, Step}
-use Rattle.fabric.specs.declared.packet.Packet.{Packet}
 
 -- destination t is served: there are rows for it, if it is a node of the island, and primaries, if it is a node of the
 -- area
@@ -23,11 +22,6 @@ abbrev pub IsEventServed : FabricParts → RouteLists → Event → Type 0
 IsEventServed parts routes (Inject at to entry) = IsServedBy parts routes to
 IsEventServed parts routes (Step p) = ⊤
 IsEventServed parts routes (Fail failed) = ⊤
-
--- the destination of each of the packets is served
-abbrev pub ArePacketsServed : FabricParts → RouteLists → List Packet → Type 0
-ArePacketsServed parts routes packets =
-    (p : ℕ) (packet : Packet) → slice_get packets p ≡ Some packet → IsServedBy parts routes packet.to
 
 -- the parts with these rows in place of their own
 abbrev pub with_rows : FabricParts → Rows → FabricParts

@@ -2,7 +2,9 @@
 
 ghost use Rattle.std.specs.Prelude.{◌≡◌, ◌<◌, ◌↔◌, IsTrue, length};
 ghost use Rattle.fabric.specs.Answers.{AreInside, HasElement, IsOpen, MayEnter};
-ghost use Rattle.fabric.specs.{FabricParts.ArePartsKept, FabricState.entering, FabricState.mode_of, Viewed.AreRouted, Viewed.viewed};
+ghost use Rattle.fabric.specs.FabricParts.{ArePartsKept};
+ghost use Rattle.fabric.specs.FabricState.{entering, mode_of};
+ghost use Rattle.fabric.specs.steps.Viewed.{AreRouted, viewed};
 
 use crate::event::Failure;
 use crate::island::{is_at_network, node_of};

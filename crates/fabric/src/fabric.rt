@@ -39,8 +39,12 @@ impl<R: RowsOf> Drop for Fabric<'_, R> {
 
 impl<'a, R: RowsOf> Model for Fabric<'a, R> {
     ghost use Rattle.std.specs.Prelude.{◌≤◌, vec_capacity};
-    ghost use Rattle.fabric.specs.{FabricParts.ArePartsKept, FabricState.state_of, KeptState.IsKeptState, Served.ArePacketsServed};
-    ghost use Rattle.fabric.specs.Viewed.{AreRouted, FabricSeen, tables_of, viewed};
+    ghost use Rattle.fabric.specs.FabricParts.{ArePartsKept};
+    ghost use Rattle.fabric.specs.FabricState.{state_of};
+    ghost use Rattle.fabric.specs.steps.KeptState.{IsKeptState};
+    ghost use Rattle.fabric.specs.steps.Served.{ArePacketsServed};
+    ghost use Rattle.fabric.specs.steps.Viewed.{AreRouted, tables_of, viewed};
+    ghost use Rattle.fabric.specs.Viewed.{FabricSeen};
 
     ghost Value = { FabricSeen R };
 

@@ -1,10 +1,14 @@
 //! What happens to a packet where it is handled once.
 
 ghost use Rattle.std.specs.Prelude.{◌≡◌, Bool, false, Option, Some};
-ghost use Rattle.fabric.specs.{Answers.HasElement, FabricParts.ArePartsKept, KeptState.IsKeptPacket, PacketHop.cuts, Served.IsServedBy};
+ghost use Rattle.fabric.specs.Answers.{HasElement};
+ghost use Rattle.fabric.specs.FabricParts.{ArePartsKept};
+ghost use Rattle.fabric.specs.steps.KeptState.{IsKeptPacket};
+ghost use Rattle.fabric.specs.PacketHop.{cuts};
+ghost use Rattle.fabric.specs.Served.{IsServedBy};
 ghost use Rattle.fabric.specs.declared.event.Failure.{Failure};
 ghost use Rattle.fabric.specs.Handling.{IsHandled, IsRepair, has_failed, repaired, sent};
-ghost use Rattle.fabric.specs.Viewed.{AreRouted, viewed};
+ghost use Rattle.fabric.specs.steps.Viewed.{AreRouted, viewed};
 ghost use Rattle.fabric.specs.declared.packet.Mode.TheVariants as modes;
 ghost use Rattle.fabric.specs.declared.packet.State.TheVariants as states;
 ghost use Rattle.mrt_graph.specs.declared.cert.Color.{Color};

@@ -2,9 +2,12 @@
 
 ghost use Rattle.std.specs.Prelude.{◌≡◌, ◌≢◌, ◌<◌, ◌↔◌, ℕ, IsTrue, IsSome, Some, length, slice_get};
 ghost use Rattle.std.specs.Option.{option_map};
-ghost use Rattle.fabric.specs.{FabricParts.ArePartsKept, FabricParts.node_at, Handling.IsHopOrNone, KeptState.IsKeptPacket, Served.IsServedBy};
+ghost use Rattle.fabric.specs.FabricParts.{ArePartsKept, node_at};
+ghost use Rattle.fabric.specs.Handling.{IsHopOrNone};
+ghost use Rattle.fabric.specs.steps.KeptState.{IsKeptPacket};
+ghost use Rattle.fabric.specs.Served.{IsServedBy};
 ghost use Rattle.fabric.specs.PacketHop.{IsColorHop, hop_over, over_arc};
-ghost use Rattle.fabric.specs.Viewed.{AreRouted, viewed};
+ghost use Rattle.fabric.specs.steps.Viewed.{AreRouted, viewed};
 ghost use Rattle.fabric.specs.declared.packet.Mode.TheVariants as modes;
 ghost use Rattle.fabric.specs.declared.packet.State.TheVariants as states;
 ghost use Rattle.mrt_graph.specs.GraphInvariant.{IsNetwork};

@@ -1,7 +1,8 @@
 //! What the area's nodes and bonds are in the island.
 
 ghost use Rattle.std.specs.Prelude.{◌≡◌, ◌<◌, Some, length};
-ghost use Rattle.fabric.specs.{Answers.HasElement, Viewed.AreRouted, Viewed.viewed};
+ghost use Rattle.fabric.specs.Answers.{HasElement};
+ghost use Rattle.fabric.specs.steps.Viewed.{AreRouted, viewed};
 ghost use Rattle.fabric.specs.FabricParts.{ArePartsKept, element_at, element_of, link_at, node_at};
 ghost use Rattle.fabric.specs.declared.event.Failure.{Failure};
 ghost use Rattle.primary_alt.specs.Offers.{is_network};

@@ -13,7 +13,7 @@ use Rattle.fabric.specs.FabricParts.{FabricParts}
 use Rattle.fabric.specs.FabricState.{Answer, FabricState}
 use Rattle.fabric.specs.Runs.{FabricStep, IsRun}
 use Rattle.fabric.specs.OutcomeText.{answer_line, run_text}
-use Rattle.fabric_runs.specs.Told.{HasLines, IsTold}
+use Rattle.fabric_runs.specs.steps.Told.{HasLines, IsTold}
 
 -- one run after another
 pub run_on : (parts : FabricParts) (old mid new : FabricState) (events more : List Event) (answers others : List Answer)

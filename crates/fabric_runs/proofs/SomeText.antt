@@ -19,7 +19,7 @@ use Rattle.fabric_script.specs.declared.script.Script.{Script}
 use Rattle.fabric_script.specs.declared.trace.Trace.{Trace}
 use Rattle.fabric_runs.specs.NamedEvents.{event_of, spot_of}
 use Rattle.fabric_runs.specs.RunTexts.{IsScriptText, IsTraceText}
-use Rattle.fabric_runs.specs.Told.{IsSteppedOn, IsTold}
+use Rattle.fabric_runs.specs.steps.Told.{IsSteppedOn, IsTold}
 use Rattle.fabric_runs.specs.Trace.{HasEnded, beginning}
 use Rattle.fabric_runs.proofs.RunsOn.{run_on, told_none, told_on, whole_text}
 use Rattle.fabric_runs.proofs.StepsTold.{GoingLaw, HasStepped, ended_at_last, no_steps, one_more, stepped}

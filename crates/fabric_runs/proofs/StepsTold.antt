@@ -17,9 +17,9 @@ use Rattle.fabric.specs.FabricParts.{ArePartsKept, AreRowsFor, FabricParts}
 use Rattle.fabric.specs.FabricState.{Answer, FabricState, start}
 use Rattle.fabric.specs.Runs.{IsRun}
 use Rattle.fabric.specs.Served.{AreRowsOn}
-use Rattle.fabric_runs.specs.Told.{HasLines, IsSteppedOn, IsTold}
+use Rattle.fabric_runs.specs.steps.Told.{HasLines, IsSteppedOn, IsTold}
 use Rattle.fabric_runs.specs.Trace.{HasEnded, IsGoingAfter}
-use Rattle.fabric_runs.specs.Unstepped.{IsUnstepped}
+use Rattle.fabric_runs.specs.steps.Unstepped.{IsUnstepped}
 use Rattle.fabric_runs.proofs.Entered.{then_steps_entered}
 use Rattle.fabric_runs.proofs.RunsOn.{lines_on, one_step_more, run_on}
 

@@ -11,9 +11,9 @@ use Rattle.fabric_script.specs.declared.event.ScriptEvent.TheVariants.{Inject}
 use Rattle.fabric_script.specs.declared.trace.Trace.{Trace}
 use Rattle.fabric_runs.specs.NamedEvents.{event_of, spot_of}
 use Rattle.fabric_runs.specs.RunTexts.{IsTraceText}
-use Rattle.fabric_runs.specs.Told.{IsSteppedOn, IsTold}
+use Rattle.fabric_runs.specs.steps.Told.{IsSteppedOn, IsTold}
 use Rattle.fabric_runs.specs.Trace.{beginning, failures_of}
-use Rattle.fabric_runs.specs.Unstepped.{IsUnstepped}
+use Rattle.fabric_runs.specs.steps.Unstepped.{IsUnstepped}
 use Rattle.fabric_runs.proofs.Entered.{beginning_entered}
 use Rattle.fabric_runs.proofs.RunsOn.{lines_on, run_on, whole_text}
 

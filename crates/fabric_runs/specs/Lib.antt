@@ -1,6 +1,5 @@
 pub mod Destinations
 pub mod NamedEvents
 pub mod RunTexts
-pub mod Told
 pub mod Trace
-pub mod Unstepped
+pub mod steps

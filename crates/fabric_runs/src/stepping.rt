@@ -2,7 +2,9 @@
 
 ghost use Rattle.std.specs.Prelude.{◌≡◌, ◌↔◌, IfOk, IsTrue};
 ghost use Rattle.fabric.specs.{FabricParts.ArePartsKept, Viewed.parts_of};
-ghost use Rattle.fabric_runs.specs.{Told.IsSteppedOn, Trace.HasEnded, Unstepped.IsUnstepped};
+ghost use Rattle.fabric_runs.specs.steps.Told.{IsSteppedOn};
+ghost use Rattle.fabric_runs.specs.Trace.{HasEnded};
+ghost use Rattle.fabric_runs.specs.steps.Unstepped.{IsUnstepped};
 
 use crate::telling::tell_one;
 use area_graph::Area;

@@ -2,7 +2,9 @@
 
 ghost use Rattle.std.specs.Prelude.{◌≡◌, ◌∷◌, [], IfOk, map};
 ghost use Rattle.fabric.specs.{Served.IsEventServed, Served.IsServedBy, Viewed.parts_of};
-ghost use Rattle.fabric_runs.specs.{Destinations.AreServed, NamedEvents.event_of, NamedEvents.spot_of, Told.IsTold};
+ghost use Rattle.fabric_runs.specs.Destinations.{AreServed};
+ghost use Rattle.fabric_runs.specs.NamedEvents.{event_of, spot_of};
+ghost use Rattle.fabric_runs.specs.steps.Told.{IsTold};
 ghost use Rattle.fabric_runs.specs.Trace.{beginning, failures_of};
 
 use crate::of_area::event_of;

@@ -11,7 +11,7 @@ use Rattle.fabric_script.specs.declared.line.Start.{Start}
 use Rattle.fabric_script.specs.declared.script.Script.{Script}
 use Rattle.fabric_script.specs.ScriptFaults.{IsFirstScriptFault, IsScript}
 use Rattle.fabric_script.specs.ScriptLines.{event_in, start_in}
-use Rattle.fabric_script.specs.Taking.{Said, nothing_said, said, script_of, script_rule, wrong}
+use Rattle.fabric_script.specs.steps.Taking.{Said, nothing_said, said, script_of, script_rule, wrong}
 
 -- a script of these parts
 abbrev script_with : ℕ → ℕ → List ScriptEvent → Script

@@ -1,4 +1,4 @@
 pub mod Names
 pub mod ScriptFaults
 pub mod ScriptLines
-pub mod Taking
+pub mod steps

@@ -1,7 +1,7 @@
 //! The lines of a script, taken in one after another.
 
 ghost use Rattle.std.specs.Prelude.{◌≡◌};
-ghost use Rattle.fabric_script.specs.Taking.{nothing_said};
+ghost use Rattle.fabric_script.specs.steps.Taking.{nothing_said};
 
 use crate::event::ScriptEvent;
 use crate::line::{Start, read_event, read_start};
@@ -19,7 +19,7 @@ pub(crate) struct Taken {
 }
 
 impl Model for Taken {
-    ghost use Rattle.fabric_script.specs.Taking.{Said, said};
+    ghost use Rattle.fabric_script.specs.steps.Taking.{Said, said};
 
     ghost Value = { Said };
 
@@ -39,7 +39,7 @@ impl Taken {
 }
 
 impl TakesLines for Taken {
-    ghost use Rattle.fabric_script.specs.Taking.{script_rule};
+    ghost use Rattle.fabric_script.specs.steps.Taking.{script_rule};
 
     type Text = Script;
 

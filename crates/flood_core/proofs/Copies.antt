@@ -14,14 +14,14 @@ use Rattle.lsdb.specs.Installs.{all_installed}
 use Rattle.lsdb.specs.Keys.{key_of, same_key, AreDistinct}
 use Rattle.lsdb.specs.Newest.{IsSettled}
 use Rattle.lsdb.specs.Orders.{newest_in, without_place, HoldTheSame}
-use Rattle.lsdb.specs.Store.{is_entry_of}
+use Rattle.lsdb.specs.steps.Store.{is_entry_of}
 use Rattle.lsdb.proofs.Arrivals.{differ_both}
 use Rattle.lsdb.proofs.Lists.{all_of_list}
 use Rattle.lsdb.proofs.Settling.{no_conflict_settled}
 use Rattle.lsdb.proofs.Stores.{installed_new}
 use Rattle.flood_core.specs.Receiving.{arrived}
 use Rattle.flood_core.specs.Runs.{AreNewestOfTheSame, last_number, numbered}
-use Rattle.flood_core.specs.SharedStore.{IsSharedStore, lsas_in}
+use Rattle.flood_core.specs.steps.SharedStore.{IsSharedStore, lsas_in}
 use Rattle.flood_core.proofs.Numbered.{next_left}
 use Rattle.flood_core.proofs.Stored.{kept_with_place}
 

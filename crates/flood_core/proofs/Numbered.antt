@@ -15,7 +15,7 @@ use Rattle.lsdb.proofs.Ranks.{ranks_total}
 use Rattle.flood_core.specs.declared.held.Held.{Held}
 use Rattle.flood_core.specs.declared.numbered_update.NumberedUpdate.{NumberedUpdate}
 use Rattle.flood_core.specs.declared.update.Update.{Update}
-use Rattle.flood_core.specs.Numbers.{entries_by, entry_in, lsa_in, lsas_by, no_lsa, update_in, AreNumbers}
+use Rattle.flood_core.specs.steps.Numbers.{entries_by, entry_in, lsa_in, lsas_by, no_lsa, update_in, AreNumbers}
 
 -- ---- an LSA and itself
 

@@ -10,9 +10,10 @@ use Rattle.flood_core.specs.declared.answer.Answer.TheVariants as answers
 use Rattle.flood_core.specs.declared.numbered_update.NumberedUpdate.{NumberedUpdate}
 use Rattle.flood_core.specs.declared.receiver.Receiver.{Receiver}
 use Rattle.flood_core.specs.declared.update.Update.{Update}
-use Rattle.flood_core.specs.FloodState.{FloodState, IsFlood, IsRouter}
+use Rattle.flood_core.specs.FloodState.{FloodState}
+use Rattle.flood_core.specs.steps.FloodState.{IsFlood, IsRouter}
 use Rattle.flood_core.specs.FloodStep.{answer_of, delivered, sent_on}
-use Rattle.flood_core.specs.Numbers.{flood_in, lsa_in, lsas_by, router_in, update_in, AreNumbers, IsFloodIn, IsStored}
+use Rattle.flood_core.specs.steps.Numbers.{flood_in, lsa_in, lsas_by, router_in, update_in, AreNumbers, IsFloodIn, IsStored}
 use Rattle.flood_core.specs.Receiving.{after_all, new_router, news, topology, MayFlood}
 use Rattle.flood_core.specs.Routers.{Router}
 use Rattle.flood_core.proofs.Numbered.{all_at}

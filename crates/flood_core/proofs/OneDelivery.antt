@@ -11,7 +11,8 @@ use Rattle.flood_core.specs.declared.answer.Answer.{Answer}
 use Rattle.flood_core.specs.declared.answer.Answer.TheVariants as answers
 use Rattle.flood_core.specs.Routers.{Router}
 use Rattle.flood_core.specs.declared.update.Update.{Update}
-use Rattle.flood_core.specs.FloodState.{FloodState, IsFlood, IsRouter}
+use Rattle.flood_core.specs.FloodState.{FloodState}
+use Rattle.flood_core.specs.steps.FloodState.{IsFlood, IsRouter}
 use Rattle.flood_core.specs.FloodStep.{answer_of, delivered, reached, sent_on}
 use Rattle.ospf_lsa.specs.AreaLsas.{is_area_lsa}
 use Rattle.flood_core.specs.Receiving.{after_all, after_one, is_news, news, topology, MayFlood}

@@ -15,7 +15,7 @@ use Rattle.flood_core.specs.declared.error.UpdateKind.TheVariants as kinds
 use Rattle.flood_core.specs.declared.update.Update.{Update}
 use Rattle.flood_core.specs.PacketFaults.{HasFault, HasFirstFault, HasLsaFault, HasOtherCount, HasOtherHeader, HasShortLength, IsTruncated, order_of}
 use Rattle.flood_core.specs.PacketFields.{ospf_version, link_state_update, version_field, type_field, length_field, router_field, area_field, count_field, lsa_bytes}
-use Rattle.flood_core.specs.Reading.{HasSoundHeader}
+use Rattle.flood_core.specs.steps.Reading.{HasSoundHeader}
 use Rattle.flood_core.specs.Updates.{IsUpdate, placed_from}
 
 -- ---- one reading

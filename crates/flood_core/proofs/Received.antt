@@ -5,7 +5,7 @@ use Rattle.std.proofs.lemmas.List.{append-nil, drop_all, length-map}
 use Rattle.ospf_lsa.specs.declared.lsa.Lsa.{Lsa}
 use Rattle.lsdb.specs.Installing.{IsBehind, IsKept}
 use Rattle.flood_core.specs.declared.receiver.Receiver.{Receiver}
-use Rattle.flood_core.specs.Numbers.{lsa_in, lsas_by, router_in, AreNumbers, IsStored}
+use Rattle.flood_core.specs.steps.Numbers.{lsa_in, lsas_by, router_in, AreNumbers, IsStored}
 use Rattle.flood_core.specs.Receiving.{after_all, news, topology}
 use Rattle.flood_core.proofs.InTurn.{AreInTurn, first_kept, one_more}
 use Rattle.flood_core.proofs.Numbered.{next_left}

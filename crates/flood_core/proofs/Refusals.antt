@@ -14,7 +14,7 @@ use Rattle.flood_core.specs.declared.error.UpdateError.TheVariants.{Fault}
 use Rattle.flood_core.specs.declared.update.Update.{Update}
 use Rattle.flood_core.specs.PacketFaults.{HasFirstFault}
 use Rattle.flood_core.specs.PacketFields.{length_field, lsa_bytes}
-use Rattle.flood_core.specs.Reading.{HasSoundHeader, IsRefused}
+use Rattle.flood_core.specs.steps.Reading.{HasSoundHeader, IsRefused}
 use Rattle.flood_core.specs.UpdateOutcome.{IsFirstUpdateFault}
 use Rattle.flood_core.proofs.OneFile.{IsReadTo, first_found}
 use Rattle.flood_core.proofs.OnePacket.{lsa_refused}

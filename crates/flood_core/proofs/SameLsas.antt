@@ -14,8 +14,8 @@ use Rattle.lsdb.specs.Orders.{without_place}
 use Rattle.lsdb.specs.Rank.{rank_cmp}
 use Rattle.lsdb.proofs.Timeless.{lsa_is}
 use Rattle.flood_core.specs.declared.held.Held.{Held}
-use Rattle.flood_core.specs.Numbers.{entries_by, lsa_in}
-use Rattle.flood_core.specs.SharedStore.{lsas_in}
+use Rattle.flood_core.specs.steps.Numbers.{entries_by, lsa_in}
+use Rattle.flood_core.specs.steps.SharedStore.{lsas_in}
 use Rattle.flood_core.proofs.Numbered.{own_change}
 
 -- ---- two LSAs

@@ -13,13 +13,13 @@ use Rattle.lsdb.specs.declared.key.Key.{Key}
 use Rattle.lsdb.specs.Entries.{Database, Entry}
 use Rattle.lsdb.specs.Installing.{IsBehind, IsKept, change_of, changed, installed}
 use Rattle.lsdb.specs.Keys.{key_of, same_key}
-use Rattle.lsdb.specs.Store.{entries_of, is_entry_of, IsStore}
+use Rattle.lsdb.specs.steps.Store.{entries_of, is_entry_of, IsStore}
 use Rattle.lsdb.proofs.Arrivals.{differ_both}
 use Rattle.lsdb.proofs.Stores.{Found, chosen, found_by_insert, installed_new, installed_there, key_is, lacking, unchosen}
 use Rattle.flood_core.specs.declared.held.Held.{Held}
-use Rattle.flood_core.specs.Numbers.{entries_by, entry_in, lsa_in}
+use Rattle.flood_core.specs.steps.Numbers.{entries_by, entry_in, lsa_in}
 use Rattle.flood_core.specs.Receiving.{arrived}
-use Rattle.flood_core.specs.SharedStore.{IsCounted, IsSharedStore, lsas_in, places_in}
+use Rattle.flood_core.specs.steps.SharedStore.{IsCounted, IsSharedStore, lsas_in, places_in}
 use Rattle.flood_core.proofs.Numbered.{entry_read}
 
 pub entries_of_parts : (es : List Entry) → entries_of (lsas_in es) (places_in es) ≡ es

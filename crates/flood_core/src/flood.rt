@@ -4,7 +4,7 @@ ghost use Rattle.std.specs.Prelude.{◌≡◌, ◌≤◌, ◌<◌, ◌+◌, ◌+
 ghost use Rattle.std.specs.List.{AllByRecursion};
 ghost use Rattle.ospf_lsa.specs.declared.lsa.Lsa.{Lsa};
 ghost use Rattle.flood_core.specs.{FloodStep.answer_of, FloodStep.sent_on, Receiving.new_router};
-ghost use Rattle.flood_core.specs.Numbers.{lsas_by, router_in, update_in, AreNumbers, IsStored};
+ghost use Rattle.flood_core.specs.steps.Numbers.{lsas_by, router_in, update_in, AreNumbers, IsStored};
 
 use crate::answer::Answer;
 use crate::numbered_update::{NumberedUpdate, numbered_updates};
@@ -43,7 +43,8 @@ impl Drop for Flood {
 }
 
 impl Model for Flood {
-    ghost use Rattle.flood_core.specs.{FloodState.FloodState, Numbers.flood_in, Numbers.IsFloodIn};
+    ghost use Rattle.flood_core.specs.FloodState.{FloodState};
+    ghost use Rattle.flood_core.specs.steps.Numbers.{flood_in, IsFloodIn};
 
     ghost Value = { FloodState };
 

@@ -3,7 +3,7 @@
 ghost use Rattle.std.specs.Prelude.{◌≡◌, ◌<◌, ◌-◌, ◌^◌, ℕ, List, None, length};
 ghost use Rattle.ospf_lsa.specs.declared.lsa.Lsa.{Lsa};
 ghost use Rattle.lsdb.specs.Installing.{change_of, changed};
-ghost use Rattle.flood_core.specs.Numbers.{entry_in, lsa_in, noted_in};
+ghost use Rattle.flood_core.specs.steps.Numbers.{entry_in, lsa_in, noted_in};
 ghost use Rattle.flood_core.specs.Receiving.{arrived};
 
 use crate::noted::Noted;

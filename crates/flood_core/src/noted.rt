@@ -16,7 +16,7 @@ pub struct Noted {
 
 impl Model for Noted {
     ghost use Rattle.std.specs.Prelude.{ℕ, Option};
-    ghost use Rattle.flood_core.specs.Noting.{place_in};
+    ghost use Rattle.flood_core.specs.steps.Noting.{place_in};
 
     ghost Value = { Option ℕ };
 

@@ -3,7 +3,7 @@
 ghost use Rattle.std.specs.Prelude.{◌≡◌, ◌++◌, ◌∷◌, ◌-◌, ◌^◌, [], List, IfOk, OnOk, length, map, min, sum_by};
 ghost use Rattle.std.specs.List.{AllByRecursion};
 ghost use Rattle.ospf_lsa.specs.declared.lsa.Lsa.{Lsa};
-ghost use Rattle.flood_core.specs.Numbers.{lsas_by, update_in, AreNumbers};
+ghost use Rattle.flood_core.specs.steps.Numbers.{lsas_by, update_in, AreNumbers};
 
 use crate::update::Update;
 use mrt_graph::NoMemory;

@@ -5,7 +5,7 @@ ghost use Rattle.std.specs.Option.{IfNone};
 ghost use Rattle.ospf_lsa.specs.{declared.error.LsaKind.LsaKind, declared.lsa.Lsa.Lsa, Lsas.AreLsas, LsaText.lsas_text};
 ghost use Rattle.flood_core.specs.{declared.error.UpdateKind.UpdateKind, PacketFaults.HasFirstFault};
 ghost use Rattle.flood_core.specs.{PacketFields.length_field, PacketFields.lsa_bytes, Updates.IsUpdate, Updates.placed_from};
-ghost use Rattle.flood_core.specs.Reading.{AreRead, HasSoundHeader, IsRefused};
+ghost use Rattle.flood_core.specs.steps.Reading.{AreRead, HasSoundHeader, IsRefused};
 
 use crate::error::{UpdateError, UpdateKind};
 use crate::field::{number_16, number_32};

@@ -4,7 +4,7 @@ ghost use Rattle.std.specs.Prelude.{◌≡◌, ◌<◌, ◌+◌, ◌^◌, ◌∷
 ghost use Rattle.std.specs.List.{AllByRecursion};
 ghost use Rattle.ospf_lsa.specs.{declared.lsa.Lsa.Lsa, AreaLsas.is_area_lsa};
 ghost use Rattle.lsdb.specs.Installing.{IsBehind, IsKept};
-ghost use Rattle.flood_core.specs.Numbers.{lsa_in, lsas_by, router_in, AreNumbers, IsStored};
+ghost use Rattle.flood_core.specs.steps.Numbers.{lsa_in, lsas_by, router_in, AreNumbers, IsStored};
 ghost use Rattle.flood_core.specs.Receiving.{after_all, after_one, is_news, new_router, news, topology};
 
 use crate::store::Store;

@@ -2,7 +2,8 @@
 
 ghost use Rattle.std.specs.Prelude.{◌≡◌, ◌↔◌, IsTrue, map};
 ghost use Rattle.lsdb.specs.Orders.{without_place};
-ghost use Rattle.flood_core.specs.{Numbers.entries_by, Numbers.IsStored, SharedStore.lsas_in};
+ghost use Rattle.flood_core.specs.steps.Numbers.{entries_by, IsStored};
+ghost use Rattle.flood_core.specs.steps.SharedStore.{lsas_in};
 
 use crate::store::Store;
 use lsdb::{Change, change_of};

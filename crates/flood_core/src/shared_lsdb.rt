@@ -2,7 +2,7 @@
 
 ghost use Rattle.std.specs.Prelude.{◌≡◌, ◌↔◌, None, IfOk, IsTrue, length, map};
 ghost use Rattle.lsdb.specs.{Conflicts.least_conflict, Orders.without_place};
-ghost use Rattle.flood_core.specs.Numbers.{database_in, IsStored};
+ghost use Rattle.flood_core.specs.steps.Numbers.{database_in, IsStored};
 ghost use Rattle.flood_core.specs.Runs.{AreNewestOfTheSame, last_number, numbered};
 
 use crate::same::hold_the_same;
@@ -23,7 +23,7 @@ pub struct SharedLsdb<'a> {
 
 impl<'a> Model for SharedLsdb<'a> {
     ghost use Rattle.lsdb.specs.Entries.{Database};
-    ghost use Rattle.flood_core.specs.Numbers.{database_in, IsStored};
+    ghost use Rattle.flood_core.specs.steps.Numbers.{database_in, IsStored};
 
     ghost Value = { Database };
 

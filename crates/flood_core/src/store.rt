@@ -5,8 +5,8 @@ ghost use Rattle.ospf_lsa.specs.declared.lsa.Lsa.{Lsa};
 ghost use Rattle.lsdb.specs.{Conflicts.least_conflict, Installs.all_installed};
 ghost use Rattle.lsdb.specs.Installing.{installed, IsBehind, IsKept};
 ghost use Rattle.flood_core.specs.{Databases.after_install, Databases.empty_database, Receiving.arrived, Runs.last_number, Runs.numbered};
-ghost use Rattle.flood_core.specs.SharedStore.{lsas_in};
-ghost use Rattle.flood_core.specs.Numbers.{database_in, entries_by, lsa_in, IsStored};
+ghost use Rattle.flood_core.specs.steps.SharedStore.{lsas_in};
+ghost use Rattle.flood_core.specs.steps.Numbers.{database_in, entries_by, lsa_in, IsStored};
 
 use crate::held::Held;
 use file_key::FileKey;

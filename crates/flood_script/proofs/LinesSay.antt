@@ -14,7 +14,7 @@ use Rattle.flood_script.specs.declared.script.FloodScript.{FloodScript}
 use Rattle.flood_script.specs.Deliveries.{deliveries_in, is_delivery}
 use Rattle.flood_script.specs.FloodLines.{line_in, routers_in}
 use Rattle.flood_script.specs.FloodScripts.{IsAmong, IsFirstFloodFault, IsScript}
-use Rattle.flood_script.specs.Taking.{Said, after_more, flood_rule, may_follow, nothing_said, said, script_of, wrong}
+use Rattle.flood_script.specs.steps.Taking.{Said, after_more, flood_rule, may_follow, nothing_said, said, script_of, wrong}
 
 -- a script of these parts
 abbrev script_with : ℕ → List FloodLine → FloodScript

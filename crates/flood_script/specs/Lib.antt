@@ -1,5 +1,5 @@
 pub mod Deliveries
 pub mod FloodLines
 pub mod FloodScripts
-pub mod Taking
 pub mod FloodTexts
+pub mod steps

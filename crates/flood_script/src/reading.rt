@@ -3,7 +3,9 @@
 ghost use Rattle.std.specs.Prelude.{◌≡◌, ◌≤◌, ℕ, Ok, Err, IfOk, length};
 ghost use Rattle.std.specs.{List.AllByRecursion, Result.result_map_both};
 ghost use Rattle.mrt_graph.specs.TextLines.{text_lines};
-ghost use Rattle.flood_script.specs.{declared.script.FloodScript.FloodScript, Deliveries.deliveries_in, Taking.error_of};
+ghost use Rattle.flood_script.specs.declared.script.FloodScript.{FloodScript};
+ghost use Rattle.flood_script.specs.Deliveries.{deliveries_in};
+ghost use Rattle.flood_script.specs.steps.Taking.{error_of};
 ghost use Rattle.flood_script.specs.FloodScripts.{IsAmong, IsFirstFloodFault, IsScript, OrNoMemory};
 
 use crate::error::FloodScriptError;

@@ -1,7 +1,9 @@
 //! The lines of a script, taken in one after another.
 
 ghost use Rattle.std.specs.Prelude.{◌≡◌, ◌≤◌, ◌++◌, ◌∷◌, [], List};
-ghost use Rattle.flood_script.specs.{declared.script.FloodLine.FloodLine, Deliveries.deliveries_in, Taking.may_follow, Taking.nothing_said};
+ghost use Rattle.flood_script.specs.declared.script.FloodLine.{FloodLine};
+ghost use Rattle.flood_script.specs.Deliveries.{deliveries_in};
+ghost use Rattle.flood_script.specs.steps.Taking.{may_follow, nothing_said};
 
 use crate::line::{read_line, read_routers};
 use crate::script::{FloodLine, FloodScript};
@@ -24,7 +26,8 @@ pub(crate) struct Taken {
 
 impl Model for Taken {
     ghost use Rattle.std.specs.Prelude.{◌≡◌, ◌≤◌};
-    ghost use Rattle.flood_script.specs.{Deliveries.deliveries_in, Taking.Said, Taking.said};
+    ghost use Rattle.flood_script.specs.Deliveries.{deliveries_in};
+    ghost use Rattle.flood_script.specs.steps.Taking.{Said, said};
 
     ghost Value = { Said };
 
@@ -47,7 +50,7 @@ impl Taken {
 }
 
 impl TakesLines for Taken {
-    ghost use Rattle.flood_script.specs.Taking.{flood_rule};
+    ghost use Rattle.flood_script.specs.steps.Taking.{flood_rule};
 
     type Text = FloodScript;
 

@@ -12,7 +12,7 @@ use Rattle.mrt_graph.specs.declared.cert.CertFile.{CertFile}
 use Rattle.mrt_island.specs.declared.setting.Setting.{Setting}
 use Rattle.cert_stream.specs.Stream.{Stream}
 use Rattle.mrt_rows.specs.CertOf.{IsCertOf}
-use Rattle.flood_verdict.specs.Found.{IsFound}
+use Rattle.flood_verdict.specs.steps.Found.{IsFound}
 use Rattle.flood_verdict.specs.Says.{IsIslandCert, Says, Tells, area_in}
 
 -- what is found in one database is there in another one that is settled and has its area

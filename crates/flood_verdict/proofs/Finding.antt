@@ -9,7 +9,7 @@ use Rattle.cert_stream.specs.Stream.{Stream}
 use Rattle.lsdb.specs.Conflicts.{least_conflict}
 use Rattle.lsdb.specs.Entries.{Database}
 use Rattle.mrt_island.specs.declared.setting.Setting.{Setting}
-use Rattle.flood_verdict.specs.Found.{IsFound, IsFoundIn}
+use Rattle.flood_verdict.specs.steps.Found.{IsFound, IsFoundIn}
 use Rattle.flood_verdict.specs.Says.{IsIslandCert, Absent, Unsupported, area_in}
 
 -- it is what is found in its area, where this is within the limits

@@ -1,4 +1,4 @@
-pub mod Says
-pub mod Found
 pub mod Alike
 pub mod OfLsas
+pub mod Says
+pub mod steps

@@ -3,7 +3,8 @@
 ghost use Rattle.std.specs.Prelude.{◌≡◌, ◌⊎◌, None, IfOk, IfErr, IsTrue, if◌then◌else◌, length};
 ghost use Rattle.area_graph.specs.{AreaInvariant.IsArea, AreaSize.IsTooLarge, AreaSize.TellsTooLarge};
 ghost use Rattle.lsdb.specs.Conflicts.{least_conflict};
-ghost use Rattle.flood_verdict.specs.{Found.IsFound, Found.IsFoundIn, Says.area_in};
+ghost use Rattle.flood_verdict.specs.steps.Found.{IsFound, IsFoundIn};
+ghost use Rattle.flood_verdict.specs.Says.{area_in};
 
 use area_graph::{Area, AreaError, build_area};
 use cert_stream::CertStream;

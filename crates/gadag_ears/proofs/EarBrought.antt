@@ -12,11 +12,12 @@ use Rattle.mrt_graph.proofs.FewNumbers.{few_numbers}
 use Rattle.mrt_graph.proofs.Members.{contains_cases, contains_from_has}
 use Rattle.gadag_ears.specs.declared.growing.Growing.{Growing}
 use Rattle.gadag_ears.specs.declared.kind.EarKind.{EarKind}
-use Rattle.gadag_ears.specs.Ear.{Ear, ear_of, IsBegun, IsNextEar, new_nodes}
+use Rattle.gadag_ears.specs.Ear.{Ear, IsBegun, IsNextEar, new_nodes}
+use Rattle.gadag_ears.specs.steps.Ear.{ear_of}
 use Rattle.gadag_ears.specs.EarOrder.{Grown, IsEarOrder}
-use Rattle.gadag_ears.specs.Growing.{AreEntered, AreListed, AreWaysAndRoles, IsLeaving, IsMarked, IsPlaceOfEar, IsEarTurn, IsEarWay, StartsEar}
+use Rattle.gadag_ears.specs.steps.Growing.{AreEntered, AreListed, AreWaysAndRoles, IsLeaving, IsMarked, IsPlaceOfEar, IsEarTurn, IsEarWay, StartsEar}
 use Rattle.gadag_ears.specs.HeadAndBlock.{ArePlaces, BeginsBlock, HasPlace, IsPlacedAs}
-use Rattle.gadag_ears.specs.Marking.{AreEarMarked, IsMarkable}
+use Rattle.gadag_ears.specs.steps.Marking.{AreEarMarked, IsMarkable}
 use Rattle.gadag_ears.specs.declared.kind.EarKind.TheVariants.{Child}
 use Rattle.gadag_ears.proofs.EarLinks.{IsUnderWay, apart, link_touches, links_in, markable, under_way}
 use Rattle.gadag_ears.proofs.MarksGrown.{directed_grown, roles_grown}

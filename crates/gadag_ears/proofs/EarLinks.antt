@@ -14,7 +14,7 @@ use Rattle.gadag_ears.specs.Ear.{Ear, GoesOn, IsNextEar, last_node, new_nodes, n
 use Rattle.gadag_ears.specs.EarOrder.{Begun, Grown, IsEarOrder, Turned}
 use Rattle.gadag_ears.specs.HeadAndBlock.{BeginsBlock}
 use Rattle.gadag_ears.specs.LinkMarks.{IsOfOneLink, IsOnEar, Onward, Out}
-use Rattle.gadag_ears.specs.Marking.{GoesOver, IsMarkable}
+use Rattle.gadag_ears.specs.steps.Marking.{GoesOver, IsMarkable}
 use Rattle.gadag_ears.proofs.CutLists.{in_turn, kept_in, put_in, turned}
 use Rattle.gadag_ears.proofs.EarWalk.{GoesNearer, IsGoing, begins, goes_nearer, next_there, next_within, rank}
 use Rattle.gadag_ears.proofs.NextEar.{FromNew, FromStart, FromStop, Heads, IsBrought, IsHung, IsClosedUp, brought}

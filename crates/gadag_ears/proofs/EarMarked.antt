@@ -16,10 +16,11 @@ use Rattle.mrt_graph.specs.Topology.{Topology}
 use Rattle.mrt_graph.proofs.ListPlaces.{set_elsewhere, set_there}
 use Rattle.mrt_graph.proofs.Members.{contains_none}
 use Rattle.gadag_ears.specs.declared.kind.EarKind.{EarKind}
-use Rattle.gadag_ears.specs.Ear.{ear_of, last_node, onward_link}
+use Rattle.gadag_ears.specs.steps.Ear.{ear_of}
+use Rattle.gadag_ears.specs.Ear.{last_node, onward_link}
 use Rattle.gadag_ears.specs.HeadAndBlock.{BeginsBlock}
 use Rattle.gadag_ears.specs.LinkMarks.{IsLastOfBlock, IsOnEar, Onward, Out}
-use Rattle.gadag_ears.specs.Marking.{AreEarMarked, AreSetAlong, HasMark, IsMarkable, IsSetAway, mark_along}
+use Rattle.gadag_ears.specs.steps.Marking.{AreEarMarked, AreSetAlong, HasMark, IsMarkable, IsSetAway, mark_along}
 use Rattle.gadag_ears.proofs.EarLast.{last_in}
 
 directed_by : (g : Topology) (marks : List Mark) (v e : ℕ) (role : Role) → HasMark g marks v e role → IsSetAway g marks v e

@@ -14,7 +14,7 @@ use Rattle.lowpoint_dfs.specs.Subtree.{IsInSubtree, Itself, parent_of}
 use Rattle.gadag_ears.specs.declared.kind.EarKind.{EarKind}
 use Rattle.gadag_ears.specs.declared.kind.EarKind.TheVariants.{Child, Neighbour}
 use Rattle.gadag_ears.specs.Ear.{GoesOn, IsBegun, ToChild, ToNeighbour, next_node}
-use Rattle.gadag_ears.specs.Growing.{AreListed, IsLeaving, IsEarWay}
+use Rattle.gadag_ears.specs.steps.Growing.{AreListed, IsLeaving, IsEarWay}
 use Rattle.gadag_ears.proofs.ChildEars.{IsChildStart, IsOnWay, down_on_way, low_above, way_lower}
 use Rattle.gadag_ears.proofs.FromSearch.{facts_of}
 use Rattle.gadag_ears.proofs.NeighbourEars.{IsClimbing, IsNeighbourStart, climbs}

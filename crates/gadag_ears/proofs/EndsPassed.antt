@@ -30,7 +30,7 @@ use Rattle.gadag_ears.specs.declared.growing.Growing.{Growing}
 use Rattle.gadag_ears.specs.declared.kind.EarKind.TheVariants.{Child, Neighbour}
 use Rattle.gadag_ears.specs.Ear.{LeadsToChild, ToChild, ToNeighbour}
 use Rattle.gadag_ears.specs.EarOrder.{Begun, IsEarOrder, Turned}
-use Rattle.gadag_ears.specs.Growing.{AreAllMarked, AreListed, AreWaysAndRoles, HasRoom, HasSearch, HasTurn, IsAtEnd, IsBeginning, IsEnded, IsMarked, IsEarTurn, StartsEar}
+use Rattle.gadag_ears.specs.steps.Growing.{AreAllMarked, AreListed, AreWaysAndRoles, HasRoom, HasSearch, HasTurn, IsAtEnd, IsBeginning, IsEnded, IsMarked, IsEarTurn, StartsEar}
 use Rattle.gadag_ears.specs.HeadAndBlock.{ArePlaces}
 use Rattle.gadag_ears.proofs.CutLists.{in_turn, turned}
 use Rattle.gadag_ears.proofs.EarBrought.{room_for_new, turn_kept}

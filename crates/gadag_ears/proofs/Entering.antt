@@ -6,7 +6,7 @@ use Rattle.std.proofs.lemmas.List.{get_or-set_same, get_or-set_other, length-set
 use Rattle.mrt_graph.specs.declared.gadag.Place.{Place}
 use Rattle.mrt_graph.proofs.ListPlaces.{set_elsewhere, set_there}
 use Rattle.mrt_graph.proofs.Members.{contains_cases, contains_first, contains_later, contains_none}
-use Rattle.gadag_ears.specs.Growing.{AreEntered, IsMarked}
+use Rattle.gadag_ears.specs.steps.Growing.{AreEntered, IsMarked}
 
 pub none_entered : (listed : List Bool) (places : List Place) (head block : ℕ) → AreEntered listed places head block [] listed places
 none_entered listed places head block = record {

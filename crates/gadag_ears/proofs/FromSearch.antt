@@ -20,7 +20,7 @@ use Rattle.lowpoint_dfs.proofs.ParentsFirst.{has_parent, over_link, parent_over}
 use Rattle.lowpoint_dfs.proofs.WholeTree.{joins_all, leads_within, link_touches, numbers_differ, numbers_within, tree_falls}
 use Rattle.gadag_ears.specs.declared.kind.EarKind.TheVariants.{Child}
 use Rattle.gadag_ears.specs.Ear.{next_node}
-use Rattle.gadag_ears.specs.Growing.{IsSearched}
+use Rattle.gadag_ears.specs.steps.Growing.{IsSearched}
 use Rattle.gadag_ears.proofs.SearchFacts.{AreFacts, Down, IsLowWay, ToParent, Up}
 
 none_some : (n : ℕ) → None ≡ Some n → ⊥

@@ -24,7 +24,7 @@ use Rattle.gadag_ears.specs.EarOrder.{AreEars, Begun, Grown, IsEarOrder, Turned}
 use Rattle.gadag_ears.specs.Gadag.{IsGadag}
 use Rattle.gadag_ears.specs.HeadAndBlock.{ArePlaces, BeginsBlock}
 use Rattle.gadag_ears.specs.LinkMarks.{AreMarks, IsLastOfBlock, IsOfOneLink, IsOnEar, Onward, Out}
-use Rattle.gadag_ears.specs.Marking.{way_along}
+use Rattle.gadag_ears.specs.steps.Marking.{way_along}
 use Rattle.gadag_ears.proofs.BlockLinks.{IsKnown, known, last_or_not, way_of}
 use Rattle.gadag_ears.proofs.CommonBlocks.{common_block, common_of, placed_by_low}
 use Rattle.gadag_ears.proofs.DirectedLinks.{of_one_or_not, on_some_or_none, one_link}

@@ -8,11 +8,11 @@ use Rattle.mrt_graph.specs.GadagWords.{role_at, way_at}
 use Rattle.mrt_graph.specs.Leads.{leads}
 use Rattle.mrt_graph.specs.Topology.{Topology}
 use Rattle.gadag_ears.specs.declared.growing.Growing.{Growing}
-use Rattle.gadag_ears.specs.Blocks.{AreBlocksGiven}
+use Rattle.gadag_ears.specs.steps.Blocks.{AreBlocksGiven}
 use Rattle.gadag_ears.specs.CommonBlock.{IsCommonBlock}
 use Rattle.gadag_ears.specs.Ear.{Ear}
 use Rattle.gadag_ears.specs.Gadag.{IsGadag}
-use Rattle.gadag_ears.specs.Growing.{IsEnded}
+use Rattle.gadag_ears.specs.steps.Growing.{IsEnded}
 use Rattle.gadag_ears.specs.LinkMarks.{AreDirected, AreMarks, HaveRoles}
 use Rattle.gadag_ears.proofs.CommonBlocks.{common_block, placed_by_low}
 use Rattle.gadag_ears.proofs.FromSearch.{facts_of}

@@ -10,7 +10,7 @@ use Rattle.mrt_graph.specs.GadagWords.{role_at, way_at}
 use Rattle.mrt_graph.specs.Leads.{far_node, leads}
 use Rattle.mrt_graph.specs.Topology.{Topology}
 use Rattle.mrt_graph.proofs.ListPlaces.{set_elsewhere, set_there}
-use Rattle.gadag_ears.specs.Blocks.{AreBlocksGiven, IsBlockGiven}
+use Rattle.gadag_ears.specs.steps.Blocks.{AreBlocksGiven, IsBlockGiven}
 use Rattle.gadag_ears.specs.LinkMarks.{LiesInBlock}
 
 -- a link leads from its one node to the other

@@ -13,9 +13,10 @@ use Rattle.mrt_graph.specs.Leads.{far_node, leads}
 use Rattle.mrt_graph.specs.Topology.{Topology}
 use Rattle.mrt_graph.proofs.Members.{contains_cases, contains_none}
 use Rattle.gadag_ears.specs.declared.kind.EarKind.{EarKind}
-use Rattle.gadag_ears.specs.Ear.{ear_of, last_node, onward_link}
+use Rattle.gadag_ears.specs.steps.Ear.{ear_of}
+use Rattle.gadag_ears.specs.Ear.{last_node, onward_link}
 use Rattle.gadag_ears.specs.HeadAndBlock.{BeginsBlock}
-use Rattle.gadag_ears.specs.Marking.{AreEarMarked, AreSetAlong, GoesOver, IsMarkable, mark_along}
+use Rattle.gadag_ears.specs.steps.Marking.{AreEarMarked, AreSetAlong, GoesOver, IsMarkable, mark_along}
 use Rattle.gadag_ears.proofs.EarMarked.{marked_closed, marked_open, marked_sole, set_more}
 
 -- a link that leads somewhere is there

@@ -18,7 +18,7 @@ use Rattle.mrt_graph.proofs.Members.{contains_cases, contains_first, contains_la
 use Rattle.gadag_ears.specs.declared.kind.EarKind.{EarKind}
 use Rattle.gadag_ears.specs.Ear.{Ear, last_node, new_nodes, onward_link}
 use Rattle.gadag_ears.proofs.EarLast.{last_in}
-use Rattle.gadag_ears.specs.Marking.{AreEarMarked, IsSetAway, way_along}
+use Rattle.gadag_ears.specs.steps.Marking.{AreEarMarked, IsSetAway, way_along}
 use Rattle.gadag_ears.specs.LinkMarks.{AreDirected, HaveRoles, IsLastOfBlock, IsOfOneLink, IsOnEar, Onward, Out}
 
 pub last_on : (tree : List TreeNode) (ear : Ear) (e : ℕ) → IsLastOfBlock tree ear e → IsOnEar tree ear (last_node ear.first ear.others) e

@@ -25,11 +25,6 @@ pub record Ear : Type 0 where
 abbrev pub new_nodes : Ear → List ℕ
 new_nodes ear = ear.first ∷ ear.others
 
--- an ear of these parts
-abbrev pub ear_of : EarKind → ℕ → ℕ → ℕ → List ℕ → ℕ → Ear
-ear_of kind start link first others stop =
-    record { kind = kind; start = start; link = link; first = first; others = others; stop = stop }
-
 -- the last one of a node and others
 abbrev pub last_node : ℕ → List ℕ → ℕ
 last_node v [] = v

@@ -1,12 +1,10 @@
 pub mod BlockLinks
-pub mod Blocks
 pub mod CommonBlock
 pub mod Counted
 pub mod Ear
 pub mod EarOrder
 pub mod Gadag
-pub mod Growing
 pub mod HeadAndBlock
 pub mod LinkMarks
-pub mod Marking
 pub mod Members
+pub mod steps

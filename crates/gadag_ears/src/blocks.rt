@@ -2,7 +2,8 @@
 
 ghost use Rattle.std.specs.Prelude.{◌≡◌, ◌<◌, ◌≤◌, ℕ, Some, length};
 ghost use Rattle.mrt_graph.specs.Leads.{leads};
-ghost use Rattle.gadag_ears.specs.{Blocks.AreBlocksGiven, Blocks.IsBlockGiven, CommonBlock.IsCommonBlock};
+ghost use Rattle.gadag_ears.specs.steps.Blocks.{AreBlocksGiven, IsBlockGiven};
+ghost use Rattle.gadag_ears.specs.CommonBlock.{IsCommonBlock};
 
 use mrt_graph::{Graph, LinkNo, Mark, NodeNo, Place};
 

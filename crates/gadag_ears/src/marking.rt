@@ -2,9 +2,10 @@
 
 ghost use Rattle.std.specs.Prelude.{◌≡◌, ◌≢◌, ◌<◌, ◌↔◌, ◌∷◌, ℕ, List, IsTrue, IsSome, Some, Contains, length, slice_get, slice_set};
 ghost use Rattle.mrt_graph.specs.{declared.link.Link.Link, Leads.leads};
-ghost use Rattle.gadag_ears.specs.Ear.{ear_of, last_node, onward_link};
+ghost use Rattle.gadag_ears.specs.steps.Ear.{ear_of};
+ghost use Rattle.gadag_ears.specs.Ear.{last_node, onward_link};
 ghost use Rattle.gadag_ears.specs.HeadAndBlock.{BeginsBlock};
-ghost use Rattle.gadag_ears.specs.Marking.{AreEarMarked, AreSetAlong, IsMarkable, mark_along};
+ghost use Rattle.gadag_ears.specs.steps.Marking.{AreEarMarked, AreSetAlong, IsMarkable, mark_along};
 
 use crate::kind::EarKind;
 use mrt_graph::{Graph, LinkNo, Mark, NodeNo, Role, Tree, Way};

@@ -2,7 +2,7 @@
 
 ghost use Rattle.std.specs.Prelude.{◌≡◌, ◌<◌, ◌≤◌, ◌+◌, ◌↔◌, ℕ, IsTrue, IfSome, IfNone, Some, true, false, length};
 ghost use Rattle.lowpoint_dfs.specs.Subtree.{parent_of};
-ghost use Rattle.gadag_ears.specs.Growing.{AreAllMarked, HasRoom, HasSearch, HasTurn, IsAtEnd, IsEnded, IsMarked, IsEarTurn};
+ghost use Rattle.gadag_ears.specs.steps.Growing.{AreAllMarked, HasRoom, HasSearch, HasTurn, IsAtEnd, IsEnded, IsMarked, IsEarTurn};
 
 use crate::growing::{Growing, grow};
 use crate::kind::EarKind;

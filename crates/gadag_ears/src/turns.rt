@@ -2,7 +2,7 @@
 
 ghost use Rattle.std.specs.Prelude.{◌<◌, IfOk, length};
 ghost use Rattle.lowpoint_dfs.specs.SearchTree.{IsSearchTree};
-ghost use Rattle.gadag_ears.specs.Growing.{IsBeginning, IsEnded};
+ghost use Rattle.gadag_ears.specs.steps.Growing.{IsBeginning, IsEnded};
 
 use crate::growing::Growing;
 use crate::turn::take_turn;

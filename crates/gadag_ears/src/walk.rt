@@ -2,7 +2,7 @@
 
 ghost use Rattle.std.specs.Prelude.{◌≡◌, ◌<◌, ◌≤◌, ◌↔◌, ℕ, List, Bool, true, false, IsSome, Some, Contains, length, slice_get, slice_index_or, vec_capacity};
 ghost use Rattle.gadag_ears.specs.Ear.{next_node};
-ghost use Rattle.gadag_ears.specs.Growing.{AreListed, IsLeaving, IsEarWay};
+ghost use Rattle.gadag_ears.specs.steps.Growing.{AreListed, IsLeaving, IsEarWay};
 
 use crate::kind::EarKind;
 use crate::marking::onward;

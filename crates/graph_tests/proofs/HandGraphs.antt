@@ -14,7 +14,7 @@ use Rattle.mrt_graph.specs.declared.link.LinkIn.{LinkIn}
 use Rattle.mrt_graph.specs.declared.node_id.Kind.TheVariants.{Network, Router}
 use Rattle.mrt_graph.specs.declared.node_id.NodeId.{NodeId}
 use Rattle.mrt_graph.specs.Connected.{IsConnected}
-use Rattle.mrt_graph.specs.EndRows.{IsWithin}
+use Rattle.mrt_graph.specs.steps.EndRows.{IsWithin}
 use Rattle.mrt_graph.specs.EndsOfLinks.{pair_of}
 use Rattle.mrt_graph.specs.GraphInvariant.{IsLink, IsNetwork}
 use Rattle.mrt_graph.specs.NewGraph.{AreGraphParts, pair_cmp}

@@ -13,7 +13,7 @@ use Rattle.mrt_graph.specs.Search.{IsMarked}
 use Rattle.mrt_graph.specs.Walk.{Walk}
 use Rattle.mrt_graph.proofs.Hops.{lead_back}
 use Rattle.mrt_graph.proofs.Walks.{walk_joined, walk_onward}
-use Rattle.graph_tests.specs.Reached.{AreReached}
+use Rattle.graph_tests.specs.steps.Reached.{AreReached}
 
 walk_back : (links : List Link) (walk : List ℕ) (s t : ℕ) → Walk links s walk t → (back : List ℕ) × Walk links t back s
 walk_back links [] s t walks = ([], sym walks)

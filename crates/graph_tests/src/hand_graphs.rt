@@ -21,11 +21,11 @@ ghost use Rattle.std.specs.Ordering.{is_lt};
 ghost use Rattle.mrt_graph.specs.declared.link.LinkIn.{LinkIn};
 ghost use Rattle.mrt_graph.specs.declared.node_id.NodeId.{NodeId};
 ghost use Rattle.mrt_graph.specs.Connected.{IsConnected};
-ghost use Rattle.mrt_graph.specs.EndRows.{IsWithin};
+ghost use Rattle.mrt_graph.specs.steps.EndRows.{IsWithin};
 ghost use Rattle.mrt_graph.specs.EndsOfLinks.{pair_of};
 ghost use Rattle.mrt_graph.specs.NewGraph.{pair_cmp};
 ghost use Rattle.mrt_graph.specs.Search.{IsMarked};
-ghost use Rattle.graph_tests.specs.Reached.{AreReached};
+ghost use Rattle.graph_tests.specs.steps.Reached.{AreReached};
 
 use mrt_graph::{Graph, GraphError, Kind, LinkIn, NoMemory, NodeId, NodeNo};
 use std::alloc::Global;

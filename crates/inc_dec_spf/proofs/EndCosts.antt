@@ -9,9 +9,10 @@ use Rattle.inc_dec_spf.specs.declared.aiming.Aiming.{Aiming}
 use Rattle.inc_dec_spf.specs.declared.reach.Dir.{Dir}
 use Rattle.inc_dec_spf.specs.BlockAims.{aim_at}
 use Rattle.inc_dec_spf.specs.Path.{IsStep}
-use Rattle.inc_dec_spf.specs.Rest.{IsRestCost, Rest, far}
-use Rattle.inc_dec_spf.specs.Side.{AreTaken, IsLeastWay, cost_at, left_onward, lesser, link_of_lesser}
-use Rattle.inc_dec_spf.specs.Ways.{AreLeast, AtHead, BeginsAt, HasHeadBy, Inside, IsReadyFrom, IsWantedBlock, Sought, left_after, left_at, sought}
+use Rattle.inc_dec_spf.specs.steps.Rest.{IsRestCost, Rest}
+use Rattle.inc_dec_spf.specs.Rest.{far}
+use Rattle.inc_dec_spf.specs.steps.Side.{AreTaken, IsLeastWay, cost_at, left_onward, lesser, link_of_lesser}
+use Rattle.inc_dec_spf.specs.steps.Ways.{AreLeast, AtHead, BeginsAt, HasHeadBy, Inside, IsReadyFrom, IsWantedBlock, Sought, left_after, left_at, sought}
 use Rattle.inc_dec_spf.proofs.InBlocks.{move_of, same_end}
 
 -- what is known of the ways that begin with one end, when `left` is left after it

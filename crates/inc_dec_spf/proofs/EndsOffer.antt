@@ -9,8 +9,8 @@ use Rattle.mrt_graph.specs.Topology.{Topology}
 use Rattle.link_direction.specs.Directions.{Directions, Says}
 use Rattle.inc_dec_spf.specs.declared.fan.Opening.{Opening}
 use Rattle.inc_dec_spf.specs.declared.reach.Dir.{Dir}
-use Rattle.inc_dec_spf.specs.Known.{IsOne, IsOver, Known, known}
-use Rattle.inc_dec_spf.specs.Offers.{IsFirstOffer, IsFurtherOffer, goes_on}
+use Rattle.inc_dec_spf.specs.steps.Known.{IsOne, IsOver, Known, known}
+use Rattle.inc_dec_spf.specs.steps.Offers.{IsFirstOffer, IsFurtherOffer, goes_on}
 use Rattle.inc_dec_spf.specs.Path.{IsStep, LeadsOn}
 use Rattle.inc_dec_spf.proofs.InBlocks.{same_end}
 use Rattle.inc_dec_spf.proofs.Marks.{IsMarkedEnd, marked_block, marked_role, test_leads_back, test_leads_on}

@@ -13,8 +13,9 @@ use Rattle.inc_dec_spf.specs.BlockAims.{IsAimOf, aim_at}
 use Rattle.inc_dec_spf.specs.FirstLink.{Begins, BeginsNone, HasLinksAt, IsFirstLink}
 use Rattle.inc_dec_spf.specs.LeastPath.{IsHop, HaveCommonBlockOfMoreLinks}
 use Rattle.inc_dec_spf.specs.Rest.{far}
-use Rattle.inc_dec_spf.specs.Side.{IsLeastWay, IsRowPut, hop_by}
-use Rattle.inc_dec_spf.specs.Ways.{AreLeast, BeginsAt, Sought, sought}
+use Rattle.inc_dec_spf.specs.steps.Side.{IsLeastWay, IsRowPut}
+use Rattle.inc_dec_spf.specs.Side.{hop_by}
+use Rattle.inc_dec_spf.specs.steps.Ways.{AreLeast, BeginsAt, Sought, sought}
 use Rattle.link_direction.proofs.ClosedBlocks.{IsOrdered}
 use Rattle.link_direction.proofs.LinkNodes.{link_within}
 use Rattle.link_direction.proofs.OneBlock.{one_block}

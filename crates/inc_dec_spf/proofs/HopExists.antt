@@ -16,10 +16,12 @@ use Rattle.inc_dec_spf.specs.declared.reach.Hop.{Hop}
 use Rattle.inc_dec_spf.specs.FirstLink.{no_link}
 use Rattle.inc_dec_spf.specs.LeastPath.{IsHop, NotReached}
 use Rattle.inc_dec_spf.specs.Path.{IsStep, LeadsOn}
-use Rattle.inc_dec_spf.specs.Rest.{IsRestCost, far}
-use Rattle.inc_dec_spf.specs.Side.{IsLeastWay, hop_by, lesser, link_of_lesser}
+use Rattle.inc_dec_spf.specs.steps.Rest.{IsRestCost}
+use Rattle.inc_dec_spf.specs.Rest.{far}
+use Rattle.inc_dec_spf.specs.steps.Side.{IsLeastWay, lesser, link_of_lesser}
+use Rattle.inc_dec_spf.specs.Side.{hop_by}
 use Rattle.inc_dec_spf.specs.Turns.{turn_of}
-use Rattle.inc_dec_spf.specs.Ways.{BeginsAt, Sought, left_after}
+use Rattle.inc_dec_spf.specs.steps.Ways.{BeginsAt, Sought, left_after}
 use Rattle.inc_dec_spf.proofs.AllMarked.{all_marked}
 use Rattle.inc_dec_spf.proofs.ByTurn.{turn_in}
 use Rattle.inc_dec_spf.proofs.EndCosts.{IsWayOn, begun_on, end_cost, left_cost, still_least, way_taken}

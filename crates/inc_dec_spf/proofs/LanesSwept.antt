@@ -13,10 +13,10 @@ use Rattle.inc_dec_spf.specs.declared.reach.Dir.{Dir}
 use Rattle.inc_dec_spf.specs.Fan.{IsFirstHop, link_at}
 use Rattle.inc_dec_spf.specs.FirstLink.{Begins, BeginsNone, no_link}
 use Rattle.inc_dec_spf.specs.HasDirections.{AreDirections}
-use Rattle.inc_dec_spf.specs.Known.{AreOffered, IsNoLater, Known, OfAny, known, known_at, nothing}
+use Rattle.inc_dec_spf.specs.steps.Known.{AreOffered, IsNoLater, Known, OfAny, known, known_at, nothing}
 use Rattle.inc_dec_spf.specs.LeastPath.{IsHop, NotReached, Reached}
-use Rattle.inc_dec_spf.specs.Offers.{IsFirstOffer, IsFurtherOffer, PassesOn}
-use Rattle.inc_dec_spf.specs.Opening.{AreFirstOffered, Goes, IsKeptOnward, IsOpening, Ends}
+use Rattle.inc_dec_spf.specs.steps.Offers.{IsFirstOffer, IsFurtherOffer, PassesOn}
+use Rattle.inc_dec_spf.specs.steps.Opening.{AreFirstOffered, Goes, IsKeptOnward, IsOpening, Ends}
 use Rattle.inc_dec_spf.specs.Path.{IsStep, Path, cost_of}
 use Rattle.inc_dec_spf.specs.Rest.{far}
 use Rattle.inc_dec_spf.specs.Turns.{AreTurns, turn_of}

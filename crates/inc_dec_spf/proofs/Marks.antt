@@ -16,7 +16,7 @@ use Rattle.link_direction.specs.Directions.{Directions, Says}
 use Rattle.inc_dec_spf.specs.declared.reach.Dir.{Dir}
 use Rattle.inc_dec_spf.specs.declared.reach.Dir.TheVariants.{Down, Up}
 use Rattle.inc_dec_spf.specs.Path.{LeadsOn}
-use Rattle.inc_dec_spf.specs.Offers.{goes_on}
+use Rattle.inc_dec_spf.specs.steps.Offers.{goes_on}
 use Rattle.link_direction.proofs.LinkNodes.{link_over, link_within}
 
 -- the direction in terms of the tail

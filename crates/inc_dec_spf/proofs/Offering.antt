@@ -1,7 +1,7 @@
 -- Offers, one after another.
 use Rattle.std.proofs.Common.{◌<◌, ◌≤◌, ◌+◌, ◌∙◌, ℕ, List, slice_index, inl, inr, refl, sym, ap, subst, arith}
 use Rattle.std.proofs.lemmas.Bool.{cases_lt}
-use Rattle.inc_dec_spf.specs.Known.{AreOffered, IsNoLater, IsOne, Known, known}
+use Rattle.inc_dec_spf.specs.steps.Known.{AreOffered, IsNoLater, IsOne, Known, known}
 
 pub no_later_same : (a : Known) → IsNoLater a a
 no_later_same a = inr (refl, omega arith)

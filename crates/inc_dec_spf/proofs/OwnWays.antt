@@ -9,12 +9,13 @@ use Rattle.inc_dec_spf.specs.declared.aiming.Aiming.{Aiming}
 use Rattle.inc_dec_spf.specs.declared.reach.Dir.{Dir}
 use Rattle.inc_dec_spf.specs.declared.reach.Dir.TheVariants.{Down, Up}
 use Rattle.inc_dec_spf.specs.Against.{against}
-use Rattle.inc_dec_spf.specs.Aiming.{HasOwnWays}
+use Rattle.inc_dec_spf.specs.steps.Aiming.{HasOwnWays}
 use Rattle.inc_dec_spf.specs.BlockAims.{aim_at}
-use Rattle.inc_dec_spf.specs.Rest.{IsRestCost, far}
-use Rattle.inc_dec_spf.specs.Side.{AreCosts, IsRowPut, cost_from}
+use Rattle.inc_dec_spf.specs.steps.Rest.{IsRestCost}
+use Rattle.inc_dec_spf.specs.Rest.{far}
+use Rattle.inc_dec_spf.specs.steps.Side.{AreCosts, IsRowPut, cost_from}
 use Rattle.inc_dec_spf.specs.Turns.{AreTurns, turn_at, turn_of}
-use Rattle.inc_dec_spf.specs.Ways.{AreLeast, AreReady, IsWantedBlock, sought}
+use Rattle.inc_dec_spf.specs.steps.Ways.{AreLeast, AreReady, IsWantedBlock, sought}
 use Rattle.inc_dec_spf.proofs.ByTurn.{next_turn}
 use Rattle.inc_dec_spf.proofs.FirstLinks.{links_kept, links_stay}
 use Rattle.inc_dec_spf.proofs.InBlocks.{Home, Later, Onto, move_of, step_from_member}

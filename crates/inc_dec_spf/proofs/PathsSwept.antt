@@ -6,8 +6,8 @@ use Rattle.mrt_graph.specs.declared.link.End.{End}
 use Rattle.mrt_graph.specs.Topology.{Topology}
 use Rattle.link_direction.specs.Directions.{Directions}
 use Rattle.inc_dec_spf.specs.declared.reach.Dir.{Dir}
-use Rattle.inc_dec_spf.specs.Known.{IsNoLater, Known, known}
-use Rattle.inc_dec_spf.specs.Offers.{PassesOn}
+use Rattle.inc_dec_spf.specs.steps.Known.{IsNoLater, Known, known}
+use Rattle.inc_dec_spf.specs.steps.Offers.{PassesOn}
 use Rattle.inc_dec_spf.specs.Path.{IsStep, Path, cost_of}
 use Rattle.inc_dec_spf.specs.Rest.{far}
 use Rattle.inc_dec_spf.specs.Turns.{turn_of}

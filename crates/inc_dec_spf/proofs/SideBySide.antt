@@ -7,7 +7,7 @@ use Rattle.std.proofs.lemmas.Grind.{get_or_default_zero}
 use Rattle.std.proofs.lemmas.List.{get_or-drop, get_or-replicate, get_or-take, get_or_past, length-drop, length-replicate, length-take}
 use Rattle.std.specs.List.{slice_range}
 use Rattle.inc_dec_spf.specs.Rest.{far}
-use Rattle.inc_dec_spf.specs.Side.{AreCosts, AreTaken, IsRowPut, IsTakenAt, lesser, link_of_lesser}
+use Rattle.inc_dec_spf.specs.steps.Side.{AreCosts, AreTaken, IsRowPut, IsTakenAt, lesser, link_of_lesser}
 
 -- the first places were replaced, and the others are as they were
 pub record AreTakenTo (left : ℕ → ℕ) (metric link : ℕ) (costs links : List ℕ) (count : ℕ) (costs' links' : List ℕ) : Type 0 where

@@ -8,9 +8,11 @@ use Rattle.link_direction.specs.Directions.{Directions}
 use Rattle.inc_dec_spf.specs.declared.reach.Dir.{Dir}
 use Rattle.inc_dec_spf.specs.LeastPath.{BeginsPath, IsHop, NotReached, Reached, HaveCommonBlockOfMoreLinks}
 use Rattle.inc_dec_spf.specs.Path.{IsStep, Path, cost_of}
-use Rattle.inc_dec_spf.specs.Rest.{IsRestCost, Rest, far}
-use Rattle.inc_dec_spf.specs.Side.{IsLeastWay, hop_by}
-use Rattle.inc_dec_spf.specs.Ways.{AtHead, BeginsAt, HasHeadBy, Inside, IsWantedBlock, Sought}
+use Rattle.inc_dec_spf.specs.steps.Rest.{IsRestCost, Rest}
+use Rattle.inc_dec_spf.specs.Rest.{far}
+use Rattle.inc_dec_spf.specs.steps.Side.{IsLeastWay}
+use Rattle.inc_dec_spf.specs.Side.{hop_by}
+use Rattle.inc_dec_spf.specs.steps.Ways.{AtHead, BeginsAt, HasHeadBy, Inside, IsWantedBlock, Sought}
 use Rattle.inc_dec_spf.proofs.EndCosts.{one_head_by}
 use Rattle.inc_dec_spf.proofs.InBlocks.{move_of, same_end, step_early, there_too}
 use Rattle.link_direction.proofs.ClosedBlocks.{IsClosed, IsOrdered, head_of_member, leads_inside, member_not_head}

@@ -1,5 +1,5 @@
 -- Fans: the ends by which some sources side by side begin the least paths to all nodes.
-use Rattle.std.specs.Prelude.{◌≡◌, ◌≢◌, ◌<◌, ◌≤◌, ◌+◌, ◌*◌, ℕ, List, Some, length, slice_get, slice_index}
+use Rattle.std.specs.Prelude.{◌≡◌, ◌≢◌, ◌<◌, ◌+◌, ◌*◌, ℕ, List, Some, length, slice_get, slice_index}
 use Rattle.std.specs.Option.{option_map_or}
 use Rattle.mrt_graph.specs.declared.link.End.{End}
 use Rattle.mrt_graph.specs.Topology.{Topology}
@@ -24,11 +24,3 @@ pub record IsOpen (g : Topology) (w : Directions) (dir : Dir) (first : ℕ) (fan
   pub each : (j t : ℕ) (ends : List End) → j < fan.width → first + j < length g.ids → t < length g.ids
       → slice_get g.ends (first + j) ≡ Some ends
       → IsFirstHop g w dir (first + j) t (slice_index fan.costs (t * fan.width + j)) (link_at ends (slice_index fan.places (t * fan.width + j)))
-
--- s is one of the sources of a fan that is open from the nodes from number `first` on, and t is a node
-pub record AreInFan (g : Topology) (fan : FanEntries) (first s t : ℕ) : Type 0 where
-  pub nodes : fan.nodes ≡ length g.ids
-  pub source : s < length g.ids
-  pub from : first ≤ s
-  pub among : s < first + fan.width
-  pub target : t < length g.ids

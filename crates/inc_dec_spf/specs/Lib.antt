@@ -5,14 +5,11 @@ pub mod Fan
 pub mod FanEntries
 pub mod FirstLink
 pub mod HasDirections
-pub mod Known
 pub mod LeastPath
-pub mod Offers
-pub mod Opening
 pub mod Path
 pub mod Rest
 pub mod Side
 pub mod Tile
 pub mod TileEntries
 pub mod Turns
-pub mod Ways
+pub mod steps

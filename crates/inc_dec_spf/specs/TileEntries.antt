@@ -1,6 +1,5 @@
 -- The entries of a tile.
-use Rattle.std.specs.Prelude.{◌≡◌, ◌*◌, ℕ, List, length}
-use Rattle.inc_dec_spf.specs.Side.{AreCosts}
+use Rattle.std.specs.Prelude.{ℕ, List}
 
 -- for each of so many nodes, and for each of so many places side by side, a cost and a link
 pub record TileEntries : Type 0 where
@@ -8,13 +7,3 @@ pub record TileEntries : Type 0 where
   pub width : ℕ
   pub costs : List ℕ
   pub links : List ℕ
-
-abbrev pub tile_entries : ℕ → ℕ → List ℕ → List ℕ → TileEntries
-tile_entries nodes width costs links = record { nodes = nodes; width = width; costs = costs; links = links }
-
--- there are as many, no cost is more than far, and there is room for those of one node
-pub record AreTileEntries (nodes width room : ℕ) (costs links : List ℕ) : Type 0 where
-  pub one_cost_each : length costs ≡ nodes * width
-  pub one_link_each : length links ≡ nodes * width
-  pub most : AreCosts costs
-  pub one_place_each : room ≡ width

@@ -3,11 +3,14 @@
 ghost use Rattle.std.specs.Prelude.{◌≡◌, ◌≢◌, ◌<◌, ◌≤◌, ◌+◌, ◌*◌, ℕ, IfOk, length, slice_index, false, true};
 ghost use Rattle.mrt_graph.specs.GraphInvariant.{IsTopology};
 ghost use Rattle.link_direction.specs.Directions.{Directions};
-ghost use Rattle.inc_dec_spf.specs.Fan.{AreInFan, IsOpen, link_at};
-ghost use Rattle.inc_dec_spf.specs.{FanEntries.FanEntries, FanEntries.fan_entries, HasDirections.AreDirections, HasDirections.HasDirections};
+ghost use Rattle.inc_dec_spf.specs.steps.Fan.{AreInFan};
+ghost use Rattle.inc_dec_spf.specs.Fan.{IsOpen, link_at};
+ghost use Rattle.inc_dec_spf.specs.FanEntries.{FanEntries};
+ghost use Rattle.inc_dec_spf.specs.steps.FanEntries.{fan_entries};
+ghost use Rattle.inc_dec_spf.specs.HasDirections.{AreDirections, HasDirections};
 ghost use Rattle.inc_dec_spf.specs.{FirstLink.IsFirstLink, LeastPath.IsHop, Rest.far, Turns.AreTurns};
-ghost use Rattle.inc_dec_spf.specs.Known.{AreLanes, known_at};
-ghost use Rattle.inc_dec_spf.specs.Opening.{AreFirstOffered, AreStops, GoOn, IsKeptOnward, IsOpening, Stop};
+ghost use Rattle.inc_dec_spf.specs.steps.Known.{AreLanes, known_at};
+ghost use Rattle.inc_dec_spf.specs.steps.Opening.{AreFirstOffered, AreStops, GoOn, IsKeptOnward, IsOpening, Stop};
 
 use crate::offers::{NO_PLACE, offer_begun, offer_on};
 use crate::reach::{Dir, Hop};
@@ -40,7 +43,8 @@ impl Drop for Fan {
 
 impl Model for Fan {
     ghost use Rattle.std.specs.Prelude.{length};
-    ghost use Rattle.inc_dec_spf.specs.FanEntries.{AreEntries, FanEntries, fan_entries};
+    ghost use Rattle.inc_dec_spf.specs.steps.FanEntries.{AreEntries, fan_entries};
+    ghost use Rattle.inc_dec_spf.specs.FanEntries.{FanEntries};
 
     ghost Value = { FanEntries };
 

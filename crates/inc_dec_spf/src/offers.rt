@@ -2,8 +2,10 @@
 
 ghost use Rattle.std.specs.Prelude.{◌≡◌, ◌<◌, ◌≤◌, ◌+◌, ◌*◌, ◌↔◌, IsTrue, length};
 ghost use Rattle.mrt_graph.specs.declared.cert.Role.TheVariants.{Sole};
-ghost use Rattle.inc_dec_spf.specs.{Offers.OffersFirst, Offers.OffersFurther, Offers.goes_on, Opening.IsOpening, Rest.far};
-ghost use Rattle.inc_dec_spf.specs.Known.{AreLanes, AreLow, AreOffered, IsOne, IsOver, comes_before, known, known_at, no_place};
+ghost use Rattle.inc_dec_spf.specs.steps.Offers.{OffersFirst, OffersFurther, goes_on};
+ghost use Rattle.inc_dec_spf.specs.steps.Opening.{IsOpening};
+ghost use Rattle.inc_dec_spf.specs.Rest.{far};
+ghost use Rattle.inc_dec_spf.specs.steps.Known.{AreLanes, AreLow, AreOffered, IsOne, IsOver, comes_before, known, known_at, no_place};
 
 use crate::fan::Opening;
 use crate::reach::Dir;

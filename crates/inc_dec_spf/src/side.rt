@@ -1,7 +1,8 @@
 //! Least costs to some nodes side by side.
 
 ghost use Rattle.std.specs.Prelude.{◌≡◌, ◌<◌, if◌then◌else◌, length, slice_index};
-ghost use Rattle.inc_dec_spf.specs.Side.{AreCosts, AreTaken, IsTakenAt, cost_at, hop_by, left_onward};
+ghost use Rattle.inc_dec_spf.specs.steps.Side.{AreCosts, AreTaken, IsTakenAt, cost_at, left_onward};
+ghost use Rattle.inc_dec_spf.specs.Side.{hop_by};
 
 use crate::reach::Hop;
 use mrt_graph::{End, LinkNo, NodeNo};

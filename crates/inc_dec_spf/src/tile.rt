@@ -35,7 +35,8 @@ impl Drop for Tile {
 
 impl Model for Tile {
     ghost use Rattle.std.specs.Prelude.{length};
-    ghost use Rattle.inc_dec_spf.specs.TileEntries.{AreTileEntries, TileEntries, tile_entries};
+    ghost use Rattle.inc_dec_spf.specs.steps.TileEntries.{AreTileEntries, tile_entries};
+    ghost use Rattle.inc_dec_spf.specs.TileEntries.{TileEntries};
 
     ghost Value = { TileEntries };
 

@@ -3,9 +3,11 @@
 ghost use Rattle.std.specs.Prelude.{◌≡◌, ◌≢◌, ◌<◌, ◌≤◌, ◌+◌, ◌*◌, ◌↔◌, IsTrue, length, slice_index, true};
 ghost use Rattle.mrt_graph.specs.declared.cert.Role.TheVariants.{Sole};
 ghost use Rattle.link_direction.specs.Directions.{Directions, Says};
-ghost use Rattle.inc_dec_spf.specs.{BlockAims.aim_at, Ways.AreLeastWays, Ways.left_at};
-ghost use Rattle.inc_dec_spf.specs.Aiming.{AreRows, HaveOwnWays, IsAiming};
-ghost use Rattle.inc_dec_spf.specs.Side.{AreCosts, AreTaken, IsRowPut, cost_from};
+ghost use Rattle.inc_dec_spf.specs.BlockAims.{aim_at};
+ghost use Rattle.inc_dec_spf.specs.steps.Ways.{AreLeastWays, left_at};
+ghost use Rattle.inc_dec_spf.specs.steps.Aiming.{AreRows, HaveOwnWays};
+ghost use Rattle.inc_dec_spf.specs.Aiming.{IsAiming};
+ghost use Rattle.inc_dec_spf.specs.steps.Side.{AreCosts, AreTaken, IsRowPut, cost_from};
 
 use crate::aiming::Aiming;
 use crate::offers::{is_sole, leads_on};

@@ -18,9 +18,9 @@ use Rattle.area_graph.specs.Parts.{AreaParts}
 use Rattle.lfa_alt.specs.declared.alternate.FreeCandidate.{FreeCandidate}
 use Rattle.lfa_alt.specs.declared.destination.Destination.{Destination}
 use Rattle.lfa_alt.specs.declared.way.Way.{Way}
-use Rattle.lfa_alt.specs.Choosing.{AreBest, IsBetterBy, IsOfferedBy, Offers, better}
+use Rattle.lfa_alt.specs.steps.Choosing.{AreBest, IsBetterBy, IsOfferedBy, Offers, better}
 use Rattle.lfa_alt.specs.LoopFree.{IsBest, NoneIs, TheBest, candidate_cmp, rank_of}
-use Rattle.lfa_alt.specs.Ways.{NotLater}
+use Rattle.lfa_alt.specs.steps.Ways.{NotLater}
 
 -- the order is total
 pub candidate_total : IsTotalOrder candidate_cmp

@@ -13,7 +13,7 @@ use Rattle.primary_alt.proofs.ArcWalks.{arc_kept, network_by_test, no_network_by
 use Rattle.primary_alt.proofs.RouterFacts.{router_alone, router_from}
 use Rattle.lfa_alt.specs.declared.way.Way.{Way}
 use Rattle.lfa_alt.specs.Candidates.{Across, Candidate, Leaves, Straight, ToNeighbour}
-use Rattle.lfa_alt.specs.Ways.{AcrossNetwork, IsWayOver, ToNetwork, ToRouter, candidate_of, serves, way_across, way_over}
+use Rattle.lfa_alt.specs.steps.Ways.{AcrossNetwork, IsWayOver, ToNetwork, ToRouter, candidate_of, serves, way_across, way_over}
 
 -- a way that serves t, and is told so
 pub record IsServed (area : AreaParts) (s t : ℕ) (candidate : Candidate) : Type 0 where

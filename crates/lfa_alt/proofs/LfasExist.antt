@@ -14,7 +14,7 @@ use Rattle.primary_alt.specs.declared.shortest.Primary.{Primary}
 use Rattle.primary_alt.specs.Offers.{is_network}
 use Rattle.primary_alt.specs.Primaries.{IsPrimary}
 use Rattle.primary_alt.specs.Routers.{IsRouter}
-use Rattle.primary_alt.specs.Distances.{AreDistances}
+use Rattle.primary_alt.specs.steps.Distances.{AreDistances}
 use Rattle.primary_alt.proofs.AreaArcs.{arcs_between}
 use Rattle.primary_alt.proofs.ArcWalks.{network_by_test, no_network_by_test}
 use Rattle.primary_alt.proofs.DistancesExist.{distances_exist}
@@ -24,10 +24,10 @@ use Rattle.lfa_alt.specs.declared.alternate.FreeCandidate.{FreeCandidate}
 use Rattle.lfa_alt.specs.declared.alternate.Lfa.{Lfa}
 use Rattle.lfa_alt.specs.declared.destination.Destination.{Destination}
 use Rattle.lfa_alt.specs.declared.way.Way.{Way}
-use Rattle.lfa_alt.specs.Choosing.{IsDestination, IsOfferedBy, Offers, better, offer}
+use Rattle.lfa_alt.specs.steps.Choosing.{IsDestination, IsOfferedBy, Offers, better, offer}
 use Rattle.lfa_alt.specs.Candidates.{Leaves}
 use Rattle.lfa_alt.specs.LoopFree.{ByPrimary, IsBest, IsLfa, NoPrimary, alternate_of}
-use Rattle.lfa_alt.specs.Ways.{AddsAcross, AddsOver, AreWays, way_across, way_over}
+use Rattle.lfa_alt.specs.steps.Ways.{AddsAcross, AddsOver, AreWays, way_across, way_over}
 use Rattle.lfa_alt.proofs.Bettering.{none_yet, one_more}
 use Rattle.lfa_alt.proofs.Beyond.{part_of}
 use Rattle.lfa_alt.proofs.LfasFound.{best_free, ways_within}

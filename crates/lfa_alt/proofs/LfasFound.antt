@@ -15,10 +15,10 @@ use Rattle.lfa_alt.specs.declared.alternate.FreeCandidate.{FreeCandidate}
 use Rattle.lfa_alt.specs.declared.alternate.Lfa.{Lfa}
 use Rattle.lfa_alt.specs.declared.destination.Destination.{Destination}
 use Rattle.lfa_alt.specs.declared.way.Way.{Way}
-use Rattle.lfa_alt.specs.Choosing.{AreBest, AreDestinations, IsDestination, IsDestinationFor, IsOfferedBy}
+use Rattle.lfa_alt.specs.steps.Choosing.{AreBest, AreDestinations, IsDestination, IsDestinationFor, IsOfferedBy}
 use Rattle.lfa_alt.specs.Candidates.{Candidate}
 use Rattle.lfa_alt.specs.LoopFree.{AreLfas, ByPrimary, IsBest, IsLfa, IsLoopFree, NoPrimary, NoneIs, Protects, TheBest, alternate_of, candidate_cmp, free_choice}
-use Rattle.lfa_alt.specs.Ways.{AreWays, NotLater, candidate_of, serves}
+use Rattle.lfa_alt.specs.steps.Ways.{AreWays, NotLater, candidate_of, serves}
 use Rattle.lfa_alt.proofs.Bettering.{candidate_total, not_after}
 use Rattle.lfa_alt.proofs.Beyond.{part_of}
 use Rattle.lfa_alt.proofs.CandidateWays.{leads_within, served, serving}

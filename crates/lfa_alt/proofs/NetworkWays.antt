@@ -11,8 +11,8 @@ use Rattle.lfa_alt.specs.declared.alternate.FreeCandidate.{FreeCandidate}
 use Rattle.lfa_alt.specs.declared.destination.Destination.{Destination}
 use Rattle.lfa_alt.specs.declared.way.Way.{Way}
 use Rattle.lfa_alt.specs.LoopFree.{IsNearerThanOver}
-use Rattle.lfa_alt.specs.Choosing.{IsDestination, Offers, offer}
-use Rattle.lfa_alt.specs.Ways.{AcrossNetwork, IsWayOver, IsWayToNetwork, ToNetwork, ToRouter}
+use Rattle.lfa_alt.specs.steps.Choosing.{IsDestination, Offers, offer}
+use Rattle.lfa_alt.specs.steps.Ways.{AcrossNetwork, IsWayOver, IsWayToNetwork, ToNetwork, ToRouter}
 use Rattle.lfa_alt.proofs.Offered.{offer_is}
 
 -- a way that the test takes

@@ -15,8 +15,8 @@ use Rattle.lfa_alt.specs.declared.destination.Destination.{Destination}
 use Rattle.lfa_alt.specs.declared.way.Way.{Way}
 use Rattle.lfa_alt.specs.Candidates.{IsOtherBond}
 use Rattle.lfa_alt.specs.LoopFree.{IsNearerThanOver, Protects, free_choice}
-use Rattle.lfa_alt.specs.Choosing.{IsDestination, Offers, is_nearer, may_serve, offer, protects}
-use Rattle.lfa_alt.specs.Ways.{candidate_of, serves}
+use Rattle.lfa_alt.specs.steps.Choosing.{IsDestination, Offers, is_nearer, may_serve, offer, protects}
+use Rattle.lfa_alt.specs.steps.Ways.{candidate_of, serves}
 
 -- the distance from n to v, or that no walk leads there
 abbrev pub IsTold : List Arc → ℕ → ℕ → Option ℕ → Type 0

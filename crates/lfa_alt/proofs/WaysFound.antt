@@ -13,7 +13,7 @@ use Rattle.mrt_graph.proofs.Members.{contains_cases, contains_first, contains_no
 use Rattle.primary_alt.proofs.ArcWalks.{arc_kept}
 use Rattle.lfa_alt.specs.declared.way.Way.{Way}
 use Rattle.lfa_alt.specs.Candidates.{Leaves}
-use Rattle.lfa_alt.specs.Ways.{AcrossNetwork, AddsAcross, AddsOver, AreWays, HasAcross, HasFor, IsAcrossTo, IsAgain, IsWayOver, LeadsOn, NotLater, StandsFor, ToNetwork, ToRouter, way_across, way_over}
+use Rattle.lfa_alt.specs.steps.Ways.{AcrossNetwork, AddsAcross, AddsOver, AreWays, HasAcross, HasFor, IsAcrossTo, IsAgain, IsWayOver, LeadsOn, NotLater, StandsFor, ToNetwork, ToRouter, way_across, way_over}
 
 -- one way more
 pushed_cases : (ways : List Way) (made way : Way) → Contains (ways ++ made ∷ []) way → Contains ways way ⊎ (way ≡ made)

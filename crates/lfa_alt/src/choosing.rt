@@ -4,10 +4,12 @@ ghost use Rattle.std.specs.Prelude.{◌≡◌, ◌<◌, ◌↔◌, ℕ, IfSome, 
 ghost use Rattle.std.specs.Ordering.{is_gt};
 ghost use Rattle.area_graph.specs.{AreaInvariant.IsArea, Parts.AreaParts};
 ghost use Rattle.primary_alt.specs.DistancesFrom.{AreDistancesFrom};
-ghost use Rattle.lfa_alt.specs.{declared.alternate.FreeCandidate.FreeCandidate, Choosing.better, LoopFree.candidate_cmp, LoopFree.free_choice};
-ghost use Rattle.lfa_alt.specs.Choosing.{IsDestinationFor, Offers};
-ghost use Rattle.lfa_alt.specs.Choosing.{is_nearer, may_serve, offer, protects};
-ghost use Rattle.lfa_alt.specs.Ways.{IsWayToNetwork, candidate_of, serves};
+ghost use Rattle.lfa_alt.specs.declared.alternate.FreeCandidate.{FreeCandidate};
+ghost use Rattle.lfa_alt.specs.steps.Choosing.{better};
+ghost use Rattle.lfa_alt.specs.LoopFree.{candidate_cmp, free_choice};
+ghost use Rattle.lfa_alt.specs.steps.Choosing.{IsDestinationFor, Offers};
+ghost use Rattle.lfa_alt.specs.steps.Choosing.{is_nearer, may_serve, offer, protects};
+ghost use Rattle.lfa_alt.specs.steps.Ways.{IsWayToNetwork, candidate_of, serves};
 
 use crate::alternate::FreeCandidate;
 use crate::destination::Destination;

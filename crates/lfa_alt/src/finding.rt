@@ -5,7 +5,9 @@ ghost use Rattle.std.specs.Option.{option_map};
 ghost use Rattle.area_graph.specs.AreaInvariant.{IsArea};
 ghost use Rattle.mrt_graph.specs.GraphInvariant.{IsNetwork};
 ghost use Rattle.primary_alt.specs.{DistancesFrom.AreDistancesFrom, Primaries.ArePrimaries};
-ghost use Rattle.lfa_alt.specs.{Choosing.AreDestinations, LoopFree.AreLfas, LoopFree.alternate_of, Ways.AreWays};
+ghost use Rattle.lfa_alt.specs.steps.Choosing.{AreDestinations};
+ghost use Rattle.lfa_alt.specs.LoopFree.{AreLfas, alternate_of};
+ghost use Rattle.lfa_alt.specs.steps.Ways.{AreWays};
 
 use crate::alternate::{FreeCandidate, Lfa};
 use crate::destination::Destination;

@@ -4,8 +4,8 @@ ghost use Rattle.std.specs.Prelude.{◌≡◌, ◌<◌, ℕ, IfOk, OnOk, Option,
 ghost use Rattle.area_graph.specs.{AreaInvariant.IsArea, Parts.AreaParts};
 ghost use Rattle.primary_alt.specs.DistancesFrom.{AreDistancesFrom};
 ghost use Rattle.lfa_alt.specs.{declared.alternate.FreeCandidate.FreeCandidate, declared.destination.Destination.Destination, declared.way.Way.Way};
-ghost use Rattle.lfa_alt.specs.{Choosing.AreBest, Choosing.IsBetterBy, Choosing.AreDestinations, Choosing.Offers};
-ghost use Rattle.lfa_alt.specs.Ways.{AreWays, IsWayToNetwork};
+ghost use Rattle.lfa_alt.specs.steps.Choosing.{AreBest, IsBetterBy, AreDestinations, Offers};
+ghost use Rattle.lfa_alt.specs.steps.Ways.{AreWays, IsWayToNetwork};
 
 use crate::alternate::FreeCandidate;
 use crate::choosing::{better, candidate_for, candidate_there, is_to_network};

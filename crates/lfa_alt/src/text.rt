@@ -4,7 +4,8 @@ ghost use Rattle.std.specs.Prelude.{◌≡◌, ◌<◌, IfOk, IfSome, length};
 ghost use Rattle.area_graph.specs.AreaInvariant.{IsArea};
 ghost use Rattle.mrt_graph.specs.GraphInvariant.{IsNetwork};
 ghost use Rattle.primary_alt.specs.Primaries.{ArePrimaries, IsPrimary};
-ghost use Rattle.text_parts.specs.{Adds.Adds, Parts.AreParts};
+ghost use Rattle.text_parts.specs.steps.Adds.{Adds};
+ghost use Rattle.text_parts.specs.Parts.{AreParts};
 ghost use Rattle.lfa_alt.specs.LfaText.{AreLfaWords, IsArcHop, IsHead, IsLfaHop, IsLfaText, IsLine, IsPartOn};
 ghost use Rattle.lfa_alt.specs.LoopFree.{AreLfas, IsLfa};
 

@@ -3,7 +3,7 @@
 ghost use Rattle.std.specs.Prelude.{◌≡◌, ◌≢◌, ◌<◌, ◌≤◌, ◌↔◌, IfOk, IfSome, IsNone, IsTrue, Some, length, slice_get};
 ghost use Rattle.area_graph.specs.{declared.area_types.Arc.Arc, AreaInvariant.IsArea};
 ghost use Rattle.mrt_graph.specs.GraphInvariant.{IsNetwork};
-ghost use Rattle.lfa_alt.specs.Ways.{AddsAcross, AddsOver, AreWays, IsAgain, LeadsOn, way_across, way_over};
+ghost use Rattle.lfa_alt.specs.steps.Ways.{AddsAcross, AddsOver, AreWays, IsAgain, LeadsOn, way_across, way_over};
 
 use crate::way::Way;
 use area_graph::{Arc, ArcNo, Area, Spot};

@@ -10,12 +10,12 @@ use Rattle.mrt_graph.specs.Topology.{Topology}
 use Rattle.mrt_graph.proofs.ListPlaces.{contains_at, place_of}
 use Rattle.mrt_graph.proofs.Members.{listed_or_not}
 use Rattle.link_direction.specs.Directed.{AreNumbers, IsDirected}
-use Rattle.link_direction.specs.Ways.{AreWaysGiven, mark_by}
+use Rattle.link_direction.specs.steps.Ways.{AreWaysGiven, mark_by}
 use Rattle.link_direction.proofs.EachInOrder.{whole_sound}
 use Rattle.link_direction.proofs.FromEarsFacts.{AreGadagFacts}
 use Rattle.link_direction.proofs.OrderExists.{length-table, order_exists, table, table_at}
 use Rattle.link_direction.proofs.OrderSound.{IsSound}
-use Rattle.link_direction.specs.Counting.{StandOnce}
+use Rattle.link_direction.specs.steps.Counting.{StandOnce}
 use Rattle.link_direction.proofs.WaysGiven.{ways_given}
 
 -- the place of a node in a list, from 1

@@ -1,7 +1,7 @@
 -- How many of the first numbers pass a test.
 use Rattle.std.proofs.Common.{◌≡◌, ◌≢◌, ◌<◌, ◌≤◌, ◌+◌, ℕ, zero, suc, Bool, true, false, inl, inr, refl, subst, arith}
 use Rattle.std.proofs.lemmas.Bool.{cases_Bool, cases_eq}
-use Rattle.link_direction.specs.Counting.{count_to}
+use Rattle.link_direction.specs.steps.Counting.{count_to}
 
 pub same_count : (p q : ℕ → Bool) (n : ℕ) → ((e : ℕ) → p e ≡ q e) → count_to p n ≡ count_to q n
 same_count p q zero same = refl

@@ -7,7 +7,7 @@ use Rattle.mrt_graph.specs.GadagLists.{GadagLists, gadag_of}
 use Rattle.mrt_graph.specs.Topology.{Topology}
 use Rattle.link_direction.specs.Directed.{AreNumbers, IsDirected}
 use Rattle.link_direction.specs.GadagOrder.{IsWholeOrder}
-use Rattle.link_direction.specs.Ways.{AreWaysGiven}
+use Rattle.link_direction.specs.steps.Ways.{AreWaysGiven}
 use Rattle.link_direction.proofs.WaysGiven.{ways_given}
 
 -- of parts that are what they are to be, it is the whole

@@ -6,7 +6,7 @@ use Rattle.mrt_graph.specs.declared.gadag.Mark.{Mark}
 use Rattle.mrt_graph.specs.declared.link.End.{End}
 use Rattle.mrt_graph.specs.Topology.{Topology}
 use Rattle.mrt_graph.proofs.ListPlaces.{at_left}
-use Rattle.link_direction.specs.Counting.{IsEndOf, IsUnderWay, entered_by}
+use Rattle.link_direction.specs.steps.Counting.{IsEndOf, IsUnderWay, entered_by}
 use Rattle.link_direction.proofs.EnteredBy.{counted_from, enters_there}
 use Rattle.link_direction.proofs.NextInOrder.{IsAtEnd, still_left}
 use Rattle.link_direction.proofs.TakenOff.{end_kept, few_listed, in_longer, once_longer, passed_by, put_at_back, taken_off}

@@ -14,7 +14,7 @@ use Rattle.mrt_graph.specs.Topology.{Topology}
 use Rattle.mrt_graph.proofs.Hops.{lead_back}
 use Rattle.lowpoint_dfs.proofs.WholeTree.{leads_within}
 use Rattle.gadag_ears.specs.Counted.{IsCounted}
-use Rattle.link_direction.specs.Counting.{entered_by, entered_with}
+use Rattle.link_direction.specs.steps.Counting.{entered_by, entered_with}
 
 -- what a link, a direction and a role say of a counted link
 record IsCountedAs (link : Link) (way : Way) (role : Role) (u v : ℕ) : Type 0 where

@@ -8,7 +8,7 @@ use Rattle.mrt_graph.specs.declared.link.End.{End}
 use Rattle.mrt_graph.specs.Topology.{Topology}
 use Rattle.mrt_graph.proofs.ListPlaces.{contains_at, place_of}
 use Rattle.gadag_ears.specs.Counted.{IsCounted}
-use Rattle.link_direction.specs.Counting.{IsEndOf, IsPassed, IsUnderWay}
+use Rattle.link_direction.specs.steps.Counting.{IsEndOf, IsPassed, IsUnderWay}
 use Rattle.link_direction.specs.GadagOrder.{IsNextInOrder, IsReadyAt}
 use Rattle.link_direction.proofs.EnteredBy.{one_tail}
 use Rattle.link_direction.proofs.PassedEnds.{not_passed_here, one_end, passed_before}

@@ -9,7 +9,7 @@ use Rattle.mrt_graph.specs.Topology.{Topology}
 use Rattle.mrt_graph.proofs.EndsAt.{list_of_ends}
 use Rattle.mrt_graph.proofs.ListPlaces.{at_last, at_left, contains_at}
 use Rattle.mrt_graph.proofs.ListTests.{there}
-use Rattle.link_direction.specs.Counting.{AreCounts, IsEndOf, IsUnderWay, count_to, entered_by, enters}
+use Rattle.link_direction.specs.steps.Counting.{AreCounts, IsEndOf, IsUnderWay, count_to, entered_by, enters}
 use Rattle.link_direction.specs.GadagOrder.{IsWholeOrder}
 use Rattle.link_direction.proofs.EndPassed.{at_end, no_end}
 use Rattle.link_direction.proofs.FromEarsFacts.{AreGadagFacts}

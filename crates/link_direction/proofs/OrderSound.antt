@@ -10,7 +10,7 @@ use Rattle.mrt_graph.proofs.Members.{contains_cases, contains_none}
 use Rattle.lowpoint_dfs.proofs.WholeTree.{leads_within}
 use Rattle.gadag_ears.specs.Counted.{IsCounted}
 use Rattle.link_direction.specs.GadagOrder.{Begun, IsGadagOrder, Next}
-use Rattle.link_direction.specs.Counting.{StandOnce}
+use Rattle.link_direction.specs.steps.Counting.{StandOnce}
 use Rattle.link_direction.proofs.TakenOff.{in_longer, once_longer}
 
 -- it begins with the root, has each node at one place, and where it has a node it has before it all from which counted links come to that node

@@ -12,7 +12,7 @@ use Rattle.mrt_graph.proofs.ListPlaces.{at_left, pushed_at}
 use Rattle.mrt_graph.proofs.ListTests.{one_passes}
 use Rattle.mrt_graph.proofs.Tallies.{count_is_tally, length_is_tally}
 use Rattle.gadag_ears.specs.Counted.{IsCounted}
-use Rattle.link_direction.specs.Counting.{IsEndOf, IsPassed, IsUnderWay, StandOnce}
+use Rattle.link_direction.specs.steps.Counting.{IsEndOf, IsPassed, IsUnderWay, StandOnce}
 
 -- two ends of a node on one link are one
 pub one_end : (g : Topology) (x j k : ℕ) (ends : List End) (end other : End) → IsTopology g → slice_get g.ends x ≡ Some ends

@@ -8,7 +8,7 @@ use Rattle.mrt_graph.specs.Topology.{Topology}
 use Rattle.mrt_graph.proofs.ListPlaces.{place_of}
 use Rattle.mrt_graph.proofs.Members.{contains_cases, contains_none}
 use Rattle.gadag_ears.specs.Counted.{IsCounted}
-use Rattle.link_direction.specs.Counting.{AreCounts, IsUnderWay, entered_by}
+use Rattle.link_direction.specs.steps.Counting.{AreCounts, IsUnderWay, entered_by}
 use Rattle.link_direction.specs.GadagOrder.{Begun, IsWholeOrder}
 use Rattle.link_direction.proofs.EnteredBy.{counted_into, enters_there}
 use Rattle.link_direction.proofs.PassedEnds.{passed_before, passed_in_turn, still_under_way, turn_passed}

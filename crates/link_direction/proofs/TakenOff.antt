@@ -15,7 +15,7 @@ use Rattle.mrt_graph.proofs.ListPlaces.{contains_at, place_of, pushed_at}
 use Rattle.mrt_graph.proofs.ListTests.{all_at}
 use Rattle.mrt_graph.proofs.Members.{contains_first, contains_from_has}
 use Rattle.gadag_ears.specs.Counted.{IsCounted}
-use Rattle.link_direction.specs.Counting.{AreCounts, IsEndOf, IsPassed, IsUnderWay, StandOnce, count_to, enters}
+use Rattle.link_direction.specs.steps.Counting.{AreCounts, IsEndOf, IsPassed, IsUnderWay, StandOnce, count_to, enters}
 use Rattle.link_direction.specs.GadagOrder.{IsNextInOrder, Next}
 use Rattle.link_direction.proofs.Counts.{all_fail, none_counted, one_more, same_count, some_counted}
 use Rattle.link_direction.proofs.EnteredBy.{link_within, one_far_node, one_tail}

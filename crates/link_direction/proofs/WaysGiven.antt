@@ -14,7 +14,7 @@ use Rattle.mrt_graph.specs.Topology.{Topology}
 use Rattle.mrt_graph.proofs.Hops.{far_ends}
 use Rattle.mrt_graph.proofs.ListTests.{there}
 use Rattle.link_direction.specs.Directed.{AreNumbers, AreWays}
-use Rattle.link_direction.specs.Ways.{AreWaysGiven, mark_by, way_by}
+use Rattle.link_direction.specs.steps.Ways.{AreWaysGiven, mark_by, way_by}
 
 -- what holds of the marks link by link, or of marks that are not there
 data IsGiven (g : Topology) (numbers : List ℕ) (before after : List Mark) (e : ℕ) : Type 0 where

@@ -2,7 +2,7 @@
 
 ghost use Rattle.std.specs.Prelude.{◌≡◌, ◌<◌, ◌+◌, ◌↔◌, IfOk, IsTrue, Some, length};
 ghost use Rattle.mrt_graph.specs.GraphInvariant.{IsTopology};
-ghost use Rattle.link_direction.specs.Counting.{AreCounts, entered_by};
+ghost use Rattle.link_direction.specs.steps.Counting.{AreCounts, entered_by};
 
 use mrt_graph::{End, Graph, LinkNo, Mark, NoMemory, NodeNo, Role, Way};
 use std::alloc::Global;

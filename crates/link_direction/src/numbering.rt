@@ -1,7 +1,8 @@
 //! The order numbers.
 
 ghost use Rattle.std.specs.Prelude.{◌≡◌, ◌<◌, ◌≤◌, ℕ, IfOk, Some, length, slice_get};
-ghost use Rattle.link_direction.specs.{Counting.StandOnce, Directed.AreNumbers};
+ghost use Rattle.link_direction.specs.steps.Counting.{StandOnce};
+ghost use Rattle.link_direction.specs.Directed.{AreNumbers};
 
 use mrt_graph::{Graph, NoMemory, NodeNo};
 use std::alloc::Global;

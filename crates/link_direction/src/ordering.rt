@@ -21,7 +21,7 @@ ghost use Rattle.std.specs.Prelude.{
   vec_capacity,
 };
 ghost use Rattle.mrt_graph.specs.{GadagLists.GadagLists, GraphInvariant.IsTopology};
-ghost use Rattle.link_direction.specs.Counting.{IsEndOf, IsTurn, IsTurnOfEnd, IsUnderWay, StandOnce};
+ghost use Rattle.link_direction.specs.steps.Counting.{IsEndOf, IsTurn, IsTurnOfEnd, IsUnderWay, StandOnce};
 ghost use Rattle.link_direction.specs.{FromEars.IsFromEars, GadagOrder.IsWholeOrder};
 
 use crate::counting::{counts_over, entering};

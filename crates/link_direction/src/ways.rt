@@ -2,7 +2,7 @@
 
 ghost use Rattle.std.specs.Prelude.{◌≡◌, ◌<◌, length, slice_index_or, Some, slice_get};
 ghost use Rattle.mrt_graph.specs.declared.link.Link.{Link};
-ghost use Rattle.link_direction.specs.Ways.{AreWaysGiven, way_by};
+ghost use Rattle.link_direction.specs.steps.Ways.{AreWaysGiven, way_by};
 
 use mrt_graph::{Graph, Link, LinkNo, Mark, NodeNo, Way};
 

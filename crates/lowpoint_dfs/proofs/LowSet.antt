@@ -8,7 +8,7 @@ use Rattle.mrt_graph.specs.declared.link.End.{End}
 use Rattle.mrt_graph.specs.declared.tree.TreeNode.{TreeNode}
 use Rattle.mrt_graph.specs.TreeWords.{search_number, parent_link}
 use Rattle.lowpoint_dfs.specs.declared.lowpoints.Lowest.{Lowest}
-use Rattle.lowpoint_dfs.specs.Lowering.{IsGiven, IsLowest}
+use Rattle.lowpoint_dfs.specs.steps.Lowering.{IsGiven, IsLowest}
 
 module _ (tree : List TreeNode) (v : ℕ) (ends : List End) (node : TreeNode) (lowest : Lowest) (within : v < length tree)
     (there : slice_get tree v ≡ Some node) where

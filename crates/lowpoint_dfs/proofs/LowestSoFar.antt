@@ -5,7 +5,7 @@ use Rattle.mrt_graph.specs.declared.link.End.{End}
 use Rattle.mrt_graph.specs.declared.tree.TreeNode.{TreeNode}
 use Rattle.std.proofs.lemmas.Option.{same_Some}
 use Rattle.lowpoint_dfs.specs.declared.lowpoints.Lowest.{Lowest}
-use Rattle.lowpoint_dfs.specs.Lowering.{IsLowFrom, Own, Offered, IsLowest, lowered}
+use Rattle.lowpoint_dfs.specs.steps.Lowering.{IsLowFrom, Own, Offered, IsLowest, lowered}
 use Rattle.lowpoint_dfs.specs.Lowpoint.{offer}
 
 same_end : (ends : List End) (j k : ℕ) (one other : End) → slice_get ends j ≡ Some one → slice_get ends k ≡ Some other → j ≡ k → Some one ≡ Some other

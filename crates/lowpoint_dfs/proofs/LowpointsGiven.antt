@@ -11,7 +11,7 @@ use Rattle.mrt_graph.specs.Topology.{Topology}
 use Rattle.mrt_graph.specs.TreeWords.{search_number, parent_link, low_of}
 use Rattle.mrt_graph.proofs.EndsAt.{end_leads}
 use Rattle.mrt_graph.proofs.Hops.{lead_back}
-use Rattle.lowpoint_dfs.specs.Lowering.{AreAlike, AreNumbered, IsGiven, IsLowFrom, Own, Offered}
+use Rattle.lowpoint_dfs.specs.steps.Lowering.{AreAlike, AreNumbered, IsGiven, IsLowFrom, Own, Offered}
 use Rattle.lowpoint_dfs.specs.Lowpoint.{HasLowpoint, IsLeast, IsLowLink, ByOffer, ByParent, IsOffered, is_parent_link, offer}
 use Rattle.lowpoint_dfs.specs.Subtree.{parent_of}
 use Rattle.lowpoint_dfs.proofs.ParentsFirst.{parent_over}

@@ -17,7 +17,7 @@ use Rattle.mrt_graph.proofs.ListPlaces.{place_of}
 use Rattle.mrt_graph.proofs.ListTests.{there}
 use Rattle.mrt_graph.proofs.Members.{contains_none}
 use Rattle.mrt_graph.specs.FirstEnd.{IsFirstEnd}
-use Rattle.lowpoint_dfs.specs.Lowering.{AreAlike}
+use Rattle.lowpoint_dfs.specs.steps.Lowering.{AreAlike}
 use Rattle.lowpoint_dfs.specs.Lowpoint.{HasLowpoint, IsLowLink, ByOffer, ByParent, offer}
 use Rattle.lowpoint_dfs.specs.SearchOrder.{IsDone, IsFoundNext, IsSearchOrder, Begun, Found}
 use Rattle.lowpoint_dfs.specs.SearchTree.{IsSearchTree}

@@ -15,8 +15,8 @@ use Rattle.mrt_graph.proofs.ListPlaces.{contains_at, place_of, set_there, set_el
 use Rattle.mrt_graph.proofs.ListTests.{all_at, there}
 use Rattle.mrt_graph.proofs.Members.{listed_or_not}
 use Rattle.lowpoint_dfs.specs.declared.lowpoints.Lowest.{Lowest}
-use Rattle.lowpoint_dfs.specs.Finding.{IsFinished, IsSearching, LeadToFound, found_node}
-use Rattle.lowpoint_dfs.specs.Lowering.{AreNumbered, IsGiven, IsLowest, Own, lowered}
+use Rattle.lowpoint_dfs.specs.steps.Finding.{IsFinished, IsSearching, LeadToFound, found_node}
+use Rattle.lowpoint_dfs.specs.steps.Lowering.{AreNumbered, IsGiven, IsLowest, Own, lowered}
 use Rattle.lowpoint_dfs.specs.Lowpoint.{offer}
 use Rattle.lowpoint_dfs.specs.SearchOrder.{IsDone}
 use Rattle.lowpoint_dfs.specs.SearchTree.{IsSearchTree}

@@ -20,7 +20,7 @@ use Rattle.mrt_graph.proofs.ListPlaces.{contains_at, place_of, set_there, set_el
 use Rattle.mrt_graph.proofs.ListTests.{all_at, there}
 use Rattle.mrt_graph.proofs.Members.{all_weaker}
 use Rattle.mrt_graph.proofs.Tallies.{one_if}
-use Rattle.lowpoint_dfs.specs.Finding.{IsFinished, IsSearching, LeadToFound, found_node, left_at, unfound}
+use Rattle.lowpoint_dfs.specs.steps.Finding.{IsFinished, IsSearching, LeadToFound, found_node, left_at, unfound}
 use Rattle.lowpoint_dfs.specs.SearchOrder.{IsDone, IsFoundNext, IsSearchOrder, Begun, Found}
 use Rattle.lowpoint_dfs.specs.Subtree.{HasParent, parent_of}
 use Rattle.lowpoint_dfs.proofs.Ancestors.{found_over}

@@ -13,8 +13,8 @@ use Rattle.mrt_graph.proofs.Hops.{far_ends}
 use Rattle.mrt_graph.proofs.ListPlaces.{place_of}
 use Rattle.mrt_graph.proofs.ListTests.{all_at}
 use Rattle.mrt_graph.proofs.Members.{contains_from_has}
-use Rattle.lowpoint_dfs.specs.Finding.{IsFinished}
-use Rattle.lowpoint_dfs.specs.Lowering.{AreAlike, AreNumbered}
+use Rattle.lowpoint_dfs.specs.steps.Finding.{IsFinished}
+use Rattle.lowpoint_dfs.specs.steps.Lowering.{AreAlike, AreNumbered}
 use Rattle.lowpoint_dfs.specs.Lowpoint.{HasLowpoint}
 use Rattle.lowpoint_dfs.specs.SearchTree.{IsSearchTree}
 use Rattle.lowpoint_dfs.specs.Subtree.{IsInSubtree}

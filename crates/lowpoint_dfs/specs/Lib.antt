@@ -1,6 +1,5 @@
-pub mod Finding
-pub mod Lowering
 pub mod Lowpoint
 pub mod SearchOrder
 pub mod SearchTree
 pub mod Subtree
+pub mod steps

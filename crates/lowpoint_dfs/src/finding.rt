@@ -26,7 +26,7 @@ ghost use Rattle.std.specs.Prelude.{
 ghost use Rattle.std.specs.List.{AllByRecursion};
 ghost use Rattle.mrt_graph.specs.{declared.link.End.End, GraphInvariant.IsTopology, TreeWords.search_number};
 ghost use Rattle.lowpoint_dfs.specs.Subtree.{parent_of};
-ghost use Rattle.lowpoint_dfs.specs.Finding.{IsFinished, IsSearching, LeadToFound, found_node, left_at};
+ghost use Rattle.lowpoint_dfs.specs.steps.Finding.{IsFinished, IsSearching, LeadToFound, found_node, left_at};
 
 use mrt_graph::{End, Graph, LinkNo, NoMemory, NodeNo, TreeNode};
 use std::alloc::Global;

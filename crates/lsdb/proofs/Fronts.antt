@@ -14,7 +14,7 @@ use Rattle.lsdb.specs.declared.key.Key.{Key}
 use Rattle.lsdb.specs.Entries.{Entry}
 use Rattle.lsdb.specs.Installing.{change_of, changed, installed, IsKept}
 use Rattle.lsdb.specs.Keys.{key_of, same_key}
-use Rattle.lsdb.specs.Store.{entries_of, front, is_entry_of, IsStore}
+use Rattle.lsdb.specs.steps.Store.{entries_of, front, is_entry_of, IsStore}
 use Rattle.lsdb.proofs.Stores.{chosen, entries_added, found_by_insert, installed_new, installed_there, key_is, lacking, parts_of, unchosen, Found}
 
 -- nothing stands at the front yet

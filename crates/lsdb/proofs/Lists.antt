@@ -16,7 +16,7 @@ use Rattle.lsdb.specs.Installs.{all_installed}
 use Rattle.lsdb.specs.Keys.{key_of, same_key, is_of, keys_in}
 use Rattle.lsdb.specs.Newest.{same_but_age, is_newest, newest_of}
 use Rattle.lsdb.specs.Rank.{rank_cmp, outranks}
-use Rattle.lsdb.specs.Store.{is_entry_of}
+use Rattle.lsdb.specs.steps.Store.{is_entry_of}
 use Rattle.lsdb.proofs.Arrivals.{own_key, differ_both, keys_step, keys_with, AreDistinct, keys_distinct, HaveInstances, have_instances, any_key}
 use Rattle.lsdb.proofs.Stores.{chosen, key_is, installed_new, unchosen}
 use Rattle.lsdb.proofs.Tops.{first_of_filter, tops, tops_step, joined, joined_by}

@@ -13,7 +13,7 @@ use Rattle.lsdb.specs.declared.key.Key.{Key}
 use Rattle.lsdb.specs.Entries.{Entry, Database}
 use Rattle.lsdb.specs.Installing.{change_of, changed, installed, noted}
 use Rattle.lsdb.specs.Keys.{key_of, same_key}
-use Rattle.lsdb.specs.Store.{entries_of, IsStore, is_entry_of}
+use Rattle.lsdb.specs.steps.Store.{entries_of, IsStore, is_entry_of}
 
 pub lsas_of_entries : (lsas : List Lsa) (places : List (Option ℕ)) → length places ≡ length lsas
     → map (λ (entry : Entry). entry.lsa) (entries_of lsas places) ≡ lsas

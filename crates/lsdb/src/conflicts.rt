@@ -2,7 +2,7 @@
 
 ghost use Rattle.std.specs.Prelude.{◌≡◌, length};
 ghost use Rattle.lsdb.specs.Conflicts.{conflict_of, earlier, least_conflict};
-ghost use Rattle.lsdb.specs.Store.{entries_of};
+ghost use Rattle.lsdb.specs.steps.Store.{entries_of};
 
 use crate::change::Conflict;
 use ospf_lsa::Lsa;

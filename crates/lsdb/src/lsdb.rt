@@ -4,7 +4,7 @@ ghost use Rattle.std.specs.Prelude.{◌≡◌, ◌↔◌, [], None, Some, IfOk, 
 ghost use Rattle.std.specs.List.{AllByRecursion};
 ghost use Rattle.lsdb.specs.{Conflicts.least_conflict, Conflicts.settled_by, Disagreements.IsFirstConflict, Entries.Entry, Keys.AreDistinct};
 ghost use Rattle.lsdb.specs.Installing.{installed, IsKept, IsBehind};
-ghost use Rattle.lsdb.specs.Store.{entries_of, front, IsStore};
+ghost use Rattle.lsdb.specs.steps.Store.{entries_of, front, IsStore};
 
 use crate::change::{Change, Conflict};
 use crate::conflicts::least;
@@ -37,7 +37,8 @@ impl Drop for Lsdb {
 }
 
 impl Model for Lsdb {
-    ghost use Rattle.lsdb.specs.{Entries.Database, Store.entries_of, Store.IsStore};
+    ghost use Rattle.lsdb.specs.Entries.{Database};
+    ghost use Rattle.lsdb.specs.steps.Store.{entries_of, IsStore};
 
     ghost Value = { Database };
 

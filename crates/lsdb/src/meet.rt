@@ -5,7 +5,7 @@ ghost use Rattle.std.specs.{List.AllByRecursion, Option.is_some};
 ghost use Rattle.ospf_lsa.specs.declared.lsa.Lsa.{Lsa};
 ghost use Rattle.lsdb.specs.{Entries.Entry, Keys.key_of, Newest.same_but_age};
 ghost use Rattle.lsdb.specs.Installing.{change_of, changed, installed, IsKept};
-ghost use Rattle.lsdb.specs.Store.{entries_of, front, IsStore};
+ghost use Rattle.lsdb.specs.steps.Store.{entries_of, front, IsStore};
 
 use crate::change::Change;
 use crate::compare::{compare_ranks, same};

@@ -23,10 +23,12 @@ use Rattle.ospf_lsa.specs.AreaLsas.{is_area_lsa}
 use Rattle.lsdb.specs.Database.{IsDatabase, entering}
 use Rattle.mrt_answer.specs.Database.{IsBadDatabase}
 use Rattle.mrt_words.specs.Form.{IsNetworkSize}
-use Rattle.mrt_answer.specs.Input.{Input, area, input_with, policy}
+use Rattle.mrt_answer.specs.Input.{Input, area, policy}
+use Rattle.mrt_answer.specs.steps.Input.{input_with}
 use Rattle.mrt_answer.specs.Islands.{area_of, island_in, island_of}
 use Rattle.mrt_answer.specs.Reading.{database_of, input_of}
-use Rattle.mrt_answer.specs.Surveyed.{made_input, summed_up_in}
+use Rattle.mrt_answer.specs.Surveyed.{made_input}
+use Rattle.mrt_answer.specs.steps.Surveyed.{summed_up_in}
 use Rattle.mrt_answer.specs.TextBytes.{IsTextAnswer}
 use Rattle.mrt_answer.specs.declared.text.Text.{Text}
 use Rattle.mrt_words.proofs.Readings.{if_err}

@@ -60,7 +60,8 @@ use Rattle.mrt_answer.specs.Forms.{certified, checked, delivered, flooded, loop_
 use Rattle.mrt_answer.specs.Input.{Input, area, policy}
 use Rattle.mrt_answer.specs.Islands.{area_of, island_in, island_of, own_place, place_of}
 use Rattle.mrt_answer.specs.Reading.{certificate_of, deliveries_of, input_of, profile_of, script_of, updates_of}
-use Rattle.mrt_answer.specs.Surveyed.{IsSummedUp, IsSurveyed, made_input, summed_up_in}
+use Rattle.mrt_answer.specs.Surveyed.{IsSummedUp, IsSurveyed, made_input}
+use Rattle.mrt_answer.specs.steps.Surveyed.{summed_up_in}
 use Rattle.mrt_answer.proofs.Islands.{contained, inside_is_there, island_ascends, no_large_area, one_large_area, root_within}
 use Rattle.mrt_answer.proofs.OneProxy.{ProxyLaws, accepted_for, one_proxied_of}
 use Rattle.mrt_answer.proofs.OneReading.{

@@ -21,7 +21,7 @@ use Rattle.primary_alt.specs.RouteLists.{RouteLists}
 use Rattle.primary_alt.specs.RoutesMade.{AreMade}
 use Rattle.mrt_answer.specs.declared.packets.AreaAndIsland.{AreaAndIsland}
 use Rattle.mrt_answer.specs.declared.packets.Tables.{Tables}
-use Rattle.mrt_answer.specs.Made.{AreTablesTo}
+use Rattle.mrt_answer.specs.steps.Made.{AreTablesTo}
 use Rattle.mrt_answer.specs.Texts.{ArePartsIn}
 use Rattle.mrt_answer.proofs.OneProxy.{accepted_for}
 

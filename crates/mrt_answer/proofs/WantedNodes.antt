@@ -8,7 +8,7 @@ use Rattle.mrt_graph.specs.Search.{IsMarked}
 use Rattle.mrt_graph.proofs.Members.{contains_none}
 use Rattle.mrt_graph.proofs.Searching.{mark_kept, mark_set, no_mark_at_first}
 use Rattle.primary_alt.specs.RouteLists.{RouteLists}
-use Rattle.mrt_answer.specs.Made.{IsWanted}
+use Rattle.mrt_answer.specs.steps.Made.{IsWanted}
 
 -- before the first destination
 pub none_wanted : (routes : RouteLists) (n d : ℕ) → IsMarked (replicate n false) d ↔ IsWanted routes [] d

@@ -1,8 +1,7 @@
 -- What a form is given.
-use Rattle.std.specs.Prelude.{ℕ, List, map}
+use Rattle.std.specs.Prelude.{ℕ, List}
 use Rattle.area_graph.specs.AreaOf.{area_of}
 use Rattle.area_graph.specs.Parts.{AreaParts}
-use Rattle.lsdb.specs.Entries.{Entry}
 use Rattle.mrt_graph.specs.TextLines.{text_lines}
 use Rattle.mrt_island.specs.ProfileFaults.{AreSettings}
 use Rattle.mrt_island.specs.Policy.{Policy, policy_of}
@@ -17,10 +16,6 @@ IsProfile bytes settings = AreSettings (text_lines bytes) settings
 pub record Input : Type 0 where
   pub newest : List Lsa
   pub settings : List Setting
-
--- what a database with these entries, and a profile with these settings, hold
-abbrev pub input_with : List Entry → List Setting → Input
-input_with entries settings = record { newest = map (λ entry. entry.lsa) entries; settings = settings }
 
 -- the area
 abbrev pub area : Input → AreaParts

@@ -8,3 +8,4 @@ pub mod Reading
 pub mod Surveyed
 pub mod TextBytes
 pub mod Texts
+pub mod steps

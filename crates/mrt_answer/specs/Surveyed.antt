@@ -4,7 +4,6 @@ use Rattle.mrt_graph.specs.declared.cert.CertFile.{CertFile}
 use Rattle.mrt_graph.specs.Topology.{Topology}
 use Rattle.mrt_survey.specs.MadeLsas.{made_lsas}
 use Rattle.mrt_survey.specs.SurveyText.{IsSurveyText}
-use Rattle.mrt_exit.specs.Steps.{Step, such, ◌▸◌}
 use Rattle.mrt_words.specs.Form.{IsNetworkSize}
 use Rattle.mrt_answer.specs.Input.{Input}
 use Rattle.mrt_answer.specs.Islands.{island_in}
@@ -20,10 +19,6 @@ pub record IsSummedUp (number : ℕ) (graph : Topology) (root : ℕ) (text : Lis
   pub file : CertFile
   pub certificate : IsComputedFile graph root file
   pub spelled : IsSurveyText number graph root file.cert text
-
--- the same, for the island of router 1
-abbrev pub summed_up_in : ℕ → Input → Step (List ℕ)
-summed_up_in number input = island_in input 1 ▸ λ island. such (IsSummedUp number island.graph island.root)
 
 -- the text is the survey of the network of so many routers that is made from a number
 pub record IsSurveyed (number nodes : ℕ) (text : List ℕ) : Type 0 where

@@ -22,7 +22,8 @@ impl Drop for Given {
 impl Model for Given {
     ghost use Rattle.std.specs.Prelude.{◌≡◌, None};
     ghost use Rattle.lsdb.specs.Conflicts.{least_conflict};
-    ghost use Rattle.mrt_answer.specs.Input.{Input, input_with};
+    ghost use Rattle.mrt_answer.specs.Input.{Input};
+    ghost use Rattle.mrt_answer.specs.steps.Input.{input_with};
 
     ghost Value = { Input };
 

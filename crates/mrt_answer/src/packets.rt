@@ -4,7 +4,7 @@ ghost use Rattle.std.specs.Prelude.{◌≡◌, ◌<◌, ◌↔◌, ◌/◌, ℕ,
 ghost use Rattle.area_graph.specs.Fits.{Fits};
 ghost use Rattle.mrt_graph.specs.Search.{IsMarked};
 ghost use Rattle.mrt_answer.specs.{Input.area as area_with, Islands.island_in};
-ghost use Rattle.mrt_answer.specs.Made.{AreTablesTo, IsWanted};
+ghost use Rattle.mrt_answer.specs.steps.Made.{AreTablesTo, IsWanted};
 ghost use Rattle.mrt_exit.specs.Due.{IsDue};
 
 use crate::columns::columns_of;

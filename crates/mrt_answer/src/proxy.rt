@@ -5,7 +5,11 @@ ghost use Rattle.mrt_exit.specs.Due.{IsDue};
 ghost use Rattle.mrt_graph.specs.declared.cert.CertFile.{CertFile};
 ghost use Rattle.mrt_rows.specs.Rooted.{MakeColumns};
 ghost use Rattle.proxy_rows.specs.ProxyRows.{AreProxyRows};
-ghost use Rattle.mrt_answer.specs.{Made.IsAttachedBy, Made.HasComputed, Forms.proxied_for, Forms.proxied_in, Texts.IsComputedFile, Texts.proxied, TextBytes.IsTextAnswer};
+ghost use Rattle.mrt_answer.specs.steps.Made.{IsAttachedBy};
+ghost use Rattle.mrt_answer.specs.Made.{HasComputed};
+ghost use Rattle.mrt_answer.specs.Forms.{proxied_for, proxied_in};
+ghost use Rattle.mrt_answer.specs.Texts.{IsComputedFile, proxied};
+ghost use Rattle.mrt_answer.specs.TextBytes.{IsTextAnswer};
 
 use crate::columns::columns_of;
 use crate::finding::node_of;

@@ -3,8 +3,10 @@
 ghost use Rattle.std.specs.Prelude.{◌≡◌, ◌≢◌, ◌<◌, IfOk, Contains, length};
 ghost use Rattle.area_graph.specs.Fits.{Fits};
 ghost use Rattle.mrt_graph.specs.{declared.cert.CertFile.CertFile, GraphInvariant.IsNetwork, NodeIds.router as router_node};
-ghost use Rattle.text_parts.specs.Adds.{Adds};
-ghost use Rattle.mrt_report.specs.{AddsLines.AddsLines, ByColumn.IsLineByColumn, ByColumn.IsRowByColumn, TableText.IsTableText};
+ghost use Rattle.text_parts.specs.steps.Adds.{Adds};
+ghost use Rattle.mrt_report.specs.steps.AddsLines.{AddsLines};
+ghost use Rattle.mrt_report.specs.ByColumn.{IsLineByColumn, IsRowByColumn};
+ghost use Rattle.mrt_report.specs.TableText.{IsTableText};
 ghost use Rattle.mrt_rows.specs.{CertOf.IsCertOf, Rooted.MakeColumns};
 ghost use Rattle.mrt_answer.specs.{Texts.IsComputedFile, Forms.table_in as table_step, Forms.tabled, Made.AreParts, Made.with_cert, TextBytes.IsTextAnswer};
 

@@ -5,7 +5,7 @@ use Rattle.mrt_exit.proofs.Stepping.{one_value}
 use Rattle.mrt_answer.specs.TextBytes.{HasText, IsTextOf}
 use Rattle.mrt_answer.specs.declared.text.Text.{Text}
 use Rattle.mrt_answer.proofs.TextsHeld.{some_bytes}
-use Rattle.mrt_calls.specs.Putting.{IsHeldIn}
+use Rattle.mrt_calls.specs.steps.Putting.{IsHeldIn}
 
 -- a count of a text is that of what comes
 pub counted : (step : Step (List ℕ)) (text : Text) (count : ℕ) → HasText (λ bytes. step (Ok bytes)) text

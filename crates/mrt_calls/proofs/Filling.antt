@@ -6,7 +6,7 @@ use Rattle.mrt_report.specs.TableText.{others}
 use Rattle.mrt_report.specs.declared.row.TableRow.{TableRow}
 use Rattle.mrt_report.proofs.AddingLines.{next, others_more, others_same, zip_push}
 use Rattle.mrt_calls.specs.steps.Filling.{IsFilled}
-use Rattle.mrt_calls.specs.Putting.{IsHeldIn}
+use Rattle.mrt_calls.specs.steps.Putting.{IsHeldIn}
 use Rattle.mrt_calls.specs.RowNumbers.{row_in}
 use Rattle.mrt_calls.specs.declared.row.MrtRow.{MrtRow}
 

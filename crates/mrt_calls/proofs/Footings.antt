@@ -20,7 +20,7 @@ use Rattle.mrt_answer.proofs.Tables.{not_network}
 use Rattle.mrt_calls.specs.steps.Footings.{ArePartsOf, IsFooting}
 use Rattle.mrt_calls.specs.TableRows.{AreTableRows, IsTheRow, TableFooting, tabled}
 use Rattle.mrt_calls.specs.steps.Filling.{IsFilled}
-use Rattle.mrt_calls.specs.Putting.{IsHeldIn}
+use Rattle.mrt_calls.specs.steps.Putting.{IsHeldIn}
 use Rattle.mrt_calls.specs.RowNumbers.{row_in}
 use Rattle.mrt_calls.specs.declared.row.MrtRow.{MrtRow}
 use Rattle.mrt_report.specs.ByColumn.{IsRowByColumn}

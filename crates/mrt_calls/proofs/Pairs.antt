@@ -13,7 +13,7 @@ use Rattle.mrt_exit.specs.declared.exit.Exit.{Exit}
 use Rattle.mrt_exit.specs.declared.exit.Exit.TheVariants as exits
 use Rattle.mrt_answer.specs.Made.{HasComputed}
 use Rattle.mrt_calls.specs.Proxies.{IsPairRow, pair_step, refused_row}
-use Rattle.mrt_calls.specs.Putting.{IsHeldIn}
+use Rattle.mrt_calls.specs.steps.Putting.{IsHeldIn}
 use Rattle.mrt_calls.specs.declared.proxy.MrtPair.{MrtPair}
 use Rattle.mrt_calls.specs.declared.proxy.MrtProxyRow.{MrtProxyRow}
 use Rattle.mrt_calls.proofs.Filling.{held_more}

@@ -4,7 +4,8 @@ use Rattle.mrt_exit.specs.Due.{IsDue}
 use Rattle.mrt_exit.specs.Steps.{Step}
 use Rattle.mrt_exit.specs.declared.exit.Exit.{Exit}
 use Rattle.mrt_exit.specs.declared.exit.Exit.TheVariants.{Done, WriteFault}
-use Rattle.mrt_calls.specs.Putting.{Gives, IsHeldIn, PutsIn}
+use Rattle.mrt_calls.specs.Putting.{Gives, PutsIn}
+use Rattle.mrt_calls.specs.steps.Putting.{IsHeldIn}
 
 -- done where there is room for so many, else that there is none
 abbrev pub Fits : ℕ → ℕ → Exit → Type 0

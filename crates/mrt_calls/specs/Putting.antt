@@ -22,10 +22,6 @@ pub record Gives {A : Type 0} (step : Step (List A)) (room : ℕ) (buffer : List
   pub comes : IsAnswer step answer
   pub put : IsPut buffer count exit answer
 
--- a buffer holds these where there is room for them, and this is how many there are
-abbrev pub IsHeldIn : {A : Type 0} → List A → ℕ → List A → Type 0
-IsHeldIn buffer count them = (count ≡ length them) × (length them ≤ length buffer → take (length them) buffer ≡ them)
-
 -- a call answers what comes of a step, or want of memory: a value, or that there is none, and why
 abbrev pub IsGiven : {A : Type 0} → A → Exit → Result A Exit → Type 0
 IsGiven value exit (Ok it) = (value ≡ it) × (exit ≡ Done)

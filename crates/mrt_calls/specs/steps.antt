@@ -1,3 +1,4 @@
 pub mod FaultExits
 pub mod Filling
 pub mod Footings
+pub mod Putting

@@ -3,7 +3,10 @@
 ghost use Rattle.std.specs.Prelude.{◌≡◌, ℕ, List, Ok, Err, IfOk, IfErr, length};
 ghost use Rattle.mrt_answer.specs.TextBytes.{IsTextAnswer};
 ghost use Rattle.mrt_exit.specs.{Due.IsDue, declared.exit.Exit.Exit};
-ghost use Rattle.mrt_calls.specs.{Faults.IsTold, Putting.Gives, Putting.IsHeldIn, Shapes.certified_in};
+ghost use Rattle.mrt_calls.specs.Faults.{IsTold};
+ghost use Rattle.mrt_calls.specs.Putting.{Gives};
+ghost use Rattle.mrt_calls.specs.steps.Putting.{IsHeldIn};
+ghost use Rattle.mrt_calls.specs.Shapes.{certified_in};
 
 use crate::area::{MrtArea, given_in};
 use crate::calls_law::one_answer_each;

@@ -4,10 +4,13 @@ ghost use Rattle.std.specs.Prelude.{◌≡◌, ◌≢◌, ◌<◌, ◌+◌, ◌+
 ghost use Rattle.std.specs.List.{AllZip};
 ghost use Rattle.mrt_graph.specs.{GraphInvariant.IsTopology, NodeIds.router as router_node};
 ghost use Rattle.mrt_rows.specs.Rooted.{MakeColumns};
-ghost use Rattle.proxy_rows.specs.{declared.proxy_row.ProxyRow.ProxyRow, Touches.AllTouch, Touches.Touches};
+ghost use Rattle.proxy_rows.specs.declared.proxy_row.ProxyRow.{ProxyRow};
+ghost use Rattle.proxy_rows.specs.steps.Touches.{AllTouch, Touches};
 ghost use Rattle.mrt_answer.specs.Made.{HasComputed};
 ghost use Rattle.mrt_exit.specs.{Due.IsDue, Steps.IsAnswer, declared.exit.Exit.Exit};
-ghost use Rattle.mrt_calls.specs.{Faults.IsTold, Putting.Gives, Putting.IsHeldIn};
+ghost use Rattle.mrt_calls.specs.Faults.{IsTold};
+ghost use Rattle.mrt_calls.specs.Putting.{Gives};
+ghost use Rattle.mrt_calls.specs.steps.Putting.{IsHeldIn};
 ghost use Rattle.mrt_calls.specs.Proxies.{ArePairRows, IsOutHop, IsPairRow, between, differing, from_first, hops_at, pair_step, proxied_pairs, proxies_in, refused_row};
 
 use crate::area::{MrtArea, given_in};

@@ -2,7 +2,7 @@
 
 ghost use Rattle.std.specs.Prelude.{◌≡◌, ◌⊎◌, ◌<◌, ◌≤◌, ℕ, List, IfOk, OnErr, length};
 ghost use Rattle.mrt_answer.specs.TextBytes.{IsTextOf};
-ghost use Rattle.mrt_calls.specs.Putting.{IsHeldIn};
+ghost use Rattle.mrt_calls.specs.steps.Putting.{IsHeldIn};
 ghost use Rattle.mrt_exit.specs.declared.exit.Exit.{Exit};
 
 use mrt_answer::Text;

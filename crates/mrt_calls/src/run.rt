@@ -5,7 +5,8 @@ ghost use Rattle.mrt_answer.specs.TextBytes.{IsTextAnswer};
 ghost use Rattle.mrt_cmd.specs.Comes.{of_words};
 ghost use Rattle.mrt_exit.specs.{Due.IsDue, declared.exit.Exit.Exit};
 ghost use Rattle.mrt_lent.specs.Lent.{held_in};
-ghost use Rattle.mrt_calls.specs.{Faults.IsTold, Putting.IsHeldIn};
+ghost use Rattle.mrt_calls.specs.Faults.{IsTold};
+ghost use Rattle.mrt_calls.specs.steps.Putting.{IsHeldIn};
 ghost use Rattle.mrt_calls.specs.Runs.{HoldsLine, IsRun, words_in};
 
 use crate::fault::{MrtFault, tell};

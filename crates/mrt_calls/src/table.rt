@@ -6,7 +6,11 @@ ghost use Rattle.mrt_report.specs.ByColumn.{IsRowByColumn};
 ghost use Rattle.mrt_rows.specs.{CertOf.IsCertOf, Rooted.MakeColumns};
 ghost use Rattle.mrt_answer.specs.{Input.Input, Made.AreParts, Made.with_cert};
 ghost use Rattle.mrt_exit.specs.{Due.IsDue, declared.exit.Exit.Exit};
-ghost use Rattle.mrt_calls.specs.{Faults.IsTold, steps.Filling.IsFilled, steps.Footings.IsFooting, Putting.Gives, Putting.IsHeldIn};
+ghost use Rattle.mrt_calls.specs.Faults.{IsTold};
+ghost use Rattle.mrt_calls.specs.steps.Filling.{IsFilled};
+ghost use Rattle.mrt_calls.specs.steps.Footings.{IsFooting};
+ghost use Rattle.mrt_calls.specs.Putting.{Gives};
+ghost use Rattle.mrt_calls.specs.steps.Putting.{IsHeldIn};
 ghost use Rattle.mrt_calls.specs.TableRows.{table_in, tabled};
 
 use crate::area::{MrtArea, given_in};

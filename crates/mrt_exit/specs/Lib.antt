@@ -3,3 +3,4 @@ pub mod Exits
 pub mod Faults
 pub mod Steps
 pub mod Telling
+pub mod steps

@@ -26,7 +26,3 @@ IsAnswer step (Err exit) = IsDue (λ due. step (Err due)) exit
 -- at most one thing comes of a step
 abbrev pub IsOne : {A : Type 0} → Step A → Type 0
 IsOne step = (answer other : _) → step answer → step other → answer ≡ other
-
--- each exit that comes of a step is such a one
-abbrev pub EndsAs : {A : Type 0} → (Exit → Type 0) → Step A → Type 0
-EndsAs Is step = (exit : Exit) → step (Err exit) → Is exit

@@ -6,7 +6,7 @@ use Rattle.std.proofs.lemmas.List.{length-map}
 use Rattle.std.proofs.lemmas.List.FromFn.{length-range_with_len}
 use Rattle.std.proofs.lemmas.List.Elements.{recursion_from_All}
 use Rattle.std.proofs.lemmas.Option.{get_or_from_slice_get, slice_get-map}
-use Rattle.mrt_graph.specs.RelatedPairs.{by_pairs}
+use Rattle.mrt_graph.specs.steps.RelatedPairs.{by_pairs}
 use Rattle.mrt_graph.specs.RowPlace.{place_of_row}
 use Rattle.mrt_graph.proofs.Pairs.{flat_at, flat_length, others_are, others_at}
 use Rattle.mrt_graph.proofs.RowPlaces.{placed}

@@ -8,7 +8,7 @@ use Rattle.std.proofs.lemmas.Option.{slice_get_within}
 use Rattle.mrt_graph.specs.declared.link.End.{End}
 use Rattle.mrt_graph.specs.declared.link.Link.{Link}
 use Rattle.mrt_graph.specs.declared.link.LinkIn.{LinkIn}
-use Rattle.mrt_graph.specs.EndRows.{IsInRange, IsWithin}
+use Rattle.mrt_graph.specs.steps.EndRows.{IsInRange, IsWithin}
 use Rattle.mrt_graph.specs.EndsOfLinks.{end_at, ends_at, pair_of}
 use Rattle.mrt_graph.specs.GraphInvariant.{IsEnd}
 use Rattle.mrt_graph.specs.Leads.{leads, far_node}

@@ -11,7 +11,8 @@ use Rattle.mrt_graph.specs.Certificate.{Certificate, row_of}
 use Rattle.mrt_graph.specs.CertWords.{head_of}
 use Rattle.mrt_graph.specs.Foldable.{IsFoldable}
 use Rattle.mrt_graph.specs.Related.{are_unrelated, carrier}
-use Rattle.mrt_graph.specs.RowRules.{carried_row, row_rule, rows_tagged, same_links}
+use Rattle.mrt_graph.specs.steps.RowRules.{carried_row, row_rule, rows_tagged}
+use Rattle.mrt_graph.specs.RowRules.{same_links}
 use Rattle.mrt_graph.specs.Tags.{same_tag}
 use Rattle.mrt_graph.proofs.OneUnfolding.{carried_tag, chain_ends, folded_at}
 use Rattle.mrt_graph.proofs.Unfolding.{stays}

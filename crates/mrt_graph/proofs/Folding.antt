@@ -11,7 +11,7 @@ use Rattle.mrt_graph.specs.Certificate.{IsCertificate, IsCertNode, row_of}
 use Rattle.mrt_graph.specs.CertWords.{head_of, order_of}
 use Rattle.mrt_graph.specs.Foldable.{IsFoldable, IsLeastOwnHead, comes_to, in_chain, is_folded, rows_folded}
 use Rattle.mrt_graph.specs.Related.{are_unrelated}
-use Rattle.mrt_graph.specs.RowRules.{row_rule}
+use Rattle.mrt_graph.specs.steps.RowRules.{row_rule}
 use Rattle.mrt_graph.specs.Tags.{same_tag}
 use Rattle.mrt_graph.specs.Topology.{Topology}
 use Rattle.mrt_graph.proofs.AcceptedBlocks.{blocks}

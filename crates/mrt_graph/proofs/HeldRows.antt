@@ -7,9 +7,10 @@ use Rattle.mrt_graph.specs.declared.cert.CertNode.{CertNode}
 use Rattle.mrt_graph.specs.declared.cert.Row.{Row}
 use Rattle.mrt_graph.specs.Certificate.{Certificate, IsCertificate, IsCertRow, certificate_of, row_of}
 use Rattle.mrt_graph.specs.Foldable.{IsFoldable}
-use Rattle.mrt_graph.specs.FoldedRows.{IsHeld, IsIndexed, IsUnfoldable, held, unfolded_row}
+use Rattle.mrt_graph.specs.steps.FoldedRows.{IsHeld, IsIndexed, held, unfolded_row}
+use Rattle.mrt_graph.specs.FoldedRows.{IsUnfoldable}
 use Rattle.mrt_graph.specs.Kin.{Kin, kin_of}
-use Rattle.mrt_graph.specs.NodeRows.{AreHeldRows}
+use Rattle.mrt_graph.specs.steps.NodeRows.{AreHeldRows}
 use Rattle.mrt_graph.specs.Related.{are_unrelated}
 use Rattle.mrt_graph.specs.RelatedPairs.{place_of_near}
 use Rattle.mrt_graph.specs.RowPlace.{place_of_row}

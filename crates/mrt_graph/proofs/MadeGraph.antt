@@ -7,7 +7,7 @@ use Rattle.std.proofs.lemmas.List.Sorted.{All-permutation, length_permutation, s
 use Rattle.mrt_graph.specs.declared.link.End.{End}
 use Rattle.mrt_graph.specs.declared.link.LinkIn.{LinkIn}
 use Rattle.mrt_graph.specs.declared.node_id.NodeId.{NodeId}
-use Rattle.mrt_graph.specs.EndRows.{IsInRange, IsWithin}
+use Rattle.mrt_graph.specs.steps.EndRows.{IsInRange, IsWithin}
 use Rattle.mrt_graph.specs.EndsOfLinks.{ends_at, pair_of}
 use Rattle.mrt_graph.specs.GraphInvariant.{AreEnds, IsEnd, IsLink, IsTopology}
 use Rattle.mrt_graph.specs.NewGraph.{AreEndLists, AreGraphParts, AreInOrder}

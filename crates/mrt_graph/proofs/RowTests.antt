@@ -11,7 +11,8 @@ use Rattle.mrt_graph.specs.CertWords.{order_of, head_of, block_of, has_role, tag
 use Rattle.mrt_graph.specs.Hop.{Hop}
 use Rattle.mrt_graph.specs.Leads.{leads}
 use Rattle.mrt_graph.specs.Roles.{is_plain, is_sole, is_closing}
-use Rattle.mrt_graph.specs.RowRules.{row_rule, near_row, plain_to_head, closing_to_head, higher_beside, lower_beside, higher_tagged, lower_tagged}
+use Rattle.mrt_graph.specs.steps.RowRules.{row_rule, near_row}
+use Rattle.mrt_graph.specs.RowRules.{plain_to_head, closing_to_head, higher_beside, lower_beside, higher_tagged, lower_tagged}
 use Rattle.mrt_graph.proofs.Blocks.{Words}
 use Rattle.mrt_graph.proofs.RowFacts.{Says, SoleRow, HeadRow, TopRow, BelowRow, AboveRow, UnorderedRow, Higher, Lower, OverPlain, OverClosing}
 use Rattle.mrt_graph.proofs.TestFacts.{both_pass, plain_is, sole_is, closing_is, equal_numbers, less_numbers, is_tagged, is_higher, is_lower}

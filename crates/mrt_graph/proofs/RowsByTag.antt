@@ -13,7 +13,8 @@ use Rattle.mrt_graph.specs.Leads.{leads}
 use Rattle.mrt_graph.specs.Places.{IsFirstPair, IsFirstTwo}
 use Rattle.mrt_graph.specs.Related.{are_unrelated, carrier}
 use Rattle.mrt_graph.specs.Roles.{is_plain, is_sole, is_closing}
-use Rattle.mrt_graph.specs.RowRules.{closing_to_head, higher_beside, higher_tagged, lower_beside, lower_tagged, near_row, plain_to_head, row_rule, rows_tagged, same_links}
+use Rattle.mrt_graph.specs.RowRules.{closing_to_head, higher_beside, higher_tagged, lower_beside, lower_tagged, plain_to_head, same_links}
+use Rattle.mrt_graph.specs.steps.RowRules.{near_row, row_rule, rows_tagged}
 use Rattle.mrt_graph.specs.RowsByTag.{GoesBy, Keeps, KeepsTag, NearRow}
 use Rattle.mrt_graph.specs.Tags.{same_tag}
 use Rattle.mrt_graph.proofs.ListTests.{some_passes}

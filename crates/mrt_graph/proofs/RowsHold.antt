@@ -15,7 +15,8 @@ use Rattle.mrt_graph.specs.CertWords.{head_of, link_block}
 use Rattle.mrt_graph.specs.Hop.{hop_over, color_hop}
 use Rattle.mrt_graph.specs.Leads.{leads}
 use Rattle.mrt_graph.specs.Related.{are_unrelated, carrier, is_common_block}
-use Rattle.mrt_graph.specs.RowRules.{row_rule, lies_in_block, same_links}
+use Rattle.mrt_graph.specs.steps.RowRules.{row_rule}
+use Rattle.mrt_graph.specs.RowRules.{lies_in_block, same_links}
 use Rattle.mrt_graph.specs.Rows.{link_of_color}
 use Rattle.mrt_graph.specs.Rules.{TagRule, BlockRule}
 use Rattle.mrt_graph.specs.Tags.{same_tag}

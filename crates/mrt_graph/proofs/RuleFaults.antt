@@ -11,7 +11,8 @@ use Rattle.mrt_graph.specs.FirstFault.{FirstFault}
 use Rattle.mrt_graph.specs.HeadsAndBlocks.{HeadHoldsAt, HeadFails, Alone, Beside, HeadsHold, HeadFault, closed_block, link_placed, lone_block, placed, one_head}
 use Rattle.mrt_graph.specs.Places.{Each, EachPair, EachTwo, IsFirst, IsFirstPair, IsFirstTwo}
 use Rattle.mrt_graph.specs.RootAndOrders.{RootAndOrders, OrderFault, AtRoot, EqualOrders, root_stands, orders_differ}
-use Rattle.mrt_graph.specs.RowRules.{rows_in_block, rows_tagged}
+use Rattle.mrt_graph.specs.RowRules.{rows_in_block}
+use Rattle.mrt_graph.specs.steps.RowRules.{rows_tagged}
 use Rattle.mrt_graph.specs.RowsByTag.{KeepsTag}
 use Rattle.mrt_graph.specs.Rules.{Rule, GraphRule, OrderRule, HeadRule, LinkRule, LoneRule, ClosedRule, TagRule, BlockRule, FailsAt, Holds, rule_number}
 use Rattle.mrt_graph.specs.SameGraph.{SameCounts, SameGraph, GraphFault, OtherCounts, OtherNode, OtherLink, same_node, same_link}

@@ -12,7 +12,8 @@ use Rattle.mrt_graph.specs.declared.cert.Tag.TheVariants.{Carried}
 use Rattle.mrt_graph.specs.Certificate.{Certificate, IsCertRow, IsCertificate, certificate_of, row_of}
 use Rattle.mrt_graph.specs.CertWords.{head_of}
 use Rattle.mrt_graph.specs.Foldable.{IsFoldable, in_chain, is_folded, is_own_head}
-use Rattle.mrt_graph.specs.FoldedRows.{IsFolded, IsUnfoldable, near_row_of, no_row, unfolded_row, unfolded_rows, way_of}
+use Rattle.mrt_graph.specs.FoldedRows.{IsFolded, IsUnfoldable}
+use Rattle.mrt_graph.specs.steps.FoldedRows.{near_row_of, no_row, unfolded_row, unfolded_rows, way_of}
 use Rattle.mrt_graph.specs.Related.{are_unrelated, carrier}
 use Rattle.mrt_graph.specs.RelatedPairs.{place_of_near, related_pairs, set_marks}
 use Rattle.mrt_graph.specs.RowPlace.{place_of_row}

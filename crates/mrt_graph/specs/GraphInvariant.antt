@@ -1,10 +1,8 @@
 -- What each graph keeps.
-use Rattle.std.specs.Prelude.{◌≡◌, ◌==◌, ◌<◌, ◌≤◌, ◌^◌, ℕ, List, Some, length, map, slice_get, count_by}
+use Rattle.std.specs.Prelude.{◌≡◌, ◌==◌, ◌<◌, ◌≤◌, ◌^◌, ℕ, List, Some, length, slice_get, count_by}
 use Rattle.std.specs.List.{AllByRecursion}
 use Rattle.std.specs.List.Sorted.{IsSorted, IsStrictlySortedBy}
 use Rattle.std.specs.Option.{option_map}
-use Rattle.std.specs.declared.alloc.Global.{Global}
-use Rattle.smallvec.specs.declared.SmallVec.{SmallVec}
 use Rattle.mrt_graph.specs.declared.link.End.{End}
 use Rattle.mrt_graph.specs.declared.link.Link.{Link}
 use Rattle.mrt_graph.specs.declared.node_id.Kind.TheVariants.{Network}
@@ -51,11 +49,3 @@ pub record IsTopology (graph : Topology) : Type 0 where
   pub a_list_each : length graph.ends ≡ length graph.ids
   pub ends_kept : (n : ℕ) (ends : List End) → slice_get graph.ends n ≡ Some ends → AreEnds (length graph.ids) graph.links n ends
   pub connected : IsConnected (length graph.ids) graph.links
-
--- the lists of ends, each without the room that it has for more
-abbrev pub lists_of : List (SmallVec End 4 Global) → List (List End)
-lists_of rows = map (λ row. row.items) rows
-
--- what is seen of a graph's three lists
-abbrev pub topology_of : List NodeId → List Link → List (SmallVec End 4 Global) → Topology
-topology_of ids links ends = record { ids = ids; links = links; ends = lists_of ends }

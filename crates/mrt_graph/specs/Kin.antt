@@ -1,5 +1,5 @@
 -- Nodes' relatives by number: the members of a node's block, its head and its children, these two in other blocks.
-use Rattle.std.specs.Prelude.{◌≡◌, ◌==◌, ◌<◌, ◌≤◌, ◌+◌, ◌-◌, ◌&&◌, ℕ, zero, suc, Bool, false, List, Option, Some, None, nat_lt, not, length, map, slice_get, slice_index_or, if◌then◌else◌}
+use Rattle.std.specs.Prelude.{◌≡◌, ◌==◌, ◌<◌, ◌+◌, ◌-◌, ◌&&◌, ℕ, zero, suc, Bool, false, List, Option, Some, None, nat_lt, not, length, map, slice_get, slice_index_or, if◌then◌else◌}
 use Rattle.std.specs.Option.{option_map}
 use Rattle.mrt_graph.specs.declared.cert.CertNode.{CertNode}
 use Rattle.mrt_graph.specs.BothThere.{are_equal}
@@ -48,14 +48,3 @@ kin_below kin s t = count_below (is_member kin.blocks s) t + (count_below (is_up
 abbrev pub kin_before : Kin → ℕ → ℕ
 kin_before kin zero = 0
 kin_before kin (suc s) = kin_before kin s + (kin_below kin s (length kin.blocks) - 1)
-
--- of each node, and the one after the last, how many pairs come before its own
-pub record AreStarts (kin : Kin) (begins : List ℕ) : Type 0 where
-  pub some : length begins ≡ length kin.blocks + 1
-  pub each : (s : ℕ) → s ≤ length kin.blocks → slice_get begins s ≡ Some (kin_before kin s)
-
--- what an index of relatives keeps
-pub record IsIndex (kin : Kin) (begins : List ℕ) : Type 0 where
-  pub few : length kin.blocks ≤ 65535
-  pub both : length kin.heads ≡ length kin.blocks
-  pub starts : AreStarts kin begins

@@ -10,7 +10,6 @@ pub mod ColorWalk
 pub mod Column
 pub mod Connected
 pub mod DirectedLists
-pub mod EndRows
 pub mod EndsOfLinks
 pub mod FirstEnd
 pub mod FirstFault
@@ -52,6 +51,6 @@ pub mod Tails
 pub mod TextLines
 pub mod Topology
 pub mod TreeWords
-pub mod TwoBytes
 pub mod Uses
 pub mod Walk
+pub mod steps

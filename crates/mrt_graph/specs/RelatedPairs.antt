@@ -5,11 +5,6 @@ use Rattle.mrt_graph.specs.Certificate.{Certificate}
 use Rattle.mrt_graph.specs.Related.{are_unrelated}
 use Rattle.mrt_graph.specs.RowPlace.{place_of_row}
 
--- what f says of each node and each other one, by ascending first, then by ascending second
-abbrev pub by_pairs : {X : Type 0} → (ℕ → ℕ → X) → ℕ → List X
-by_pairs f n =
-    flat_map (λ s. map (f s) (filter (λ t. not (t == s)) (range_with_len 0 n))) (range_with_len 0 n)
-
 -- of each node but s whether s is related to it, by ascending number
 abbrev pub related_to : Certificate → ℕ → List Bool
 related_to c s =

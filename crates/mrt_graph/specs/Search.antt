@@ -31,10 +31,6 @@ pub record SearchState : Type 0 where
 abbrev pub left_of : SearchState → ℕ
 left_of search = unmarked search.marks + length search.found - search.followed
 
--- each number of a list is below n
-abbrev pub AreBelow : ℕ → List ℕ → Type 0
-AreBelow n numbers = (k : ℕ) → k < length numbers → slice_index_or numbers k 0 < n
-
 -- a search over so many nodes that has found `start` alone
 pub record IsBegun (count start : ℕ) (search : SearchState) : Type 0 where
   pub one_each : length search.marks ≡ count

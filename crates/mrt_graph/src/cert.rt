@@ -127,7 +127,8 @@ impl Drop for Cert {
 }
 
 impl Model for Cert {
-    ghost use Rattle.mrt_graph.specs.{Certificate.Certificate, FoldedRows.IsHeld, FoldedRows.held};
+    ghost use Rattle.mrt_graph.specs.Certificate.{Certificate};
+    ghost use Rattle.mrt_graph.specs.steps.FoldedRows.{IsHeld, held};
 
     ghost Value = { Certificate };
 

@@ -42,7 +42,9 @@ impl Drop for Graph {
 }
 
 impl Model for Graph {
-    ghost use Rattle.mrt_graph.specs.{GraphInvariant.IsTopology, GraphInvariant.topology_of, Topology.Topology};
+    ghost use Rattle.mrt_graph.specs.GraphInvariant.{IsTopology};
+    ghost use Rattle.mrt_graph.specs.steps.GraphInvariant.{topology_of};
+    ghost use Rattle.mrt_graph.specs.Topology.{Topology};
 
     ghost Value = { Topology };
 

@@ -2,7 +2,9 @@
 
 ghost use Rattle.std.specs.Prelude.{◌≡◌, ◌≢◌, ◌<◌, ◌-◌, ◌*◌, IfSome, None, Some, length};
 ghost use Rattle.std.specs.Option.{option_map};
-ghost use Rattle.mrt_graph.specs.{BlockPlaces.AreBlockPlaces, Certificate.row_of, NodeRows.AreHeldRows, NodeRows.ArePlacesOf};
+ghost use Rattle.mrt_graph.specs.BlockPlaces.{AreBlockPlaces};
+ghost use Rattle.mrt_graph.specs.Certificate.{row_of};
+ghost use Rattle.mrt_graph.specs.steps.NodeRows.{AreHeldRows, ArePlacesOf};
 
 use crate::cert::{Cert, Row, column, first_row};
 use crate::numbers::NodeNo;
@@ -21,7 +23,8 @@ pub struct NodeRows<'a> {
 }
 
 impl<'a> Model for NodeRows<'a> {
-    ghost use Rattle.mrt_graph.specs.NodeRows.{AreNodeRows, RowsOfNode};
+    ghost use Rattle.mrt_graph.specs.steps.NodeRows.{AreNodeRows};
+    ghost use Rattle.mrt_graph.specs.NodeRows.{RowsOfNode};
 
     ghost Value = { RowsOfNode };
 
@@ -33,7 +36,8 @@ impl<'a> Model for NodeRows<'a> {
 impl<'a> NodeRows<'a> {
     ghost use Rattle.std.specs.Prelude.{◌≡◌, ◌≢◌, ◌<◌, Some, length};
     ghost use Rattle.std.specs.Option.{option_map};
-    ghost use Rattle.mrt_graph.specs.{Certificate.IsCertRow, Certificate.row_of, NodeRows.AreHeldRows};
+    ghost use Rattle.mrt_graph.specs.Certificate.{IsCertRow, row_of};
+    ghost use Rattle.mrt_graph.specs.steps.NodeRows.{AreHeldRows};
 
     /// The rows of a node of a certificate that holds these rows.
     pub(crate) fn new(

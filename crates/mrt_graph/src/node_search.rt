@@ -17,7 +17,8 @@ pub struct NodeSearch {
 
 impl Model for NodeSearch {
     ghost use Rattle.std.specs.Prelude.{◌≤◌, ◌+◌, length, vec_capacity};
-    ghost use Rattle.mrt_graph.specs.Search.{AreBelow, SearchState, unmarked};
+    ghost use Rattle.mrt_graph.specs.steps.Search.{AreBelow};
+    ghost use Rattle.mrt_graph.specs.Search.{SearchState, unmarked};
 
     ghost Value = { SearchState };
 

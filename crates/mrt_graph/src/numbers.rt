@@ -52,7 +52,7 @@ impl Model for LinkNo {
     ghost use Rattle.std.specs.Prelude.{ℕ, [], ◌∷◌, slice_index_or};
     ghost use Rattle.std.proofs.Common.{ap, refl};
     ghost use Rattle.std.proofs.lemmas.Nat.{le_bytes_2};
-    ghost use Rattle.mrt_graph.specs.TwoBytes.{AreBytes, byte_of, two_byte_number};
+    ghost use Rattle.mrt_graph.specs.steps.TwoBytes.{AreBytes, byte_of, two_byte_number};
 
     ghost Value = { ℕ };
 

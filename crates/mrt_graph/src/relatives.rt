@@ -4,7 +4,8 @@ ghost use Rattle.std.specs.Prelude.{◌≡◌, ◌≢◌, ◌<◌, ◌≤◌, �
 ghost use Rattle.std.specs.List.{AllByRecursion};
 ghost use Rattle.mrt_graph.specs.{BlockPlaces.AreBlockPlaces, Certificate.Certificate, Certificate.IsCertNode};
 ghost use Rattle.mrt_graph.specs.Groups.{count_below, has_key, with_key};
-ghost use Rattle.mrt_graph.specs.Kin.{AreStarts, IsUpper, IsUpperNumber, Kin, is_upper, kin_below, kin_of, outer_head};
+ghost use Rattle.mrt_graph.specs.steps.Kin.{AreStarts};
+ghost use Rattle.mrt_graph.specs.Kin.{IsUpper, IsUpperNumber, Kin, is_upper, kin_below, kin_of, outer_head};
 ghost use Rattle.mrt_graph.specs.{Related.are_unrelated, RelatedPairs.place_of_near, RelatedPairs.related_pairs, RelatedPairs.set_marks};
 
 use crate::cert::CertNode;
@@ -26,7 +27,8 @@ pub struct Relatives {
 }
 
 impl Model for Relatives {
-    ghost use Rattle.mrt_graph.specs.Kin.{IsIndex, Kin};
+    ghost use Rattle.mrt_graph.specs.steps.Kin.{IsIndex};
+    ghost use Rattle.mrt_graph.specs.Kin.{Kin};
 
     ghost Value = { Kin };
 

@@ -3,7 +3,9 @@
 ghost use Rattle.std.specs.Prelude.{◌≡◌, ◌≢◌, ◌<◌, ◌≤◌, [], Some, length};
 ghost use Rattle.std.specs.{List.AllByRecursion, Option.option_map};
 ghost use Rattle.mrt_graph.specs.{Certificate.IsCertNode, Certificate.certificate_of, Kin.kin_of};
-ghost use Rattle.mrt_graph.specs.{FoldedRows.IsUnfoldable, FoldedRows.unfolded_row, FoldedRows.way_of, RelatedPairs.place_of_near};
+ghost use Rattle.mrt_graph.specs.FoldedRows.{IsUnfoldable};
+ghost use Rattle.mrt_graph.specs.steps.FoldedRows.{unfolded_row, way_of};
+ghost use Rattle.mrt_graph.specs.RelatedPairs.{place_of_near};
 
 use crate::cert::{CertNode, Row};
 use crate::numbers::NodeNo;

@@ -10,7 +10,7 @@ use Rattle.mrt_io.specs.declared.device.OpenError.TheVariants as open_errors
 use Rattle.mrt_io.specs.declared.device.ShelfError.{ShelfError}
 use Rattle.mrt_io.specs.declared.device.ShelfError.TheVariants as errors
 use Rattle.mrt_io.specs.declared.mem_shelf.Open.{Open}
-use Rattle.mrt_io.specs.Opened.{IsOpenIn, bytes_at, left_of}
+use Rattle.mrt_io.specs.steps.Opened.{IsOpenIn, bytes_at, left_of}
 
 -- of no file nothing is left
 pub none_open : (files : List (List ℕ × List ℕ)) (opened : Option Open) → is_some opened ≡ false → left_of files opened ≡ None

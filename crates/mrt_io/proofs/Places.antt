@@ -7,7 +7,7 @@ use Rattle.std.specs.Option.{IsSomeAnd, option_map}
 use Rattle.std.specs.Str.{bytes_eq}
 use Rattle.mrt_io.specs.Memory.{file_of}
 use Rattle.mrt_io.specs.Named.{named}
-use Rattle.mrt_io.specs.Opened.{IsOpenIn, bytes_at, left_of}
+use Rattle.mrt_io.specs.steps.Opened.{IsOpenIn, bytes_at, left_of}
 
 -- the bytes at a place are those of the file that is there
 pub bytes_at_place : (files : List (List ℕ × Vec ℕ)) (place : ℕ) (file : List ℕ × Vec ℕ)

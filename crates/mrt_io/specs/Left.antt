@@ -1,6 +1,5 @@
 -- What is left of the file that is open, told or not told.
-use Rattle.std.specs.Prelude.{◌≡◌, ◌≤◌, ◌++◌, ℕ, Bool, false, List, [], Option, Some, None, IfSome, length}
-use Rattle.std.specs.Io.KnownBytes.{Consumes, IsAtEnd}
+use Rattle.std.specs.Prelude.{◌≡◌, ◌++◌, ℕ, List, Option, Some, None, IfSome}
 use Rattle.std.specs.Option.{IsSomeAnd}
 use Rattle.mrt_io.specs.Holding.{Files}
 
@@ -12,12 +11,3 @@ IsLeftOf held name left = IfSome held (λ files. IsSomeAnd left (λ bytes. files
 abbrev pub IsTakenOff : Option (List ℕ) → List ℕ → Option (List ℕ) → Type 0
 IsTakenOff None taken now = now ≡ None
 IsTakenOff (Some before) taken now = IsSomeAnd now (λ left. before ≡ taken ++ left)
-
--- a reader read on: it gave at most so many bytes, which came to the end of these, and were the first that it tells to be left; where
--- no more may be left it gave none, and tells none
-pub record IsReadOn (before now : Option (List ℕ)) (room : ℕ) (old new : List ℕ) (more : Bool) : Type 0 where
-  pub taken : List ℕ
-  pub few : length taken ≤ room
-  pub added : new ≡ old ++ taken
-  pub consumed : Consumes before now taken
-  pub end : more ≡ false → (taken ≡ []) × IsAtEnd now

@@ -3,5 +3,5 @@ pub mod Holding
 pub mod Left
 pub mod Memory
 pub mod Named
-pub mod Opened
 pub mod Writing
+pub mod steps

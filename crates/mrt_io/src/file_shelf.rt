@@ -1,6 +1,7 @@
 ghost use Rattle.std.specs.Prelude.{◌≡◌, ◌≢◌, ◌≤◌, ◌<◌, ◌^◌, IfErr, IfOk, IfSome, IsErrOf, length, vec_len};
 ghost use Rattle.std.specs.Io.KnownBytes.{ReadConsumes};
-ghost use Rattle.mrt_io.specs.{Left.IsReadOn, Memory.counted as fault_counted};
+ghost use Rattle.mrt_io.specs.steps.Left.{IsReadOn};
+ghost use Rattle.mrt_io.specs.Memory.{counted as fault_counted};
 
 use crate::device::{OpenError, Shelf, ShelfError, ShelfFailed};
 use crate::piece::zeros;

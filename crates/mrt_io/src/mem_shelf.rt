@@ -1,7 +1,7 @@
 ghost use Rattle.std.specs.Prelude.{◌≡◌, ◌<◌, ◌+◌, ◌^◌, IfSome, None, Some, length, min, take, if◌then◌else◌};
 ghost use Rattle.std.specs.Option.{option_and_then, option_map};
 ghost use Rattle.mrt_io.specs.{Memory.file_of, Named.named};
-ghost use Rattle.mrt_io.specs.Opened.{IsOpenIn, bytes_at, left_of};
+ghost use Rattle.mrt_io.specs.steps.Opened.{IsOpenIn, bytes_at, left_of};
 
 use crate::call::is_failing;
 use crate::device::{OpenError, Shelf, ShelfError, ShelfFailed};
@@ -38,7 +38,9 @@ struct Open {
 }
 
 impl Model for MemShelf {
-    ghost use Rattle.mrt_io.specs.{Memory.ShelfInMemory, Named.named, Opened.IsOpenIn, Opened.left_of};
+    ghost use Rattle.mrt_io.specs.Memory.{ShelfInMemory};
+    ghost use Rattle.mrt_io.specs.Named.{named};
+    ghost use Rattle.mrt_io.specs.steps.Opened.{IsOpenIn, left_of};
 
     ghost Value = { ShelfInMemory };
 

@@ -14,7 +14,8 @@ use Rattle.area_graph.specs.Parts.{AreaParts}
 use Rattle.area_graph.specs.declared.area_types.Bond.{Bond}
 use Rattle.mrt_island.specs.Policy.{Policy}
 use Rattle.mrt_island.specs.Members.{IsInside}
-use Rattle.mrt_island.specs.Numbering.{AreFlagNumbers, AreLinkNumbers, flagged, flags_set, ids_of, is_link, link_by, links_of}
+use Rattle.mrt_island.specs.steps.Numbering.{AreFlagNumbers}
+use Rattle.mrt_island.specs.Numbering.{AreLinkNumbers, flagged, flags_set, ids_of, is_link, link_by, links_of}
 use Rattle.mrt_island.specs.IslandOf.{IsIsland}
 use Rattle.mrt_island.specs.Rooting.{IsRoot}
 use Rattle.area_graph.proofs.FewBonds.{pairs_few}

@@ -7,7 +7,7 @@ use Rattle.area_graph.specs.declared.area_types.Bond.{Bond}
 use Rattle.mrt_island.specs.Policy.{Policy}
 use Rattle.mrt_island.specs.Eligible.{is_eligible}
 use Rattle.mrt_island.specs.Numbering.{is_inside, is_link}
-use Rattle.mrt_island.specs.Searching.{chosen}
+use Rattle.mrt_island.specs.steps.Searching.{chosen}
 
 -- the flags from bond k on
 chosen_here : (flags inside : List Bool) (bonds : List Bond) (k : ℕ) (bond : Bond) → k < length flags → k < length bonds → bond ≡ get_or bonds k bond

@@ -12,7 +12,7 @@ use Rattle.area_graph.specs.Parts.{AreaParts}
 use Rattle.mrt_island.specs.Policy.{Policy}
 use Rattle.mrt_island.specs.Members.{IsInside}
 use Rattle.mrt_island.specs.Numbering.{flags_set, ids_of, links_of, number_inside}
-use Rattle.mrt_island.specs.Rooting.{HasRouter}
+use Rattle.mrt_island.specs.steps.Rooting.{HasRouter}
 use Rattle.mrt_island.proofs.Counting.{ascend_flagged, flagged_at, length_flagged}
 use Rattle.mrt_island.proofs.Joined.{all_joined}
 use Rattle.mrt_island.proofs.LinkParts.{links_ascend, links_between}

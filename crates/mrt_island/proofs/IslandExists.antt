@@ -27,7 +27,8 @@ use Rattle.mrt_island.specs.IslandOf.{IsIsland}
 use Rattle.mrt_island.specs.Members.{IsInside, Joins, nodes_of}
 use Rattle.mrt_island.specs.Numbering.{ids_of, links_of}
 use Rattle.mrt_island.specs.Policy.{Policy}
-use Rattle.mrt_island.specs.Rooting.{HasRouter, IsChosenBefore, IsRoot}
+use Rattle.mrt_island.specs.steps.Rooting.{HasRouter}
+use Rattle.mrt_island.specs.Rooting.{IsChosenBefore, IsRoot}
 use Rattle.mrt_island.proofs.GraphOfIsland.{has_router}
 use Rattle.mrt_island.proofs.LinkNumbers.{link_numbers, links_numbered}
 use Rattle.mrt_island.proofs.Telling.{far_cases}

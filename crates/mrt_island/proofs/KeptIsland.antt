@@ -2,7 +2,7 @@
 use Rattle.std.proofs.Common.{◌≡◌, ◌≤◌, ℕ, Bool, List, [], ◌∷◌, Option, length, map, sym, subst, arith}
 use Rattle.std.specs.List.{AllByRecursion, filter}
 use Rattle.std.proofs.lemmas.List.Elements.{All-from_recursion}
-use Rattle.mrt_graph.specs.EndRows.{IsInRange}
+use Rattle.mrt_graph.specs.steps.EndRows.{IsInRange}
 use Rattle.mrt_graph.specs.EndsOfLinks.{pair_of}
 use Rattle.mrt_graph.specs.GraphInvariant.{IsTopology}
 use Rattle.mrt_graph.specs.Topology.{Topology}

@@ -11,7 +11,8 @@ use Rattle.area_graph.specs.declared.area_types.Bond.{Bond}
 use Rattle.mrt_graph.proofs.ListTests.{there}
 use Rattle.mrt_graph.proofs.Tallies.{one_if}
 use Rattle.mrt_island.specs.Policy.{Policy}
-use Rattle.mrt_island.specs.Numbering.{AreFlagNumbers, AreLinkNumbers, is_link, number_at, number_inside}
+use Rattle.mrt_island.specs.steps.Numbering.{AreFlagNumbers, number_at}
+use Rattle.mrt_island.specs.Numbering.{AreLinkNumbers, is_link, number_inside}
 use Rattle.mrt_island.proofs.Counting.{number_none, number_one, set_cons}
 
 -- of each flag the number of those that are set, from that number on; none where it is not set

@@ -15,7 +15,7 @@ use Rattle.area_graph.specs.declared.area_types.Bond.{Bond}
 use Rattle.mrt_island.specs.Policy.{Policy}
 use Rattle.mrt_island.specs.Eligible.{is_eligible}
 use Rattle.mrt_island.specs.Members.{IsMember, Joins}
-use Rattle.mrt_island.specs.Searching.{ArePairs, LeadsOver}
+use Rattle.mrt_island.specs.steps.Searching.{ArePairs, LeadsOver}
 
 -- the flag of a bond
 pub flag_at : (p : Bond → Bool) (bonds : List Bond) (k : ℕ) (bond : Bond) → slice_get bonds k ≡ Some bond → get_or (map p bonds) k false ≡ p bond

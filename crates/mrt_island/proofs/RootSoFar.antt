@@ -9,7 +9,8 @@ use Rattle.mrt_graph.specs.declared.node_id.Kind.TheVariants as kinds
 use Rattle.mrt_graph.specs.declared.node_id.NodeId.{NodeId}
 use Rattle.mrt_graph.specs.NodeOrder.{node_id_cmp}
 use Rattle.mrt_island.specs.Policy.{Policy}
-use Rattle.mrt_island.specs.Rooting.{HasRouter, IsChosenBefore, IsRoot, level_of}
+use Rattle.mrt_island.specs.steps.Rooting.{HasRouter, level_of}
+use Rattle.mrt_island.specs.Rooting.{IsChosenBefore, IsRoot}
 use Rattle.mrt_graph.proofs.NodeIds.{ascend_at, less_is_lower}
 
 -- a router stands at that place, with that priority number

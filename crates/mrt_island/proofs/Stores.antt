@@ -10,7 +10,7 @@ use Rattle.mrt_island.specs.declared.setting.Setting.{Setting}
 use Rattle.mrt_island.specs.declared.setting.Setting.TheVariants as settings
 use Rattle.mrt_island.specs.declared.setting.Subject.{Subject}
 use Rattle.mrt_island.specs.declared.setting.Subject.TheVariants as subjects
-use Rattle.mrt_island.specs.ProfileStore.{parts_of, setting_about, settings_kept}
+use Rattle.mrt_island.specs.steps.ProfileStore.{parts_of, setting_about, settings_kept}
 use Rattle.mrt_island.specs.Settings.{given_priority, is_ineligible, is_no_mrt, priority_of, same_subject}
 
 -- whether two subjects are one, as the derived `==` tells

@@ -16,7 +16,7 @@ use Rattle.area_graph.specs.declared.area_types.Arc.{Arc}
 use Rattle.area_graph.specs.declared.area_types.Bond.{Bond}
 use Rattle.mrt_island.specs.Members.{nodes_of}
 use Rattle.mrt_graph.proofs.Filters.{kept_at, passes_at}
-use Rattle.mrt_island.specs.Searching.{ArePairs, LeadsBy, LeadsOver}
+use Rattle.mrt_island.specs.steps.Searching.{ArePairs, LeadsBy, LeadsOver}
 
 -- one of the first n arcs leads to v over a bond whose flag is set
 pub record IsTold (arcs : List Arc) (flags : List Bool) (n v : ℕ) : Type 0 where

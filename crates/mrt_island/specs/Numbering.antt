@@ -1,5 +1,5 @@
 -- How the nodes and links of an island are numbered.
-use Rattle.std.specs.Prelude.{◌≡◌, ◌&&◌, ◌<◌, ℕ, Bool, true, false, List, [], ◌∷◌, Option, Some, None, if◌then◌else◌, length, map, take, count_by, slice_get, slice_index_or}
+use Rattle.std.specs.Prelude.{◌≡◌, ◌&&◌, ℕ, Bool, true, false, List, [], ◌∷◌, Option, Some, None, if◌then◌else◌, length, map, take, count_by, slice_get, slice_index_or}
 use Rattle.std.specs.List.{filter}
 use Rattle.mrt_graph.specs.declared.link.LinkIn.{LinkIn}
 use Rattle.mrt_graph.specs.declared.node_id.NodeId.{NodeId}
@@ -49,15 +49,6 @@ link_by inside bond = record {
 -- the links of an island, in the order of the area's bonds: these begin with the pairs by lower node, then by higher node
 abbrev pub links_of : Policy → AreaParts → List Bool → List LinkIn
 links_of policy area inside = map (link_by inside) (filter (is_link policy area.ids inside) area.bonds)
-
--- the number of the flag at a place, where it is set: how many of those before it are set
-abbrev pub number_at : List Bool → ℕ → Option ℕ
-number_at flags k = if slice_index_or flags k false then Some (number_inside flags k) else None
-
--- of each flag that number
-pub record AreFlagNumbers (flags : List Bool) (numbers : List (Option ℕ)) : Type 0 where
-  pub one_each : length numbers ≡ length flags
-  pub each : (k : ℕ) → k < length flags → slice_get numbers k ≡ Some (number_at flags k)
 
 -- the number of the link that bond number k is, if it is one: how many links stand among the bonds before it
 abbrev pub link_number : Policy → AreaParts → List Bool → ℕ → Bond → Option ℕ

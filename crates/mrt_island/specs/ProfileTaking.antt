@@ -1,11 +1,7 @@
 -- The lines of a profile, taken in one after another: how `Profile` takes them. No clause of `read_profile` cites it.
 use Rattle.std.specs.Prelude.{◌++◌, ◌∷◌, [], List, Result, Ok, Err, if◌then◌else◌}
 use Rattle.std.specs.List.{list_any}
-use Rattle.text_parts.specs.declared.line_error.LineError.{LineError}
-use Rattle.text_parts.specs.declared.line_error.LineError.TheVariants as errors
 use Rattle.text_parts.specs.TextRule.{TextRule}
-use Rattle.mrt_island.specs.declared.profile_error.ProfileError.{ProfileError}
-use Rattle.mrt_island.specs.declared.profile_error.ProfileError.TheVariants.{Fault, NoMemory}
 use Rattle.mrt_island.specs.declared.profile_error.ProfileKind.{ProfileKind}
 use Rattle.mrt_island.specs.declared.profile_error.ProfileKind.TheVariants.{Repeated}
 use Rattle.mrt_island.specs.declared.setting.Setting.{Setting}
@@ -25,8 +21,3 @@ profile_rule = record {
   after = λ earlier line. with_setting earlier (line_setting line);
   ends = λ settings. Ok settings;
 }
-
--- the error of a reading of lines, as that of profiles
-abbrev pub error_of : LineError ProfileKind → ProfileError
-error_of (errors.Fault line kind) = Fault line kind
-error_of errors.NoMemory = NoMemory

@@ -1,6 +1,5 @@
 -- The GADAG root of an island (RFC 7811, section 5.3).
 use Rattle.std.specs.Prelude.{◌≡◌, ◌<◌, ◌≤◌, ◌⊎◌, ℕ, List, Some, slice_get}
-use Rattle.mrt_graph.specs.declared.node_id.Kind.{Kind}
 use Rattle.mrt_graph.specs.declared.node_id.Kind.TheVariants as kinds
 use Rattle.mrt_graph.specs.declared.node_id.NodeId.{NodeId}
 use Rattle.mrt_island.specs.Policy.{Policy}
@@ -16,15 +15,3 @@ pub record IsRoot (policy : Policy) (ids : List NodeId) (node : ℕ) : Type 0 wh
   pub there : slice_get ids node ≡ Some id
   pub router : id.kind ≡ kinds.Router
   pub first : (k : ℕ) (other : NodeId) → slice_get ids k ≡ Some other → other.kind ≡ kinds.Router → IsChosenBefore policy id.number other.number
-
--- one of the nodes is a router
-pub record HasRouter (ids : List NodeId) : Type 0 where
-  pub place : ℕ
-  pub id : NodeId
-  pub there : slice_get ids place ≡ Some id
-  pub router : id.kind ≡ kinds.Router
-
--- a router's priority number; of a network one above all those
-abbrev pub level_of : Policy → Kind → ℕ → ℕ
-level_of policy kinds.Router number = policy.priority number
-level_of policy kinds.Network number = 256

@@ -4,7 +4,10 @@ ghost use Rattle.std.specs.Prelude.{◌≡◌, ◌<◌, ◌↔◌, ◌&&◌, ℕ
 ghost use Rattle.std.specs.List.{AllByRecursion};
 ghost use Rattle.area_graph.specs.AreaInvariant.{IsArea};
 ghost use Rattle.mrt_graph.specs.Search.{IsMarked};
-ghost use Rattle.mrt_island.specs.{Members.IsMember, Numbering.is_inside, Numbering.is_link, Policy.policy_of, Searching.chosen};
+ghost use Rattle.mrt_island.specs.Members.{IsMember};
+ghost use Rattle.mrt_island.specs.Numbering.{is_inside, is_link};
+ghost use Rattle.mrt_island.specs.Policy.{policy_of};
+ghost use Rattle.mrt_island.specs.steps.Searching.{chosen};
 
 use crate::eligible::eligible_pairs;
 use crate::profile::Profile;

@@ -4,7 +4,8 @@ ghost use Rattle.std.specs.Prelude.{◌≡◌, ◌≤◌, ◌↔◌, ℕ, false,
 ghost use Rattle.mrt_graph.specs.{NewGraph.AreGraphParts, NewGraph.IsGraphOf, NodeIds.router as router_node};
 ghost use Rattle.area_graph.specs.{AreaInvariant.IsArea, Fits.Fits};
 ghost use Rattle.mrt_island.specs.{IslandOf.IsIsland, Members.IsInside, declared.island_error.IslandError.TheVariants.NoMemory as no_memory};
-ghost use Rattle.mrt_island.specs.{Policy.policy_of, Searching.IsExtent};
+ghost use Rattle.mrt_island.specs.Policy.{policy_of};
+ghost use Rattle.mrt_island.specs.steps.Searching.{IsExtent};
 
 use crate::extent::{Extent, extent_of};
 use crate::island_error::IslandError;

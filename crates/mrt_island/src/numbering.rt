@@ -2,7 +2,8 @@
 
 ghost use Rattle.std.specs.Prelude.{◌≡◌, ◌<◌, ◌≤◌, ℕ, IfOk, length, map, slice_index};
 ghost use Rattle.std.specs.List.{AllByRecursion};
-ghost use Rattle.mrt_island.specs.Numbering.{AreFlagNumbers, flagged, link_by, number_inside};
+ghost use Rattle.mrt_island.specs.steps.Numbering.{AreFlagNumbers};
+ghost use Rattle.mrt_island.specs.Numbering.{flagged, link_by, number_inside};
 
 use area_graph::{Area, Bond, Spot};
 use mrt_graph::{LinkIn, LinkNo, NoMemory, NodeId, NodeNo};

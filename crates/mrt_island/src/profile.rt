@@ -2,7 +2,7 @@
 
 ghost use Rattle.std.specs.Prelude.{◌≡◌, ◌++◌, ◌∷◌, [], not, true, IfOk};
 ghost use Rattle.std.specs.List.{list_any};
-ghost use Rattle.mrt_island.specs.ProfileStore.{parts_of};
+ghost use Rattle.mrt_island.specs.steps.ProfileStore.{parts_of};
 ghost use Rattle.mrt_island.specs.Settings.{is_eligible, priority_of, same_subject, supports};
 
 use crate::setting::{Setting, Subject};
@@ -27,7 +27,8 @@ impl Drop for Profile {
 
 impl Model for Profile {
     ghost use Rattle.std.specs.Prelude.{List};
-    ghost use Rattle.mrt_island.specs.{declared.setting.Setting.Setting, ProfileStore.settings_kept};
+    ghost use Rattle.mrt_island.specs.declared.setting.Setting.{Setting};
+    ghost use Rattle.mrt_island.specs.steps.ProfileStore.{settings_kept};
 
     ghost Value = { List Setting };
 

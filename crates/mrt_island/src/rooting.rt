@@ -4,7 +4,8 @@ ghost use Rattle.std.specs.Prelude.{◌≡◌, ◌≤◌, length};
 ghost use Rattle.mrt_graph.specs.NodeOrder.{node_id_cmp};
 ghost use Rattle.std.specs.List.Sorted.{IsStrictlySortedBy};
 ghost use Rattle.mrt_island.specs.Policy.{policy_of};
-ghost use Rattle.mrt_island.specs.Rooting.{HasRouter, IsRoot, level_of};
+ghost use Rattle.mrt_island.specs.steps.Rooting.{HasRouter, level_of};
+ghost use Rattle.mrt_island.specs.Rooting.{IsRoot};
 
 use crate::profile::Profile;
 use mrt_graph::{Kind, NodeId, NodeNo};

@@ -3,7 +3,7 @@
 ghost use Rattle.std.specs.Prelude.{◌≡◌, ◌<◌, ◌↔◌, ℕ, IfOk, length, vec_len};
 ghost use Rattle.area_graph.specs.AreaInvariant.{IsArea};
 ghost use Rattle.mrt_graph.specs.{Reachable.Reachable, Search.Enters, Search.IsMarked};
-ghost use Rattle.mrt_island.specs.Searching.{ArePairs, LeadsBy, LeadsOver};
+ghost use Rattle.mrt_island.specs.steps.Searching.{ArePairs, LeadsBy, LeadsOver};
 
 use area_graph::{Arc, Area, Spot};
 use mrt_graph::{NoMemory, NodeSearch};

@@ -17,7 +17,7 @@ use Rattle.mrt_graph.specs.Uses.{Uses, nodes_met}
 use Rattle.mrt_graph.specs.Walk.{Walk}
 use Rattle.mrt_graph.proofs.Members.{contains_cases, contains_first, contains_later, contains_none}
 use Rattle.mrt_graph.proofs.Walks.{met_first, met_onward}
-use Rattle.mrt_plain.specs.Without.{avoids, onward_without, StepsWithout}
+use Rattle.mrt_plain.specs.steps.Without.{avoids, onward_without, StepsWithout}
 
 -- a test and its negation
 absurd_not : (b : Bool) → b ≡ true → not b ≡ true → ⊥

@@ -6,7 +6,7 @@ use Rattle.mrt_graph.specs.Hop.{Hop}
 use Rattle.mrt_graph.specs.Uses.{nodes_met}
 use Rattle.mrt_graph.specs.Walk.{Walk}
 use Rattle.mrt_graph.proofs.Walks.{met_onward, walk_onward}
-use Rattle.mrt_plain.specs.NextHop.{IsNextHop}
+use Rattle.mrt_plain.specs.steps.NextHop.{IsNextHop}
 
 -- from s over the links `gone`, which met the nodes `met` before the one where it is, `most` links before the end
 pub record IsFollowing (links : List Link) (n : ℕ) (next : ℕ → Option Hop) (t s : ℕ) (gone met : List ℕ) (most at : ℕ) : Type 0 where

@@ -1,4 +1,2 @@
-pub mod NextHop
-pub mod PairWithin
 pub mod Within
-pub mod Without
+pub mod steps

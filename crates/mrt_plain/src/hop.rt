@@ -2,7 +2,8 @@
 
 ghost use Rattle.std.specs.Prelude.{◌≡◌, ◌<◌, ℕ, IfNone, IfSome, [], ◌∷◌, length};
 ghost use Rattle.mrt_graph.specs.{Certificate.row_of, Hop.color_hop, ColorWalk.links_followed, Leads.leads, Rows.link_of_color};
-ghost use Rattle.mrt_plain.specs.{Within.AreWithin, NextHop.IsNextHop};
+ghost use Rattle.mrt_plain.specs.Within.{AreWithin};
+ghost use Rattle.mrt_plain.specs.steps.NextHop.{IsNextHop};
 
 use mrt_graph::{Cert, Color, Link, LinkNo, NodeNo, Row};
 

@@ -2,7 +2,8 @@
 
 ghost use Rattle.std.specs.Prelude.{◌≡◌, ◌<◌, ◌↔◌, ℕ, IfOk, Some, length, vec_len};
 ghost use Rattle.mrt_graph.specs.{Reachable.Reachable, Search.Enters, Search.IsMarked};
-ghost use Rattle.mrt_plain.specs.{Within.AreWithin, Without.StepsWithout, Without.onward_without};
+ghost use Rattle.mrt_plain.specs.Within.{AreWithin};
+ghost use Rattle.mrt_plain.specs.steps.Without.{StepsWithout, onward_without};
 
 use crate::hop::lead;
 use mrt_graph::{Element, Link, NoMemory, NodeNo, NodeSearch};

@@ -2,7 +2,8 @@
 
 ghost use Rattle.std.specs.Prelude.{◌≡◌, ◌<◌, ◌↔◌, ℕ, IfOk, IsTrue, Contains, length};
 ghost use Rattle.mrt_graph.specs.{Apart.Apart, Certificate.row_of, Separates.IsNeitherEnd, Separates.Separates};
-ghost use Rattle.mrt_plain.specs.{PairWithin.IsPairWithin, Within.AreWithin};
+ghost use Rattle.mrt_plain.specs.steps.PairWithin.{IsPairWithin};
+ghost use Rattle.mrt_plain.specs.Within.{AreWithin};
 
 use crate::pair::Pair;
 use crate::parting::separates;

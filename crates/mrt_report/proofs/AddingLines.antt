@@ -5,8 +5,8 @@ use Rattle.std.proofs.lemmas.Bool.{eq-eqb, ne_eqb}
 use Rattle.std.proofs.lemmas.List.{append-nil}
 use Rattle.std.proofs.lemmas.List.Folds.{concat-append}
 use Rattle.std.proofs.lemmas.List.Elements.{filter-append}
-use Rattle.text_parts.specs.Adds.{Adds}
-use Rattle.mrt_report.specs.AddsLines.{AddsLines}
+use Rattle.text_parts.specs.steps.Adds.{Adds}
+use Rattle.mrt_report.specs.steps.AddsLines.{AddsLines}
 use Rattle.mrt_report.specs.TableText.{others}
 
 range_more : (a n : ℕ) → range_with_len a (suc n) ≡ range_with_len a n ++ (a + n) ∷ []

@@ -12,7 +12,8 @@ use Rattle.mrt_graph.specs.Sound.{SoundFor}
 use Rattle.mrt_graph.specs.Topology.{Topology}
 use Rattle.mrt_graph.proofs.LeadsOn.{sound-hop}
 use Rattle.mrt_report.specs.ByColumn.{IsLineByColumn, IsRowByColumn}
-use Rattle.mrt_report.specs.LineParts.{AreLineParts, line_parts}
+use Rattle.mrt_report.specs.steps.LineParts.{AreLineParts}
+use Rattle.mrt_report.specs.LineParts.{line_parts}
 use Rattle.mrt_report.specs.TableParts.{TableParts}
 use Rattle.mrt_report.specs.TableText.{IsHead, IsTableLine, IsTableRow, IsTableText, others}
 use Rattle.mrt_report.proofs.AgreeingRows.{line_too, row_too}

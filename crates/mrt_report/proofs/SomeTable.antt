@@ -28,7 +28,8 @@ use Rattle.mrt_graph.proofs.ListTests.{all_at, there}
 use Rattle.mrt_graph.proofs.Members.{Has, all_has, find_has, has_filter}
 use Rattle.primary_alt.proofs.ArcsOffered.{far_within}
 use Rattle.primary_alt.specs.declared.shortest.Primary.{Primary}
-use Rattle.mrt_report.specs.LineParts.{AreLineParts, LineParts}
+use Rattle.mrt_report.specs.steps.LineParts.{AreLineParts}
+use Rattle.mrt_report.specs.LineParts.{LineParts}
 use Rattle.mrt_report.specs.Lines.{row_text}
 use Rattle.mrt_report.specs.Repairs.{AreArcRepairs, AreSecondRepairs, Inside, IsLinkElement, IsNodeElement, IsRepair, Outside}
 use Rattle.mrt_report.specs.Rows.{IsArcHop, IsLinkHop, IsRow}

@@ -11,7 +11,7 @@ use Rattle.mrt_graph.specs.Uses.{Uses}
 use Rattle.mrt_graph.proofs.Bridge.{color_leads}
 use Rattle.primary_alt.proofs.ColorsUse.{IsOnWay, way_begins, way_ends, way_goes_on, way_meets, way_stops}
 use Rattle.mrt_report.specs.LineParts.{LineParts}
-use Rattle.mrt_report.specs.Uses.{IsOverOne, TellUses, TellsUse}
+use Rattle.mrt_report.specs.steps.Uses.{IsOverOne, TellUses, TellsUse}
 use Rattle.mrt_report.specs.declared.elements.ArcElements.{ArcElements}
 use Rattle.mrt_report.specs.declared.uses.ArcUses.{ArcUses}
 

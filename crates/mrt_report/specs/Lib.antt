@@ -1,4 +1,3 @@
-pub mod AddsLines
 pub mod ByColumn
 pub mod LineParts
 pub mod Lines
@@ -7,5 +6,4 @@ pub mod Rows
 pub mod TableParts
 pub mod TableText
 pub mod TableWords
-pub mod Uses
-pub mod Viewed
+pub mod steps

@@ -3,7 +3,7 @@
 ghost use Rattle.std.specs.Prelude.{◌<◌, IfSome, length};
 ghost use Rattle.area_graph.specs.{AreaInvariant.IsArea, Fits.Fits};
 ghost use Rattle.mrt_report.specs.Repairs.{AreArcElements, IsLinkElement, IsNodeElement};
-ghost use Rattle.mrt_report.specs.Viewed.{viewed};
+ghost use Rattle.mrt_report.specs.steps.Viewed.{viewed};
 
 use crate::parts::Parts;
 use area_graph::{ArcNo, BondNo};

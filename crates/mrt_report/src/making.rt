@@ -5,7 +5,8 @@ ghost use Rattle.std.specs.{List.find, Option.option_map};
 ghost use Rattle.area_graph.specs.AreaInvariant.{IsArea};
 ghost use Rattle.mrt_graph.specs.{GraphInvariant.IsTopology, Leads.leads};
 ghost use Rattle.mrt_report.specs.Rows.{IsArcHop, IsEndOn, IsLinkHop, IsRow};
-ghost use Rattle.mrt_report.specs.{LineParts.AreAllParts, Viewed.viewed};
+ghost use Rattle.mrt_report.specs.steps.LineParts.{AreAllParts};
+ghost use Rattle.mrt_report.specs.steps.Viewed.{viewed};
 
 use crate::parts::Parts;
 use crate::repairs::repairs_of;

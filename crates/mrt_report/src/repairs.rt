@@ -3,7 +3,9 @@
 ghost use Rattle.std.specs.Prelude.{◌≡◌, ℕ, IsNone, IsSome, IsTrue, Some, None};
 ghost use Rattle.mrt_graph.specs.declared.cert.Color.TheVariants.{Blue, Red};
 ghost use Rattle.mrt_report.specs.Repairs.{AreArcElements, AreArcRepairs, AreSecondRepairs, IsRepair};
-ghost use Rattle.mrt_report.specs.{LineParts.AreAllParts, Uses.TellUses, Uses.TellsUse, Viewed.viewed};
+ghost use Rattle.mrt_report.specs.steps.LineParts.{AreAllParts};
+ghost use Rattle.mrt_report.specs.steps.Uses.{TellUses, TellsUse};
+ghost use Rattle.mrt_report.specs.steps.Viewed.{viewed};
 
 use crate::elements::{ArcElements, elements_of, elements_of_second};
 use crate::parts::Parts;

@@ -3,7 +3,7 @@
 ghost use Rattle.std.specs.Prelude.{◌≡◌, ◌≢◌, ◌<◌, ℕ, IfOk, OnErr, length};
 ghost use Rattle.area_graph.specs.Fits.{Fits};
 ghost use Rattle.mrt_graph.specs.{GraphInvariant.IsNetwork, Sound.SoundFor};
-ghost use Rattle.text_parts.specs.Adds.{Adds};
+ghost use Rattle.text_parts.specs.steps.Adds.{Adds};
 ghost use Rattle.mrt_report.specs.{LineParts.IsPrimaryOf, LineParts.line_parts, Lines.IsLine, Rows.IsRow, TableText.IsHead};
 
 use crate::line::push_row;

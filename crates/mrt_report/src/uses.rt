@@ -1,7 +1,9 @@
 //! Which of the few elements of a primary a color walk uses.
 
 ghost use Rattle.std.specs.Prelude.{◌≡◌, ◌↔◌, ◌⊎◌, IsNone, IsTrue};
-ghost use Rattle.mrt_report.specs.{LineParts.AreLineParts, Uses.IsOverOne, Uses.TellUses, Viewed.viewed};
+ghost use Rattle.mrt_report.specs.steps.LineParts.{AreLineParts};
+ghost use Rattle.mrt_report.specs.steps.Uses.{IsOverOne, TellUses};
+ghost use Rattle.mrt_report.specs.steps.Viewed.{viewed};
 
 use crate::elements::ArcElements;
 use crate::parts::Parts;

@@ -6,7 +6,8 @@ use Rattle.link_direction.specs.Directions.{Directions}
 use Rattle.inc_dec_spf.specs.BlockAims.{IsAimOf}
 use Rattle.inc_dec_spf.specs.LeastPath.{HasMoreLinks, HaveCommonBlockOfMoreLinks}
 use Rattle.link_direction.proofs.OneBlock.{one_block}
-use Rattle.mrt_rows.specs.Chain.{AreBelow, AreWayAims, AtHome, Beside, ByHead, Climbs, IsRowAim, There, Under}
+use Rattle.mrt_rows.specs.Chain.{AreBelow, AreWayAims, ByHead, Climbs, There}
+use Rattle.mrt_rows.specs.steps.Chain.{AtHome, Beside, IsRowAim, Under}
 use Rattle.mrt_rows.proofs.ChainAims.{climb_low, climb_on, further}
 use Rattle.mrt_rows.proofs.OrderedGraphs.{OrderedGraph, is_ordered}
 

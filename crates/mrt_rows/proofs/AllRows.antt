@@ -4,7 +4,7 @@ use Rattle.std.proofs.lemmas.Bool.{and_from, lt-ltb, ne_eqb}
 use Rattle.mrt_graph.specs.declared.cert.Row.{Row}
 use Rattle.mrt_graph.specs.Certificate.{are_two}
 use Rattle.mrt_graph.specs.RowPlace.{place_of_row}
-use Rattle.mrt_rows.specs.RowsOf.{row_among}
+use Rattle.mrt_rows.specs.steps.RowsOf.{row_among}
 
 pub row_is : (n : ℕ) (rows : List Row) (s t : ℕ) → s < n → t < n → s ≢ t
     → row_among n rows s t ≡ slice_get rows (place_of_row n s t)

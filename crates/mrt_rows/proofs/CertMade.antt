@@ -11,8 +11,9 @@ use Rattle.mrt_graph.specs.GraphInvariant.{IsLink}
 use Rattle.mrt_graph.proofs.ListTests.{all_at, there}
 use Rattle.link_direction.proofs.ClosedBlocks.{inside_of_link}
 use Rattle.mrt_rows.specs.CertOf.{AreLinkWords, AreNodeWords, Tells, file_of, link_words, node_words}
-use Rattle.mrt_rows.specs.NearOf.{Apart}
-use Rattle.mrt_rows.specs.RowsOf.{AreAllRows, HasRow, row_among}
+use Rattle.mrt_rows.specs.steps.NearOf.{Apart}
+use Rattle.mrt_rows.specs.steps.RowsOf.{AreAllRows, row_among}
+use Rattle.mrt_rows.specs.RowsOf.{HasRow}
 use Rattle.mrt_rows.proofs.AllRows.{row_is}
 use Rattle.mrt_rows.proofs.OneRow.{Far, IsRowFor, Near, carrier_in, of_table}
 use Rattle.mrt_rows.proofs.OrderedGraphs.{OrderedGraph, is_ordered}

@@ -6,7 +6,8 @@ use Rattle.mrt_graph.specs.declared.cert.Row.{Row}
 use Rattle.mrt_graph.specs.Tags.{carried}
 use Rattle.link_direction.specs.CommonBlock.{FromHead, HaveCommonBlock, Peers, ToHead}
 use Rattle.link_direction.specs.Directions.{Directions}
-use Rattle.mrt_rows.specs.Chain.{AreBelow, AtHome, Beside, ByHead, Climbs, IsRowAim, There, Under}
+use Rattle.mrt_rows.specs.Chain.{AreBelow, ByHead, Climbs, There}
+use Rattle.mrt_rows.specs.steps.Chain.{AtHome, Beside, IsRowAim, Under}
 use Rattle.mrt_rows.proofs.Carriers.{by_other, by_root}
 use Rattle.mrt_rows.proofs.OneRow.{IsRowFor, far_over}
 use Rattle.mrt_rows.proofs.OrderedGraphs.{OrderedGraph}

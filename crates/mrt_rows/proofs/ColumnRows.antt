@@ -2,9 +2,10 @@
 use Rattle.std.proofs.Common.{◌≡◌, ◌≢◌, ◌<◌, ℕ, List, Option, Some, None, length, refl, subst}
 use Rattle.mrt_graph.specs.declared.cert.Row.{Row}
 use Rattle.mrt_graph.specs.Tags.{carried}
-use Rattle.mrt_rows.specs.NearOf.{Apart, IsNearRow}
-use Rattle.mrt_rows.specs.Chain.{AreBelow, IsRowAim}
-use Rattle.mrt_rows.specs.ColumnOf.{IsRowIn}
+use Rattle.mrt_rows.specs.steps.NearOf.{Apart, IsNearRow}
+use Rattle.mrt_rows.specs.Chain.{AreBelow}
+use Rattle.mrt_rows.specs.steps.Chain.{IsRowAim}
+use Rattle.mrt_rows.specs.steps.ColumnOf.{IsRowIn}
 use Rattle.mrt_rows.proofs.ChainAims.{aim_near, carried_to}
 use Rattle.mrt_rows.proofs.OneRow.{IsRowFor, Near}
 use Rattle.mrt_rows.proofs.OrderedGraphs.{OrderedGraph}

@@ -12,8 +12,8 @@ use Rattle.mrt_graph.proofs.ListPlaces.{set_elsewhere, set_there}
 use Rattle.link_direction.specs.CommonBlock.{FromHead, HaveCommonBlock, ToHead}
 use Rattle.inc_dec_spf.specs.declared.reach.Dir.TheVariants.{Up}
 use Rattle.inc_dec_spf.specs.Turns.{AreTurns}
-use Rattle.mrt_rows.specs.ColumnOf.{IsRowIn}
-use Rattle.mrt_rows.specs.NearOf.{Apart, IsNearRow}
+use Rattle.mrt_rows.specs.steps.ColumnOf.{IsRowIn}
+use Rattle.mrt_rows.specs.steps.NearOf.{Apart, IsNearRow}
 use Rattle.mrt_rows.specs.RowsOf.{AreRowsOf, rows_for}
 use Rattle.mrt_rows.proofs.Carriers.{at_carrier, carrier_by}
 use Rattle.mrt_rows.proofs.OneRow.{Far, HasTheRow, Near}

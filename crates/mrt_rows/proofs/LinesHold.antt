@@ -12,7 +12,7 @@ use Rattle.mrt_graph.specs.Certificate.{Certificate, row_of}
 use Rattle.mrt_graph.specs.CertWords.{block_of, has_role, head_of, order_of, tagged}
 use Rattle.mrt_graph.specs.Leads.{leads}
 use Rattle.mrt_graph.specs.Roles.{is_closing, is_plain}
-use Rattle.mrt_graph.specs.RowRules.{near_row}
+use Rattle.mrt_graph.specs.steps.RowRules.{near_row}
 use Rattle.mrt_graph.proofs.Hops.{lead_back}
 use Rattle.link_direction.specs.CommonBlock.{FromHead, HaveCommonBlock, Peers, ToHead}
 use Rattle.inc_dec_spf.specs.declared.reach.Dir.{Dir}

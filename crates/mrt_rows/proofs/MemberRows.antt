@@ -6,7 +6,8 @@ use Rattle.inc_dec_spf.specs.declared.reach.Dir.{Dir}
 use Rattle.inc_dec_spf.specs.declared.reach.Dir.TheVariants.{Down, Up}
 use Rattle.inc_dec_spf.specs.FirstLink.{Begins, BeginsNone, IsFirstLink, no_link}
 use Rattle.mrt_rows.specs.declared.row_over.FirstLinks.{FirstLinks}
-use Rattle.mrt_rows.specs.Put.{AreFirstLinks, AreInCommonBlockOfMoreLinks, IsMemberRow, IsOwnRow, NoneOfOneLink}
+use Rattle.mrt_rows.specs.Put.{AreFirstLinks, AreInCommonBlockOfMoreLinks}
+use Rattle.mrt_rows.specs.steps.Put.{IsMemberRow, IsOwnRow, NoneOfOneLink}
 use Rattle.mrt_rows.specs.RowLines.{AreMembers, BeginsOver, NoWay}
 use Rattle.mrt_rows.proofs.HeadWays.{way_from_head, way_home}
 use Rattle.mrt_rows.proofs.LinesHold.{has_head, with_head}

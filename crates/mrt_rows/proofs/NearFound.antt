@@ -5,7 +5,7 @@ use Rattle.mrt_graph.specs.declared.cert.Row.{Row}
 use Rattle.mrt_graph.specs.declared.cert.Tag.{Tag}
 use Rattle.mrt_graph.specs.declared.cert.Tag.TheVariants as tags
 use Rattle.mrt_graph.specs.Tags.{is_near, same_tag}
-use Rattle.mrt_rows.specs.NearOf.{Apart, InCommon, IsNearRow, near_first, near_in}
+use Rattle.mrt_rows.specs.steps.NearOf.{Apart, InCommon, IsNearRow, near_first, near_in}
 use Rattle.mrt_rows.specs.RowLines.{LineOf}
 use Rattle.mrt_rows.specs.RowsOf.{HasRow}
 use Rattle.mrt_rows.proofs.CarriedRows.{carried_tag, row_near}

@@ -2,7 +2,7 @@
 use Rattle.std.proofs.Common.{◌≡◌, ◌≢◌, ◌<◌, ℕ, length, inl, inr}
 use Rattle.link_direction.specs.CommonBlock.{HaveCommonBlock}
 use Rattle.mrt_rows.specs.RowLines.{AreMembers, HasOneLink}
-use Rattle.mrt_rows.specs.Put.{NoneOfOneLink}
+use Rattle.mrt_rows.specs.steps.Put.{NoneOfOneLink}
 use Rattle.mrt_rows.proofs.OrderedGraphs.{OrderedGraph}
 use Rattle.mrt_rows.proofs.Ways.{Ring}
 use Rattle.mrt_rows.proofs.WaysBegun.{peer_ring, peers_are}

@@ -8,7 +8,8 @@ use Rattle.mrt_graph.specs.Certificate.{Certificate, row_of}
 use Rattle.mrt_graph.specs.RowPlace.{place_of_row}
 use Rattle.mrt_graph.proofs.RowPlaces.{column_above, column_below, row_at}
 use Rattle.mrt_graph.specs.Tags.{is_near}
-use Rattle.mrt_rows.specs.NearOf.{near_first, near_in, near_rows_of}
+use Rattle.mrt_rows.specs.steps.NearOf.{near_first, near_in}
+use Rattle.mrt_rows.specs.NearOf.{near_rows_of}
 
 get_take : (xs : List Row) (n i : ℕ) → i < n → slice_get (take n xs) i ≡ slice_get xs i
 get_take [] zero i within = absurd (omega (arith, within))

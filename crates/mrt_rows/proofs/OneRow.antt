@@ -9,7 +9,7 @@ use Rattle.link_direction.specs.CommonBlock.{FromHead, HaveCommonBlock, ToHead}
 use Rattle.inc_dec_spf.specs.declared.reach.Dir.{Dir}
 use Rattle.inc_dec_spf.specs.declared.reach.Dir.TheVariants.{Down, Up}
 use Rattle.inc_dec_spf.specs.LeastPath.{HaveCommonBlockOfMoreLinks}
-use Rattle.mrt_rows.specs.NearOf.{Apart, InCommon, IsNearRow}
+use Rattle.mrt_rows.specs.steps.NearOf.{Apart, InCommon, IsNearRow}
 use Rattle.mrt_rows.specs.RowLines.{AreMembers, BeginsOver, CarriedLine, LineOf, SoleLine}
 use Rattle.mrt_rows.specs.RowsOf.{HasRow}
 use Rattle.mrt_rows.proofs.LinesHold.{begins_home, head_of_source, head_of_target}

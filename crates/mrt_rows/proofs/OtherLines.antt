@@ -13,7 +13,8 @@ use Rattle.mrt_graph.specs.Certificate.{Certificate, row_of}
 use Rattle.mrt_graph.specs.CertWords.{link_block}
 use Rattle.mrt_graph.specs.Leads.{leads}
 use Rattle.mrt_graph.specs.Related.{are_unrelated, carrier, is_common_block}
-use Rattle.mrt_graph.specs.RowRules.{carried_row, lies_in_block, same_links}
+use Rattle.mrt_graph.specs.steps.RowRules.{carried_row}
+use Rattle.mrt_graph.specs.RowRules.{lies_in_block, same_links}
 use Rattle.mrt_graph.proofs.Hops.{lead_back}
 use Rattle.link_direction.specs.CommonBlock.{FromHead, HaveCommonBlock, Peers, ToHead}
 use Rattle.link_direction.specs.OrderedGadag.{HasSoleLink}
@@ -23,7 +24,7 @@ use Rattle.inc_dec_spf.specs.declared.reach.Hop.{Hop}
 use Rattle.inc_dec_spf.specs.LeastPath.{BeginsPath, IsHop, Reached}
 use Rattle.inc_dec_spf.specs.Path.{IsStep, Path}
 use Rattle.mrt_rows.specs.CertOf.{Tells}
-use Rattle.mrt_rows.specs.NearOf.{InCommon, IsNearRow}
+use Rattle.mrt_rows.specs.steps.NearOf.{InCommon, IsNearRow}
 use Rattle.mrt_rows.specs.RowLines.{AreMembers, BeginsOver, CarriedLine, HasOneLink, LineOf, SoleLine}
 use Rattle.mrt_rows.proofs.CertSays.{block_is, different_test, equal_test, head_is, link_block_is, sole_test}
 use Rattle.mrt_rows.proofs.LinesHold.{Passes, begins_home, has_head, with_head}

@@ -9,7 +9,8 @@ use Rattle.inc_dec_spf.specs.LeastPath.{HaveCommonBlockOfMoreLinks}
 use Rattle.mrt_rows.specs.declared.column.Columns.{Columns}
 use Rattle.mrt_rows.specs.declared.column.Target.{Target}
 use Rattle.mrt_rows.specs.declared.row_over.FirstLinks.{FirstLinks}
-use Rattle.mrt_rows.specs.Chain.{AreWayAims, Climbs, IsRowAim}
+use Rattle.mrt_rows.specs.Chain.{AreWayAims, Climbs}
+use Rattle.mrt_rows.specs.steps.Chain.{IsRowAim}
 use Rattle.mrt_rows.specs.Held.{AreAimed, AreBothAimed}
 use Rattle.mrt_rows.specs.Put.{AreFirstLinks}
 use Rattle.mrt_rows.specs.Said.{directions_of}

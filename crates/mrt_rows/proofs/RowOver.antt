@@ -12,8 +12,10 @@ use Rattle.link_direction.specs.Directions.{Directions}
 use Rattle.link_direction.proofs.TwoNodes.{Relates, relates}
 use Rattle.inc_dec_spf.specs.FirstLink.{no_link}
 use Rattle.mrt_rows.specs.declared.row_over.FirstLinks.{FirstLinks}
-use Rattle.mrt_rows.specs.NearOf.{InCommon, IsNearRow, IsPlaceOf, IsSoleOf}
-use Rattle.mrt_rows.specs.Put.{AreFirstLinks, AreInCommonBlockOfMoreLinks, IsMemberRow, IsOwnRow, NoneOfOneLink}
+use Rattle.mrt_rows.specs.steps.NearOf.{InCommon, IsNearRow, IsPlaceOf}
+use Rattle.mrt_rows.specs.NearOf.{IsSoleOf}
+use Rattle.mrt_rows.specs.Put.{AreFirstLinks, AreInCommonBlockOfMoreLinks}
+use Rattle.mrt_rows.specs.steps.Put.{IsMemberRow, IsOwnRow, NoneOfOneLink}
 use Rattle.mrt_rows.specs.RowLines.{HasOneLink}
 use Rattle.mrt_rows.proofs.LinesHold.{has_head}
 use Rattle.mrt_rows.proofs.MemberRows.{head_row, top_row}

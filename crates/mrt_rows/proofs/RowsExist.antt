@@ -12,8 +12,8 @@ use Rattle.inc_dec_spf.specs.declared.reach.Dir.{Dir}
 use Rattle.inc_dec_spf.specs.declared.reach.Dir.TheVariants.{Down, Up}
 use Rattle.inc_dec_spf.specs.declared.reach.Hop.{Hop}
 use Rattle.inc_dec_spf.specs.LeastPath.{HaveCommonBlockOfMoreLinks, IsHop}
-use Rattle.mrt_rows.specs.ColumnOf.{IsRowIn}
-use Rattle.mrt_rows.specs.NearOf.{Apart, InCommon, IsNearRow}
+use Rattle.mrt_rows.specs.steps.ColumnOf.{IsRowIn}
+use Rattle.mrt_rows.specs.steps.NearOf.{Apart, InCommon, IsNearRow}
 use Rattle.mrt_rows.specs.RowLines.{AreMembers, BeginsOver, HasOneLink, LineOf}
 use Rattle.mrt_rows.specs.RowsOf.{HasRow}
 use Rattle.mrt_rows.proofs.Carriers.{carrier_by}

@@ -1,8 +1,10 @@
 -- The rows of all nodes are those of the columns.
 use Rattle.std.proofs.Common.{◌≡◌, ◌≢◌, ◌∙◌, ◌<◌, ◌-◌, ◌*◌, ℕ, List, Option, Some, length, slice_get, ap}
 use Rattle.mrt_graph.specs.declared.cert.Row.{Row}
-use Rattle.mrt_rows.specs.ColumnOf.{IsColumnOf, IsRowIn}
-use Rattle.mrt_rows.specs.RowsOf.{AreAllRows, HasRow, row_among}
+use Rattle.mrt_rows.specs.ColumnOf.{IsColumnOf}
+use Rattle.mrt_rows.specs.steps.ColumnOf.{IsRowIn}
+use Rattle.mrt_rows.specs.steps.RowsOf.{AreAllRows, row_among}
+use Rattle.mrt_rows.specs.RowsOf.{HasRow}
 use Rattle.mrt_rows.proofs.OrderedGraphs.{OrderedGraph}
 use Rattle.mrt_rows.proofs.RowsExist.{each_row, each_the, row_in, rows_have}
 use Rattle.mrt_rows.proofs.SoundColumns.{stands}

@@ -6,7 +6,7 @@ use Rattle.mrt_graph.specs.declared.cert.Row.{Row}
 use Rattle.mrt_graph.specs.Certificate.{are_two}
 use Rattle.mrt_graph.specs.RowPlace.{place_of_row}
 use Rattle.mrt_graph.proofs.ListPlaces.{set_elsewhere, set_there}
-use Rattle.mrt_rows.specs.RowsOf.{row_among}
+use Rattle.mrt_rows.specs.steps.RowsOf.{row_among}
 use Rattle.mrt_rows.proofs.AllRows.{row_is}
 use Rattle.mrt_graph.proofs.RowPlaces.{column, column_above, column_below}
 

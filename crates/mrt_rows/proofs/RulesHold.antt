@@ -12,7 +12,8 @@ use Rattle.mrt_graph.specs.Certificate.{Certificate, row_of}
 use Rattle.mrt_graph.specs.GraphInvariant.{IsTopology}
 use Rattle.mrt_graph.specs.Leads.{leads}
 use Rattle.mrt_graph.specs.Places.{EachPair}
-use Rattle.mrt_graph.specs.RowRules.{lies_in_block, near_row, row_rule, rows_in_block, rows_tagged}
+use Rattle.mrt_graph.specs.RowRules.{lies_in_block, rows_in_block}
+use Rattle.mrt_graph.specs.steps.RowRules.{near_row, row_rule, rows_tagged}
 use Rattle.mrt_graph.specs.Rules.{Rule, Holds, BlockRule, ClosedRule, GraphRule, HeadRule, LinkRule, LoneRule, OrderRule, TagRule}
 use Rattle.mrt_graph.specs.Tags.{same_tag}
 use Rattle.mrt_graph.specs.Topology.{Topology}

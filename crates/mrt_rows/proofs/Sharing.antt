@@ -4,7 +4,8 @@ use Rattle.std.proofs.lemmas.Option.{same_Some}
 use Rattle.link_direction.specs.CommonBlock.{FromHead, HaveCommonBlock, Peers, ToHead}
 use Rattle.inc_dec_spf.specs.FirstLink.{AreOthersInOneBlock}
 use Rattle.inc_dec_spf.specs.LeastPath.{HasMoreLinks, HaveCommonBlockOfMoreLinks}
-use Rattle.mrt_rows.specs.Put.{AreHeadsMarked, NoneOfOneLink}
+use Rattle.mrt_rows.specs.Put.{AreHeadsMarked}
+use Rattle.mrt_rows.specs.steps.Put.{NoneOfOneLink}
 use Rattle.mrt_rows.proofs.OrderedGraphs.{OrderedGraph, one_common}
 use Rattle.mrt_rows.proofs.WaysBegun.{peers_are}
 

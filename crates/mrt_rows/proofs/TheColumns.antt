@@ -2,8 +2,9 @@
 use Rattle.std.proofs.Common.{◌≡◌, ◌≢◌, ◌<◌, ◌∙◌, ℕ, List, Option, Some, None, length, slice_get, sym, ap, subst}
 use Rattle.mrt_graph.specs.declared.cert.Row.{Row}
 use Rattle.mrt_graph.specs.Column.{IsColumnFor}
-use Rattle.mrt_rows.specs.ColumnOf.{IsColumnOf, IsRowIn}
-use Rattle.mrt_rows.specs.TheColumn.{TheColumn}
+use Rattle.mrt_rows.specs.ColumnOf.{IsColumnOf}
+use Rattle.mrt_rows.specs.steps.ColumnOf.{IsRowIn}
+use Rattle.mrt_rows.specs.steps.TheColumn.{TheColumn}
 use Rattle.mrt_rows.proofs.OneColumn.{one_column, some_column}
 use Rattle.mrt_rows.proofs.OrderedGraphs.{OrderedGraph}
 use Rattle.mrt_rows.proofs.SoundColumns.{column_for, stands}

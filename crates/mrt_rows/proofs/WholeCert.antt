@@ -12,7 +12,7 @@ use Rattle.mrt_graph.specs.Certificate.{certificate_of, row_of}
 use Rattle.mrt_graph.specs.RowPlace.{place_of_row}
 use Rattle.mrt_graph.proofs.ListTests.{there}
 use Rattle.mrt_rows.specs.CertOf.{AreLinkWords, AreNodeWords, Tells, file_of, link_words, node_words}
-use Rattle.mrt_rows.specs.RowsOf.{AreAllRows, row_among}
+use Rattle.mrt_rows.specs.steps.RowsOf.{AreAllRows, row_among}
 use Rattle.mrt_rows.proofs.AllRows.{row_is}
 use Rattle.mrt_rows.proofs.CertMade.{cert_tells}
 use Rattle.mrt_rows.proofs.OneRow.{HasTheRow, has_all}

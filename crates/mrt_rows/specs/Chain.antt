@@ -1,5 +1,5 @@
 -- The heads above a destination, and what the nodes aim at.
-use Rattle.std.specs.Prelude.{◌≡◌, ◌≢◌, ◌<◌, ◌⊎◌, ℕ, Bool, true, List, Option, Some, None, length, slice_get}
+use Rattle.std.specs.Prelude.{◌≡◌, ◌≢◌, ◌<◌, ◌⊎◌, ℕ, Bool, true, List, Option, Some, length, slice_get}
 use Rattle.mrt_graph.specs.Topology.{Topology}
 use Rattle.link_direction.specs.Directions.{Directions}
 use Rattle.inc_dec_spf.specs.BlockAims.{aim_at}
@@ -16,15 +16,6 @@ pub record AreBelow (g : Topology) (root : ℕ) (w : Directions) (t : ℕ) (belo
   pub ends : Climbs root w t root
   pub is_below : (h c : ℕ) → slice_get below h ≡ Some (Some c) → Climbs root w t c × (c ≢ root) × (w.head c ≡ h)
   pub all : (c : ℕ) → Climbs root w t c → c ≢ root → slice_get below (w.head c) ≡ Some (Some c)
-
--- what s aims at: the node below it; or the one below its head, if that lies in its block; or its head
-pub data IsRowAim (w : Directions) (below : List (Option ℕ)) (s aim : ℕ) : Type 0 where
-  Under : slice_get below s ≡ Some (Some aim) → IsRowAim w below s aim
-  Beside : slice_get below s ≡ Some None → slice_get below (w.head s) ≡ Some (Some aim) → w.block aim ≡ w.block s
-      → IsRowAim w below s aim
-  AtHome : slice_get below s ≡ Some None
-      → ((c : ℕ) → slice_get below (w.head s) ≡ Some (Some c) → w.block c ≢ w.block s) → aim ≡ w.head s
-      → IsRowAim w below s aim
 
 -- c is the node of y's block on the way from t to the root
 pub record IsOnWay (root : ℕ) (w : Directions) (t y c : ℕ) : Type 0 where

@@ -27,9 +27,3 @@ pub record HasRowsFor (cert : Certificate) (t : ℕ) (column : List (Option Row)
 pub record HasColumns (g : Topology) (root : ℕ) (w : Directions) (cert : Certificate) : Type 0 where
   pub each : (t : ℕ) (column : List (Option Row)) → t < length g.ids → IsColumnOf g root w t column
       → HasRowsFor cert t column
-
--- the row of s for t that is among its rows by the table
-pub record IsRowIn (g : Topology) (root : ℕ) (w : Directions) (s t : ℕ) (found : Option Row) : Type 0 where
-  pub row : Row
-  pub is : found ≡ Some row
-  pub each : (rows : ℕ → Option Row) → ((u : ℕ) → u < length g.ids → s ≢ u → HasRow g root w s rows u) → rows t ≡ Some row

@@ -14,6 +14,5 @@ pub mod RowsFound
 pub mod RowsOf
 pub mod RowsTo
 pub mod Said
-pub mod Source
-pub mod TheColumn
 pub mod TilesAimed
+pub mod steps

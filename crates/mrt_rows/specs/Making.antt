@@ -1,5 +1,5 @@
 -- What makes the rows of a graph from a root, source after source.
-use Rattle.std.specs.Prelude.{◌≡◌, ◌<◌, ◌≤◌, ◌+◌, ℕ, length}
+use Rattle.std.specs.Prelude.{◌≡◌, ◌<◌, ℕ, length}
 use Rattle.mrt_graph.specs.Topology.{Topology}
 use Rattle.link_direction.specs.Directions.{Directions}
 use Rattle.inc_dec_spf.specs.declared.reach.Dir.TheVariants.{Down, Up}
@@ -8,7 +8,6 @@ use Rattle.inc_dec_spf.specs.FanEntries.{FanEntries}
 use Rattle.mrt_rows.specs.declared.of_source.Making.{Making}
 use Rattle.mrt_rows.specs.Common.{AreCommon}
 use Rattle.mrt_rows.specs.DirectedFrom.{IsDirectedFrom}
-use Rattle.mrt_rows.specs.Put.{AreInCommonBlockOfMoreLinks}
 use Rattle.mrt_rows.specs.RowsFound.{RowsFound}
 use Rattle.mrt_rows.specs.Said.{AreRooted, directions_of}
 
@@ -26,11 +25,6 @@ pub record IsMaking (g : Topology) (w : Directions) (making : Making) : Type 0 w
   pub down : IsFanOf g making.width making.down
   pub up_open : IsOpen g w Up making.first making.up
   pub down_open : IsOpen g w Down making.first making.down
-
--- they are open from s, where it lies in a block of more than one link
-pub record IsOpenFor (g : Topology) (w : Directions) (making : Making) (s : ℕ) : Type 0 where
-  pub each : (t : ℕ) → t < length g.ids → AreInCommonBlockOfMoreLinks g w s t
-      → (making.first ≤ s) × (s < making.first + making.width)
 
 -- so many sources are taken side by side
 abbrev pub sources : ℕ

@@ -1,26 +1,17 @@
 -- The rows of nodes that have a block in common, and the first links that they are made from.
-use Rattle.std.specs.Prelude.{◌≡◌, ◌≢◌, ◌<◌, ℕ, Bool, true, List, Option, Some, length, slice_get}
-use Rattle.mrt_graph.specs.declared.cert.Row.{Row}
-use Rattle.mrt_graph.specs.GraphInvariant.{IsTopology}
+use Rattle.std.specs.Prelude.{◌≡◌, ◌<◌, ℕ, Bool, true, List, Some, length, slice_get}
 use Rattle.mrt_graph.specs.Topology.{Topology}
-use Rattle.link_direction.specs.CommonBlock.{HaveCommonBlock}
 use Rattle.link_direction.specs.Directions.{Directions}
-use Rattle.link_direction.specs.OrderedGadag.{IsOrderedGadag}
 use Rattle.inc_dec_spf.specs.declared.reach.Dir.TheVariants.{Down, Up}
 use Rattle.inc_dec_spf.specs.FirstLink.{IsFirstLink}
 use Rattle.inc_dec_spf.specs.LeastPath.{HasMoreLinks, HaveCommonBlockOfMoreLinks}
 use Rattle.mrt_rows.specs.declared.row_over.FirstLinks.{FirstLinks}
-use Rattle.mrt_rows.specs.RowLines.{HasOneLink, LineOf}
 
 -- s and t have a block of more than one link in common
 pub record AreInCommonBlockOfMoreLinks (g : Topology) (w : Directions) (s t : ℕ) : Type 0 where
   pub block : ℕ
   pub head : ℕ
   pub share : HaveCommonBlockOfMoreLinks g w s t block head
-
--- the common block of s and t, if they have one, has more than one link
-abbrev pub NoneOfOneLink : Topology → Directions → ℕ → ℕ → Type 0
-NoneOfOneLink g w s t = (k h link : ℕ) → HaveCommonBlock w s t k h → ¬ HasOneLink g w k link
 
 -- the head of each block of more than one link is marked
 pub record AreHeadsMarked (g : Topology) (w : Directions) (marks : List Bool) : Type 0 where
@@ -30,13 +21,3 @@ pub record AreHeadsMarked (g : Topology) (w : Directions) (marks : List Bool) : 
 pub record AreFirstLinks (g : Topology) (w : Directions) (s t : ℕ) (links : FirstLinks) : Type 0 where
   pub up : AreInCommonBlockOfMoreLinks g w s t → IsFirstLink g w Up s t links.up
   pub down : AreInCommonBlockOfMoreLinks g w s t → IsFirstLink g w Down s t links.down
-
--- the row of s for t is as the line of its tag says, whichever the other rows are
-pub record IsOwnRow (g : Topology) (root : ℕ) (w : Directions) (s t : ℕ) (row : Row) : Type 0 where
-  pub line : (rows : ℕ → Option Row) → LineOf row.tag g root w s rows t row
-
--- such is, in each graph, the row for another node of its block of a node with these first links to it, and home
-pub record IsMemberRow (links home : FirstLinks) (row : Row) : Type 0 where
-  pub own : (g : Topology) (root s t : ℕ) (w : Directions) → IsTopology g → IsOrderedGadag g root w
-      → s < length g.ids → t < length g.ids → s ≢ t → w.block s ≡ w.block t
-      → AreFirstLinks g w s t links → AreFirstLinks g w s (w.head s) home → IsOwnRow g root w s t row

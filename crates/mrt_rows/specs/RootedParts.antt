@@ -10,6 +10,3 @@ pub record RootedParts : Type 0 where
   pub directed : DirectedLists
   pub columns : Columns
   pub to : Target
-
-abbrev pub rooted_parts : ℕ → DirectedLists → Columns → Target → RootedParts
-rooted_parts root directed columns to = record { root = root; directed = directed; columns = columns; to = to }

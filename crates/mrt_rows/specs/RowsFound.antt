@@ -11,6 +11,3 @@ pub record RowsFound : Type 0 where
   pub making : Making
   pub room : ℕ
   pub rows : List Row
-
-abbrev pub rows_found : ℕ → DirectedLists → Making → ℕ → List Row → RowsFound
-rows_found root directed making room rows = record { root = root; directed = directed; making = making; room = room; rows = rows }

@@ -1,5 +1,5 @@
 -- What lists of directions say.
-use Rattle.std.specs.Prelude.{◌<◌, ℕ, length, slice_index, unwrap_or}
+use Rattle.std.specs.Prelude.{ℕ, slice_index, unwrap_or}
 use Rattle.mrt_graph.specs.declared.cert.Role.TheVariants.{Plain}
 use Rattle.mrt_graph.specs.DirectedLists.{DirectedLists}
 use Rattle.mrt_graph.specs.GadagWords.{block_at, head_at, link_block_at, role_at}
@@ -8,7 +8,6 @@ use Rattle.mrt_graph.specs.Tails.{tail_at}
 use Rattle.mrt_graph.specs.Topology.{Topology}
 use Rattle.link_direction.specs.Directions.{Directions, Says}
 use Rattle.link_direction.specs.OrderedGadag.{IsOrderedGadag}
-use Rattle.mrt_rows.specs.declared.directed.Rooted.{Rooted}
 
 -- the directions that the lists say
 unfoldable pub directions_of : Topology → DirectedLists → Directions
@@ -21,18 +20,8 @@ directions_of g d = record {
   lies_in = λ e. unwrap_or (link_block_at d.marks e) 0;
 }
 
-abbrev pub words_of : Rooted → Directions
-words_of rooted = directions_of rooted.graph.now rooted.directed.now
-
 -- they are those of a GADAG of the graph from its root, with its order
 pub record AreRooted (g : Topology) (root : ℕ) (d : DirectedLists) : Type 0 where
   pub kept : IsTopology g
   pub says : Says g d (directions_of g d)
   pub ordered : IsOrderedGadag g root (directions_of g d)
-
-abbrev pub IsRooted : Rooted → Type 0
-IsRooted rooted = AreRooted rooted.graph.now rooted.root rooted.directed.now
-
--- v is one of the graph's nodes
-abbrev pub IsNode : Rooted → ℕ → Type 0
-IsNode rooted v = v < length rooted.graph.now.ids

@@ -5,7 +5,9 @@ ghost use Rattle.mrt_graph.specs.{declared.cert.Row.Row, declared.link.Link.Link
 ghost use Rattle.mrt_graph.specs.GraphInvariant.{IsTopology};
 ghost use Rattle.link_direction.specs.Directions.{Says};
 ghost use Rattle.mrt_rows.specs.CertOf.{AreLinkWords, AreNodeWords, IsCertOf, file_of, link_words, node_words};
-ghost use Rattle.mrt_rows.specs.{RowsOf.AreAllRows, RowsOf.row_among, Said.IsRooted, Said.directions_of, Said.words_of};
+ghost use Rattle.mrt_rows.specs.steps.RowsOf.{AreAllRows, row_among};
+ghost use Rattle.mrt_rows.specs.steps.Said.{IsRooted, words_of};
+ghost use Rattle.mrt_rows.specs.Said.{directions_of};
 
 use crate::column::{Columns, WIDTH};
 use crate::column_view::ColumnView;

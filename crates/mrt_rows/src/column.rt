@@ -2,9 +2,14 @@
 
 ghost use Rattle.std.specs.Prelude.{◌≡◌, ◌≢◌, ◌<◌, ◌*◌, ℕ, [], IfOk, IfSome, Some, length, slice_get, true};
 ghost use Rattle.inc_dec_spf.specs.BlockAims.{aim_at};
-ghost use Rattle.mrt_rows.specs.Chain.{AreBelow, AreBlockAims, AreWayAims, IsRowAim};
-ghost use Rattle.mrt_rows.specs.{ColumnOf.IsRowIn, NearOf.AreSoles, NearOf.IsNearRow};
-ghost use Rattle.mrt_rows.specs.{Held.AreAimed, Held.AreHeld, Held.AreHeldFor, Put.AreFirstLinks, Said.IsNode, Said.IsRooted, Said.words_of};
+ghost use Rattle.mrt_rows.specs.Chain.{AreBelow, AreBlockAims, AreWayAims};
+ghost use Rattle.mrt_rows.specs.steps.Chain.{IsRowAim};
+ghost use Rattle.mrt_rows.specs.steps.ColumnOf.{IsRowIn};
+ghost use Rattle.mrt_rows.specs.NearOf.{AreSoles};
+ghost use Rattle.mrt_rows.specs.steps.NearOf.{IsNearRow};
+ghost use Rattle.mrt_rows.specs.Held.{AreAimed, AreHeld, AreHeldFor};
+ghost use Rattle.mrt_rows.specs.Put.{AreFirstLinks};
+ghost use Rattle.mrt_rows.specs.steps.Said.{IsNode, IsRooted, words_of};
 
 use crate::common::{Common, mark};
 use crate::directed::Rooted;

@@ -3,8 +3,11 @@
 ghost use Rattle.std.specs.Prelude.{◌≡◌, ◌<◌, IfOk, Some, length, slice_get};
 ghost use Rattle.mrt_graph.specs.Column.{ColumnSound};
 ghost use Rattle.link_direction.specs.{Directions.Directions, Directions.Says, OrderedGadag.SaysOrdered};
-ghost use Rattle.mrt_rows.specs.{ColumnOf.IsColumnOf, Held.AreAimed, TheColumn.TheColumn, TheColumn.no_choice};
-ghost use Rattle.mrt_rows.specs.Said.{directions_of, words_of};
+ghost use Rattle.mrt_rows.specs.ColumnOf.{IsColumnOf};
+ghost use Rattle.mrt_rows.specs.Held.{AreAimed};
+ghost use Rattle.mrt_rows.specs.steps.TheColumn.{TheColumn, no_choice};
+ghost use Rattle.mrt_rows.specs.Said.{directions_of};
+ghost use Rattle.mrt_rows.specs.steps.Said.{words_of};
 
 use crate::column::{Columns, Target};
 use crate::directed::Rooted;

@@ -4,8 +4,12 @@ ghost use Rattle.std.specs.Prelude.{◌≡◌, ◌≢◌, ◌<◌, ℕ, IfOk, So
 ghost use Rattle.mrt_graph.specs.{declared.gadag.Place.Place, Related.IsRelation};
 ghost use Rattle.inc_dec_spf.specs.declared.reach.Dir.TheVariants.{Down, Up};
 ghost use Rattle.inc_dec_spf.specs.{FirstLink.no_link, Turns.AreTurns};
-ghost use Rattle.mrt_rows.specs.{Common.AreCommon, Common.AreHomes, TilesAimed.AreTiles, Said.IsNode, Said.IsRooted, Said.words_of, Source.IsSourceBy};
-ghost use Rattle.mrt_rows.specs.NearOf.{AreSoles, IsNearRow, IsPlaceOf, IsSoleOf};
+ghost use Rattle.mrt_rows.specs.Common.{AreCommon, AreHomes};
+ghost use Rattle.mrt_rows.specs.TilesAimed.{AreTiles};
+ghost use Rattle.mrt_rows.specs.steps.Said.{IsNode, IsRooted, words_of};
+ghost use Rattle.mrt_rows.specs.steps.Source.{IsSourceBy};
+ghost use Rattle.mrt_rows.specs.NearOf.{AreSoles, IsSoleOf};
+ghost use Rattle.mrt_rows.specs.steps.NearOf.{IsNearRow, IsPlaceOf};
 ghost use Rattle.mrt_rows.specs.Put.{AreFirstLinks, AreHeadsMarked, AreInCommonBlockOfMoreLinks};
 
 use crate::directed::Rooted;

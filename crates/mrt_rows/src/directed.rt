@@ -3,7 +3,9 @@
 ghost use Rattle.std.specs.Prelude.{◌<◌, IfOk, length};
 ghost use Rattle.mrt_graph.specs.GraphInvariant.{IsTopology};
 ghost use Rattle.link_direction.specs.OrderedGadag.{SaysOrdered};
-ghost use Rattle.mrt_rows.specs.{DirectedFrom.IsDirectedFrom, NearOf.IsPlaceOf, Said.IsNode, Said.IsRooted, Said.words_of};
+ghost use Rattle.mrt_rows.specs.DirectedFrom.{IsDirectedFrom};
+ghost use Rattle.mrt_rows.specs.steps.NearOf.{IsPlaceOf};
+ghost use Rattle.mrt_rows.specs.steps.Said.{IsNode, IsRooted, words_of};
 
 use gadag_ears::ears;
 use link_direction::direct;

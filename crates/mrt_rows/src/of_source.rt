@@ -4,9 +4,14 @@ ghost use Rattle.std.specs.Prelude.{◌≡◌, ◌≢◌, ◌<◌, ◌≤◌, �
 ghost use Rattle.std.specs.Option.{option_map};
 ghost use Rattle.mrt_graph.specs.{declared.cert.Row.Row, Tags.carried};
 ghost use Rattle.link_direction.specs.{Directions.Directions, Directions.Says, OrderedGadag.SaysOrdered};
-ghost use Rattle.mrt_rows.specs.{ColumnOf.IsRowIn, Making.IsMaking, Making.IsOpenFor, Put.AreFirstLinks, RowsOf.AreRowsOf, RowsOf.HasRow};
-ghost use Rattle.mrt_rows.specs.NearOf.{IsNearRow, IsPlaceOf, near_first};
-ghost use Rattle.mrt_rows.specs.{Said.IsNode, Said.IsRooted, Said.words_of, Source.IsSourceBy};
+ghost use Rattle.mrt_rows.specs.steps.ColumnOf.{IsRowIn};
+ghost use Rattle.mrt_rows.specs.Making.{IsMaking};
+ghost use Rattle.mrt_rows.specs.steps.Making.{IsOpenFor};
+ghost use Rattle.mrt_rows.specs.Put.{AreFirstLinks};
+ghost use Rattle.mrt_rows.specs.RowsOf.{AreRowsOf, HasRow};
+ghost use Rattle.mrt_rows.specs.steps.NearOf.{IsNearRow, IsPlaceOf, near_first};
+ghost use Rattle.mrt_rows.specs.steps.Said.{IsNode, IsRooted, words_of};
+ghost use Rattle.mrt_rows.specs.steps.Source.{IsSourceBy};
 
 use crate::common::Common;
 use crate::directed::Rooted;

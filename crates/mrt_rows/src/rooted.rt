@@ -33,7 +33,8 @@ impl Drop for RootedColumns {
 }
 
 impl Model for RootedColumns {
-    ghost use Rattle.mrt_rows.specs.RootedParts.{RootedParts, rooted_parts};
+    ghost use Rattle.mrt_rows.specs.RootedParts.{RootedParts};
+    ghost use Rattle.mrt_rows.specs.steps.RootedParts.{rooted_parts};
 
     ghost Value = { RootedParts };
 

@@ -38,7 +38,8 @@ impl Drop for SourceRows {
 
 impl Model for SourceRows {
     ghost use Rattle.std.specs.Prelude.{◌≤◌, length, take};
-    ghost use Rattle.mrt_rows.specs.RowsFound.{RowsFound, rows_found};
+    ghost use Rattle.mrt_rows.specs.RowsFound.{RowsFound};
+    ghost use Rattle.mrt_rows.specs.steps.RowsFound.{rows_found};
 
     ghost Value = { RowsFound };
 

@@ -3,7 +3,8 @@
 ghost use Rattle.std.specs.Prelude.{◌≡◌, ◌<◌, ◌*◌, ℕ, IfOk, IsTrue, length, slice_index};
 ghost use Rattle.inc_dec_spf.specs.declared.reach.Dir.TheVariants.{Down, Up};
 ghost use Rattle.inc_dec_spf.specs.Turns.{AreTurns};
-ghost use Rattle.mrt_rows.specs.{Put.AreHeadsMarked, Said.IsRooted, Said.words_of};
+ghost use Rattle.mrt_rows.specs.Put.{AreHeadsMarked};
+ghost use Rattle.mrt_rows.specs.steps.Said.{IsRooted, words_of};
 ghost use Rattle.mrt_rows.specs.TilesAimed.{AreShared, AreTiles, AreTilesAimed, HaveLinksAt, HavePlace};
 
 use crate::directed::Rooted;

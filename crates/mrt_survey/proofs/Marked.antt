@@ -7,7 +7,7 @@ use Rattle.mrt_graph.specs.Search.{IsMarked}
 use Rattle.mrt_graph.proofs.Members.{Has, contains_from_has, has_from_contains}
 use Rattle.mrt_graph.proofs.Searching.{mark_kept, mark_set, no_mark_at_first}
 use Rattle.mrt_survey.specs.Counting.{AreSoMany}
-use Rattle.mrt_survey.specs.Marking.{IsMarkedToo}
+use Rattle.mrt_survey.specs.steps.Marking.{IsMarkedToo}
 
 -- what is marked, and what is left to be marked
 abbrev pub MarkedSoFar : List ℕ → List ℕ → List Bool → List Bool → Type 0

@@ -3,7 +3,7 @@
 ghost use Rattle.std.specs.Prelude.{◌≡◌, ◌<◌, ◌≤◌, IfOk, false, length, map, replicate, slice_set};
 ghost use Rattle.std.specs.List.{AllByRecursion, filter};
 ghost use Rattle.mrt_graph.specs.Certificate.{IsCertLink, IsCertNode};
-ghost use Rattle.mrt_survey.specs.Marking.{IsMarkedToo};
+ghost use Rattle.mrt_survey.specs.steps.Marking.{IsMarkedToo};
 
 use mrt_graph::{CertLink, CertNode, NoMemory, NodeNo};
 use std::alloc::Global;

@@ -10,9 +10,10 @@ use Rattle.mrt_io.specs.Left.{IsLeftOf, IsTakenOff}
 use Rattle.mrt_exit.specs.declared.exit.Exit.{Exit}
 use Rattle.mrt_exit.specs.declared.exit.Exit.TheVariants as exits
 use Rattle.mrt_words.specs.Files.{NamedFile, IsReadAs, IsRefusedBy}
-use Rattle.mrt_words.specs.Pieces.{IsFedOn, IsFedSoFar}
+use Rattle.mrt_words.specs.steps.Pieces.{IsFedOn, IsFedSoFar}
 use Rattle.mrt_exit.specs.Due.{IsDue}
-use Rattle.mrt_words.specs.Reading.{IsDueOrFault, IsStopped}
+use Rattle.mrt_words.specs.Reading.{IsDueOrFault}
+use Rattle.mrt_words.specs.steps.Reading.{IsStopped}
 use Rattle.mrt_words.proofs.Readings.{long_refused}
 
 -- two pieces, one after the other, are fed as one

@@ -4,6 +4,6 @@ pub mod FileBytes
 pub mod Files
 pub mod Form
 pub mod Kept
-pub mod Pieces
 pub mod Reading
 pub mod Spellings
+pub mod steps

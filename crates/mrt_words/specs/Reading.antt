@@ -4,7 +4,7 @@ use Rattle.mrt_io.specs.Counts.{Rose}
 use Rattle.mrt_io.specs.Holding.{Files}
 use Rattle.mrt_exit.specs.Due.{IsDue}
 use Rattle.mrt_exit.specs.declared.exit.Exit.{Exit}
-use Rattle.mrt_exit.specs.declared.exit.Exit.TheVariants.{ReadFault, NoMemory}
+use Rattle.mrt_exit.specs.declared.exit.Exit.TheVariants.{ReadFault}
 use Rattle.mrt_words.specs.Files.{NamedFile, AreThere, IsRefusedBy, MayFail}
 
 -- the exit is due; but where it says that a file was not read, this is one of these files, those before it could be read, and
@@ -33,9 +33,3 @@ abbrev pub ReadsFiles : {S T : Type 0} (held : S → Option Files) (faults : S �
     (named : List NamedFile) (Gives : Option Files → T → Type 0) (result : Result T Exit) → Type 0
 ReadsFiles held faults healthy old new named Gives result =
     ReadsAs held faults healthy old new named (λ files exit. IsRefusedBy files named exit) Gives result
-
--- a file could not be read on for a fault of the shelf, or there was no memory
-abbrev pub IsStopped : NamedFile → ℕ → ℕ → Exit → Type 0
-IsStopped file before now (ReadFault word) = (word ≡ file.place) × Rose before now
-IsStopped file before now NoMemory = Unit {0}
-IsStopped file before now _ = ⊥

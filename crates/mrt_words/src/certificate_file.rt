@@ -3,7 +3,11 @@
 ghost use Rattle.std.specs.Prelude.{◌≡◌, ◌≤◌, ◌<◌, ◌-◌, ◌^◌, ◌++◌, ℕ, List, [], ◌∷◌, Ok, IfOk, IfErr, IfSome, OnOk, IsSome, length};
 ghost use Rattle.mrt_io.specs.Left.{IsLeftOf};
 ghost use Rattle.cert_format.specs.Stream.{fed};
-ghost use Rattle.mrt_words.specs.{Files.IsReadAs, Kept.IsCertRead, Pieces.IsFedOn, Reading.IsStopped, Reading.ReadsFiles};
+ghost use Rattle.mrt_words.specs.Files.{IsReadAs};
+ghost use Rattle.mrt_words.specs.Kept.{IsCertRead};
+ghost use Rattle.mrt_words.specs.steps.Pieces.{IsFedOn};
+ghost use Rattle.mrt_words.specs.steps.Reading.{IsStopped};
+ghost use Rattle.mrt_words.specs.Reading.{ReadsFiles};
 
 use crate::named_file::NamedFile;
 use cert_format::{CertError, CertFault, CertReader, any_pieces};

@@ -24,7 +24,8 @@ use Rattle.mrt_island.specs.declared.island_error.IslandError.{IslandError}
 use Rattle.mrt_island.specs.declared.island_error.IslandError.TheVariants as islands
 use Rattle.mrt_island.specs.declared.setting.Setting.{Setting}
 use Rattle.mrt_island.proofs.Counting.{flagged_at}
-use Rattle.next_hops.specs.Causes.{IsCause, IsMissed}
+use Rattle.next_hops.specs.Causes.{IsCause}
+use Rattle.next_hops.specs.steps.Causes.{IsMissed}
 use Rattle.next_hops.specs.Failures.{area_failure, island_failure, lsa_failure}
 use Rattle.next_hops.specs.NextHops.{HasIsland}
 use Rattle.next_hops.specs.declared.failure.Failure.{Failure}

@@ -7,18 +7,11 @@ use Rattle.lsdb.specs.Database.{HoldsLsas, IsDatabase, entering}
 use Rattle.lsdb.specs.Disagreements.{IsFirstConflictOf}
 use Rattle.mrt_graph.specs.NodeIds.{router}
 use Rattle.mrt_graph.specs.Topology.{Topology}
-use Rattle.mrt_graph.specs.declared.node_id.NodeId.{NodeId}
 use Rattle.next_hops.specs.NextHops.{HasIsland}
 use Rattle.next_hops.specs.declared.failure.Failure.{Failure}
 use Rattle.next_hops.specs.declared.failure.Failure.TheVariants.{Lsa, Conflict, TooLarge, NoIsland, NotThere, NoMemory}
 use Rattle.ospf_lsa.specs.Outcome.{IsFirstLsaFault}
 use Rattle.ospf_lsa.specs.declared.lsa.Lsa.{Lsa as Advertisement}
-
--- the destination is none of these nodes, or there was no memory
-abbrev pub IsMissed : List NodeId → ℕ → Failure → Type 0
-IsMissed ids other NotThere = Contains ids (router other) → ⊥
-IsMissed ids other NoMemory = Unit {0}
-IsMissed ids other failure = ⊥
 
 -- what the failure tells: the first record with a fault, and its first fault; the conflict with the least second place; that the area
 -- is too large; that the router is none of its nodes; that the destination is none of the nodes of the router's island. Under the

@@ -3,7 +3,9 @@
 ghost use Rattle.std.specs.Prelude.{◌≡◌, ◌≢◌, ◌≤◌, ◌<◌, ℕ, None, Contains, IfErr, IfOk, Some, length, map, slice_get};
 ghost use Rattle.mrt_graph.specs.NodeIds.{router as router_node};
 ghost use Rattle.lsdb.specs.{Conflicts.least_conflict, Database.IsDatabase};
-ghost use Rattle.next_hops.specs.{Causes.IsCause, Causes.IsMissed, NextHops.AreNextHops, NextHops.AreNextHopsIn};
+ghost use Rattle.next_hops.specs.Causes.{IsCause};
+ghost use Rattle.next_hops.specs.steps.Causes.{IsMissed};
+ghost use Rattle.next_hops.specs.NextHops.{AreNextHops, AreNextHopsIn};
 
 use crate::failure::Failure;
 use area_graph::build_area;

@@ -15,7 +15,7 @@ use Rattle.mrt_graph.specs.Topology.{Topology}
 use Rattle.std.specs.Option.{option_and_then}
 use Rattle.link_direction.specs.Directions.{Directions, Says}
 use Rattle.order_repair.specs.declared.arrow.Arrow.{Arrow}
-use Rattle.order_repair.specs.Arrow.{arrow_of}
+use Rattle.order_repair.specs.steps.Arrow.{arrow_of}
 
 -- it leads from the tail
 pub record IsArrow (g : Topology) (w : Directions) (e : ℕ) (arrow : Arrow) : Type 0 where

@@ -4,7 +4,7 @@ use Rattle.std.proofs.lemmas.Bool.{cases_eq}
 use Rattle.std.proofs.lemmas.List.{length-replicate, length-set}
 use Rattle.std.proofs.lemmas.Option.{same_Some, slice_get_within}
 use Rattle.mrt_graph.proofs.ListPlaces.{set_elsewhere, set_there}
-use Rattle.order_repair.specs.Blocks.{AreChains, IsNext}
+use Rattle.order_repair.specs.steps.Blocks.{AreChains, IsNext}
 
 -- a number of the name is the next one from itself on, and so is the count
 at_once : (names : List ℕ) (name at : ℕ) → at ≤ length names → (at < length names → slice_get names at ≡ Some name) → IsNext names name at at

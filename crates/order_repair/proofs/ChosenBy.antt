@@ -11,7 +11,7 @@ use Rattle.mrt_rows.proofs.OrderedGraphs.{OrderedGraph}
 use Rattle.order_repair.specs.ColorTable.{IsOfTable}
 use Rattle.order_repair.specs.Failed.{IsBetween}
 use Rattle.order_repair.specs.OrderChoice.{IsOrderChoice, LineFor}
-use Rattle.order_repair.specs.Tagging.{IsPair}
+use Rattle.order_repair.specs.steps.Tagging.{IsPair}
 use Rattle.order_repair.proofs.SharedBlock.{shared_ring}
 
 -- a link of a block of more than one link is no sole one

@@ -5,13 +5,13 @@ use Rattle.mrt_graph.specs.declared.gadag.Place.{Place}
 use Rattle.mrt_graph.specs.declared.link.Element.TheVariants as elements
 use Rattle.mrt_graph.specs.Topology.{Topology}
 use Rattle.link_direction.specs.Directions.{Directions, Says}
-use Rattle.text_parts.specs.Adds.{Adds}
+use Rattle.text_parts.specs.steps.Adds.{Adds}
 use Rattle.text_parts.proofs.Adding.{one_part_more}
 use Rattle.order_repair.specs.declared.kind.Kind.{Kind}
 use Rattle.order_repair.specs.declared.kind.Kind.TheVariants.{Links, Nodes}
 use Rattle.order_repair.specs.declared.kind.Members.{Members}
 use Rattle.order_repair.specs.declared.pair.Pair.{Pair}
-use Rattle.order_repair.specs.Blocks.{IsHeadWithin, IsNext, Letter, Letters, blocks_of}
+use Rattle.order_repair.specs.steps.Blocks.{IsHeadWithin, IsNext, Letter, Letters, blocks_of}
 use Rattle.order_repair.specs.OrderText.{IsLetter, NotOfIt}
 use Rattle.order_repair.proofs.Listed.{none_lies}
 use Rattle.order_repair.proofs.PartsPassed.{passed}

@@ -12,7 +12,7 @@ use Rattle.link_direction.specs.OrderedGadag.{IsOrderedGadag}
 use Rattle.link_direction.proofs.ClosedBlocks.{inside_of_link}
 use Rattle.order_repair.specs.declared.kind.Kind.{Kind}
 use Rattle.order_repair.specs.declared.kind.Kind.TheVariants.{Links, Nodes}
-use Rattle.order_repair.specs.Blocks.{IsHeadWithin, IsNext, blocks_of, count_of, element_of}
+use Rattle.order_repair.specs.steps.Blocks.{IsHeadWithin, IsNext, blocks_of, count_of, element_of}
 use Rattle.order_repair.specs.Failed.{IsWithin, LiesIn}
 
 abbrev block_in : Kind → Directions → ℕ → ℕ

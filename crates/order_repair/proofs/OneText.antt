@@ -19,7 +19,7 @@ use Rattle.mrt_rows.proofs.OrderedGraphs.{OrderedGraph, one_common}
 use Rattle.text_parts.proofs.Adding.{one_headed_text, one_id, one_text_of_parts, some_headed_text, some_text_of_parts}
 use Rattle.order_repair.specs.Failed.{IsWithin, LiesIn}
 use Rattle.order_repair.specs.OrderText.{AtEnd, Colored, IsHead, IsLetter, IsLine, IsOrderText, IsPartOn, Line, NoLine, NotOfIt, letter_of}
-use Rattle.order_repair.specs.Tagging.{IsTagFor, tag_by}
+use Rattle.order_repair.specs.steps.Tagging.{IsTagFor, tag_by}
 use Rattle.order_repair.proofs.OneChoice.{choice_for, one_choice}
 use Rattle.order_repair.proofs.TagFound.{found}
 use Rattle.link_direction.proofs.TwoNodes.{of_two}

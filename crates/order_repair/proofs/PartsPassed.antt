@@ -1,6 +1,6 @@
 -- Parts of nothing, on the way to a later one.
 use Rattle.std.proofs.Common.{◌≡◌, ◌≤◌, ◌<◌, ◌+◌, ◌-◌, ℕ, zero, suc, List, [], subst, arith}
-use Rattle.text_parts.specs.Adds.{Adds}
+use Rattle.text_parts.specs.steps.Adds.{Adds}
 use Rattle.text_parts.specs.Parts.{AreParts}
 use Rattle.text_parts.proofs.Adding.{nothing, one_part_more}
 

@@ -17,7 +17,7 @@ use Rattle.mrt_rows.proofs.RowTags.{PeerTag, peer_tag, way_here, way_of, way_tag
 use Rattle.mrt_rows.proofs.Ways.{Inside, Ring, Way, inside_head, inside_itself, not_head}
 use Rattle.mrt_rows.proofs.WaysBegun.{no_way, peer_ring, peers_are, share}
 use Rattle.order_repair.specs.ColorTable.{IsOfTable}
-use Rattle.order_repair.specs.Tagging.{IsPair, IsTagFor, tag_by}
+use Rattle.order_repair.specs.steps.Tagging.{IsPair, IsTagFor, tag_by}
 use Rattle.order_repair.proofs.Round.{way_to}
 use Rattle.order_repair.proofs.RowWays.{AboveRow, BelowRow, HeadRow, RowWays, TopRow, UnorderedRow, row_of_table, row_ways}
 use Rattle.order_repair.proofs.SharedBlock.{SharedRing, shared_ring}

@@ -1,8 +1,6 @@
-pub mod Arrow
-pub mod Blocks
 pub mod ColorTable
 pub mod Failed
 pub mod OrderChoice
 pub mod OrderText
 pub mod Source
-pub mod Tagging
+pub mod steps

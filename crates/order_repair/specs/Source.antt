@@ -1,22 +1,12 @@
 -- A source and its hops.
-use Rattle.std.specs.Prelude.{◌≡◌, ◌<◌, ℕ, List, Option, length}
+use Rattle.std.specs.Prelude.{ℕ, List, Option}
 use Rattle.mrt_graph.specs.DirectedLists.{DirectedLists}
-use Rattle.mrt_graph.specs.GraphInvariant.{IsTopology}
 use Rattle.mrt_graph.specs.Topology.{Topology}
 use Rattle.link_direction.specs.Directions.{Directions}
 use Rattle.inc_dec_spf.specs.declared.reach.Dir.TheVariants.{Down, Up}
 use Rattle.inc_dec_spf.specs.declared.reach.Hop.{Hop}
-use Rattle.inc_dec_spf.specs.HasDirections.{AreDirections, HasDirections}
+use Rattle.inc_dec_spf.specs.HasDirections.{AreDirections}
 use Rattle.inc_dec_spf.specs.LeastPath.{IsReach}
-use Rattle.order_repair.specs.declared.source_view.SourceView.{SourceView}
-
--- s is a node of a graph with its directions, and there are hops up and down for each node
-pub record IsSource (g : Topology) (d : DirectedLists) (s : ℕ) (up down : List (Option Hop)) : Type 0 where
-  pub kept : IsTopology g
-  pub directed : HasDirections g d
-  pub within : s < length g.ids
-  pub one_up_each : length up ≡ length g.ids
-  pub one_down_each : length down ≡ length g.ids
 
 -- these are the directions from this root, and the hops of s by them
 pub record AreHops (g : Topology) (d : DirectedLists) (root : ℕ) (w : Directions) (s : ℕ)
@@ -24,9 +14,3 @@ pub record AreHops (g : Topology) (d : DirectedLists) (root : ℕ) (w : Directio
   pub are : AreDirections g d root w
   pub goes_up : IsReach g w Up s up
   pub goes_down : IsReach g w Down s down
-
-abbrev pub IsSourceIn : SourceView → ℕ → Type 0
-IsSourceIn view s = IsSource view.graph.now view.directed.now s view.up.now view.down.now
-
-abbrev pub AreHopsIn : SourceView → ℕ → Directions → ℕ → Type 0
-AreHopsIn view root w s = AreHops view.graph.now view.directed.now root w s view.up.now view.down.now

@@ -1,7 +1,7 @@
 //! A link with its direction.
 
 ghost use Rattle.std.specs.Prelude.{◌≡◌};
-ghost use Rattle.order_repair.specs.Arrow.{arrow_of};
+ghost use Rattle.order_repair.specs.steps.Arrow.{arrow_of};
 
 use mrt_graph::{Link, NodeNo, Way};
 

@@ -3,7 +3,7 @@
 ghost use Rattle.std.specs.Prelude.{◌≡◌, IfOk, length};
 ghost use Rattle.mrt_graph.specs.GraphInvariant.{IsTopology};
 ghost use Rattle.inc_dec_spf.specs.HasDirections.{HasDirections};
-ghost use Rattle.order_repair.specs.{Blocks.AreChainsOf, Blocks.blocks_of, Blocks.count_of};
+ghost use Rattle.order_repair.specs.steps.Blocks.{AreChainsOf, blocks_of, count_of};
 
 use crate::chains::Chains;
 use crate::kind::{Kind, block_at, count_of};
@@ -26,7 +26,7 @@ impl BlockLists {
     ghost use Rattle.std.specs.Prelude.{IfOk};
     ghost use Rattle.mrt_graph.specs.GraphInvariant.{IsTopology};
     ghost use Rattle.inc_dec_spf.specs.HasDirections.{HasDirections};
-    ghost use Rattle.order_repair.specs.Blocks.{AreBlockLists};
+    ghost use Rattle.order_repair.specs.steps.Blocks.{AreBlockLists};
 
     /// Those of a graph with its directions.
     ///

@@ -1,7 +1,7 @@
 //! Numbers by name, those of one name in a chain.
 
 ghost use Rattle.std.specs.Prelude.{◌≡◌, ◌<◌, ◌≤◌, ◌+◌, ℕ, Some, length, slice_get};
-ghost use Rattle.order_repair.specs.Blocks.{AreChains};
+ghost use Rattle.order_repair.specs.steps.Blocks.{AreChains};
 
 use mrt_graph::{NoMemory, NodeNo};
 use std::alloc::Global;
@@ -16,7 +16,7 @@ pub struct Chains {
 
 impl Chains {
     ghost use Rattle.std.specs.Prelude.{◌≡◌, ◌<◌, ◌≤◌, ℕ, IfOk, Some, length, slice_get};
-    ghost use Rattle.order_repair.specs.Blocks.{AreChains};
+    ghost use Rattle.order_repair.specs.steps.Blocks.{AreChains};
 
     /// The chains of numbers with these names, of so many.
     ///

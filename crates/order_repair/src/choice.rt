@@ -5,9 +5,12 @@ ghost use Rattle.mrt_graph.specs.{declared.cert.CertFile.CertFile, declared.cert
 ghost use Rattle.link_direction.specs.Directions.{Directions};
 ghost use Rattle.inc_dec_spf.specs.HasDirections.{HasDirections};
 ghost use Rattle.mrt_rows.specs.{CertOf.IsCertOf, DirectedFrom.IsDirectedFrom};
-ghost use Rattle.order_repair.specs.{Source.AreHops, Source.AreHopsIn, Source.IsSourceIn, OrderChoice.IsOrderChoice, OrderChoice.LinkLine};
+ghost use Rattle.order_repair.specs.Source.{AreHops};
+ghost use Rattle.order_repair.specs.steps.Source.{AreHopsIn, IsSourceIn};
+ghost use Rattle.order_repair.specs.OrderChoice.{IsOrderChoice, LinkLine};
 ghost use Rattle.order_repair.specs.{ColorTable.node_color, ColorTable.plain_color, OrderChoice.AreLinkTests, OrderChoice.AreNodeTests, OrderChoice.ByTests};
-ghost use Rattle.order_repair.specs.{Failed.IsBetween, Failed.IsWithin, Tagging.IsPair};
+ghost use Rattle.order_repair.specs.Failed.{IsBetween, IsWithin};
+ghost use Rattle.order_repair.specs.steps.Tagging.{IsPair};
 
 use crate::arrow::{Arrow, arrow_of};
 use crate::color_table::{closing_color, node_color, plain_color};

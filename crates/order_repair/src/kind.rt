@@ -1,7 +1,7 @@
 //! What a block has: nodes and links.
 
 ghost use Rattle.std.specs.Prelude.{◌≡◌, ◌<◌, Some, length, slice_get};
-ghost use Rattle.order_repair.specs.Blocks.{blocks_of, count_of, element_of};
+ghost use Rattle.order_repair.specs.steps.Blocks.{blocks_of, count_of, element_of};
 
 use mrt_graph::{Directed, Element, Graph, LinkNo, NodeNo, Place};
 

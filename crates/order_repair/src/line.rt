@@ -4,10 +4,13 @@ ghost use Rattle.std.specs.Prelude.{◌≡◌, ◌<◌, ◌≤◌, ◌↔◌, �
 ghost use Rattle.mrt_graph.specs.{declared.gadag.Place.Place, Separates.IsNeitherEnd};
 ghost use Rattle.link_direction.specs.Directions.{Directions};
 ghost use Rattle.inc_dec_spf.specs.{HasDirections.AreDirections, HasDirections.HasDirections, LeastPath.HaveCommonBlockOfMoreLinks};
-ghost use Rattle.text_parts.specs.Adds.{Adds};
-ghost use Rattle.order_repair.specs.{Blocks.AreBlockLists, Blocks.AreChainsOf, Blocks.IsNext, Failed.IsWithin, Failed.LiesIn};
-ghost use Rattle.order_repair.specs.{OrderText.IsLetter, OrderText.IsLine, OrderText.letter_of, Source.AreHopsIn, Source.IsSourceIn};
-ghost use Rattle.order_repair.specs.{Tagging.IsPair, Blocks.Letters, Blocks.blocks_of, Blocks.count_of, Blocks.IsHeadWithin};
+ghost use Rattle.text_parts.specs.steps.Adds.{Adds};
+ghost use Rattle.order_repair.specs.steps.Blocks.{AreBlockLists, AreChainsOf, IsNext};
+ghost use Rattle.order_repair.specs.Failed.{IsWithin, LiesIn};
+ghost use Rattle.order_repair.specs.OrderText.{IsLetter, IsLine, letter_of};
+ghost use Rattle.order_repair.specs.steps.Source.{AreHopsIn, IsSourceIn};
+ghost use Rattle.order_repair.specs.steps.Tagging.{IsPair};
+ghost use Rattle.order_repair.specs.steps.Blocks.{Letters, blocks_of, count_of, IsHeadWithin};
 
 use crate::block_lists::BlockLists;
 use crate::chains::Chains;

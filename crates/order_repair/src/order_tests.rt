@@ -4,7 +4,7 @@ ghost use Rattle.std.specs.Prelude.{◌≡◌, ◌<◌, ℕ, length};
 ghost use Rattle.std.specs.Bool.{Decides};
 ghost use Rattle.link_direction.specs.Directions.{Directions};
 ghost use Rattle.order_repair.specs.{OrderChoice.AreLinkTests, OrderChoice.AreNodeTests, OrderChoice.AreNumbers, OrderChoice.IsOverLink, OrderChoice.IsUnderLink, OrderChoice.IsUnderNode};
-ghost use Rattle.order_repair.specs.{Source.AreHopsIn, Source.IsSourceIn};
+ghost use Rattle.order_repair.specs.steps.Source.{AreHopsIn, IsSourceIn};
 
 use crate::arrow::Arrow;
 use crate::pair::Pair;

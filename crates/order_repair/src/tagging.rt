@@ -2,8 +2,8 @@
 
 ghost use Rattle.std.specs.Prelude.{◌≡◌, ◌<◌, ℕ, length};
 ghost use Rattle.link_direction.specs.Directions.{Directions};
-ghost use Rattle.order_repair.specs.Source.{AreHopsIn, IsSourceIn};
-ghost use Rattle.order_repair.specs.Tagging.{IsTagFor, tag_by};
+ghost use Rattle.order_repair.specs.steps.Source.{AreHopsIn, IsSourceIn};
+ghost use Rattle.order_repair.specs.steps.Tagging.{IsTagFor, tag_by};
 
 use crate::source_view::SourceView;
 use inc_dec_spf::Hop;

@@ -4,8 +4,10 @@ ghost use Rattle.std.specs.Prelude.{◌≡◌, ◌<◌, ℕ, IfOk, length};
 ghost use Rattle.mrt_graph.specs.GraphInvariant.{IsTopology};
 ghost use Rattle.link_direction.specs.{Directions.Directions, Directions.Says, OrderedGadag.SaysOrdered};
 ghost use Rattle.mrt_rows.specs.DirectedFrom.{IsDirectedFrom};
-ghost use Rattle.order_repair.specs.{Blocks.AreBlockLists, Source.AreHopsIn, Source.IsSourceIn};
-ghost use Rattle.text_parts.specs.{Adds.Adds, Parts.AreParts};
+ghost use Rattle.order_repair.specs.steps.Blocks.{AreBlockLists};
+ghost use Rattle.order_repair.specs.steps.Source.{AreHopsIn, IsSourceIn};
+ghost use Rattle.text_parts.specs.steps.Adds.{Adds};
+ghost use Rattle.text_parts.specs.Parts.{AreParts};
 ghost use Rattle.order_repair.specs.OrderText.{IsHead, IsOrderText, IsPartOn, IsTextFrom};
 
 use crate::block_lists::BlockLists;

@@ -13,7 +13,7 @@ use Rattle.ospf_lsa.specs.declared.lsa.Body.{Body}
 use Rattle.ospf_lsa.specs.declared.lsa.Body.TheVariants.{Router, Network, Other}
 use Rattle.ospf_lsa.specs.LsaText.{links_text, body_text}
 use Rattle.ospf_lsa.specs.Header.{number_at}
-use Rattle.ospf_lsa.specs.Reading.{numbers_in, links_in, Links, body_links, body_in, with_links, router_body, network_body, typed_body}
+use Rattle.ospf_lsa.specs.steps.Reading.{numbers_in, links_in, Links, body_links, body_in, with_links, router_body, network_body, typed_body}
 use Rattle.ospf_lsa.specs.Faults.{SpellsLinks}
 use Rattle.ospf_lsa.specs.Lsas.{has_zero_metric, AreEntriesOf, FitsBody, IsOfType, KeepsMetrics}
 use Rattle.mrt_graph.proofs.Bytes.{IsBytes, bytes_after}

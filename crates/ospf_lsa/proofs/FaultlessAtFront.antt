@@ -11,7 +11,7 @@ use Rattle.ospf_lsa.specs.Faults.{SpellsLinks, HasBadBody, HasFault, HasZeroMetr
 use Rattle.ospf_lsa.specs.Header.{type_field, length_field, covered_bytes, body_bytes, checksum_field}
 use Rattle.ospf_lsa.specs.LsaText.{body_text, lsa_text}
 use Rattle.ospf_lsa.specs.Lsas.{has_zero_metric, FitsBody, IsLsa, IsOfType, KeepsMetrics}
-use Rattle.ospf_lsa.specs.Reading.{body_links, Links}
+use Rattle.ospf_lsa.specs.steps.Reading.{body_links, Links}
 use Rattle.ospf_lsa.proofs.Bodies.{spelled_found}
 use Rattle.ospf_lsa.proofs.Numbers.{length_numbers}
 use Rattle.ospf_lsa.proofs.Records.{IsAtFront, at_front}

@@ -11,7 +11,7 @@ use Rattle.ospf_lsa.specs.declared.lsa.Lsa.{Lsa}
 use Rattle.ospf_lsa.specs.LsaText.{lsa_length, lsa_text, lsas_text}
 use Rattle.ospf_lsa.specs.Lsas.{AreLsas, IsByte, IsLsa}
 use Rattle.ospf_lsa.specs.Outcome.{IsFirstLsaFault}
-use Rattle.ospf_lsa.specs.Reading.{record_in, Answers}
+use Rattle.ospf_lsa.specs.steps.Reading.{record_in, Answers}
 use Rattle.ospf_lsa.proofs.FirstFaultsTold.{told_is_first}
 use Rattle.mrt_graph.proofs.Bytes.{IsBytes, bytes_after}
 use Rattle.ospf_lsa.proofs.Numbers.{bytes_of_all}

@@ -13,7 +13,7 @@ use Rattle.ospf_lsa.specs.Checksum.{is_good}
 use Rattle.ospf_lsa.specs.Faults.{SpellsLinks, HasFault, HasFirstFault, HasBadBody, order_of}
 use Rattle.ospf_lsa.specs.Header.{number_at, type_field, id_field, router_field, sequence_field, checksum_field, length_field, covered_bytes, body_bytes}
 use Rattle.ospf_lsa.specs.Lsas.{has_zero_metric}
-use Rattle.ospf_lsa.specs.Reading.{header_fault, numbers_in, Links, body_in, body_links, with_links, router_body, network_body, typed_body, with_body, record_in}
+use Rattle.ospf_lsa.specs.steps.Reading.{header_fault, numbers_in, Links, body_in, body_links, with_links, router_body, network_body, typed_body, with_body, record_in}
 use Rattle.ospf_lsa.proofs.Bodies.{links_found, spelled_found}
 use Rattle.ospf_lsa.proofs.FaultlessAtFront.{opposite}
 use Rattle.ospf_lsa.proofs.HeaderFaults.{IsWhole, short_told, cut_told, length_told, checksum_told, sequence_told, router_told}

@@ -4,7 +4,7 @@ use Rattle.std.proofs.lemmas.Bool.{eq-eqb, ne_eqb, le-ltb, lt-ltb}
 use Rattle.ospf_lsa.specs.declared.error.LsaKind.TheVariants as kinds
 use Rattle.ospf_lsa.specs.Checksum.{is_good}
 use Rattle.ospf_lsa.specs.Header.{number_at, length_field, covered_bytes}
-use Rattle.ospf_lsa.specs.Reading.{header_fault}
+use Rattle.ospf_lsa.specs.steps.Reading.{header_fault}
 
 -- the whole of the LSA is there
 pub record IsWhole (bytes : List ℕ) : Type 0 where

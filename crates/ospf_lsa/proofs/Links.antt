@@ -11,7 +11,7 @@ use Rattle.byteorder.specs.Numbers.{big_number-reads_back}
 use Rattle.ospf_lsa.specs.declared.lsa.RouterLink.{RouterLink}
 use Rattle.ospf_lsa.specs.LsaText.{link_text, links_text}
 use Rattle.ospf_lsa.specs.Header.{number_at}
-use Rattle.ospf_lsa.specs.Reading.{numbers_in, link_in, link_length, first_link, with_link, links_in, Links}
+use Rattle.ospf_lsa.specs.steps.Reading.{numbers_in, link_in, link_length, first_link, with_link, links_in, Links}
 use Rattle.ospf_lsa.specs.Lsas.{AreEntriesOf, FitsLink, Is32Bits}
 use Rattle.mrt_graph.proofs.Bytes.{IsBytes, bytes_after}
 use Rattle.mrt_graph.proofs.Members.{all_append}

@@ -9,7 +9,7 @@ use Rattle.mrt_graph.proofs.Bytes.{IsBytes, bytes_after}
 use Rattle.byteorder.specs.Endian.{big_number}
 use Rattle.byteorder.specs.Numbers.{big_from-lt, big_number-reads_back}
 use Rattle.ospf_lsa.specs.Header.{number_at}
-use Rattle.ospf_lsa.specs.Reading.{numbers_in}
+use Rattle.ospf_lsa.specs.steps.Reading.{numbers_in}
 use Rattle.ospf_lsa.specs.Lsas.{Is32Bits, IsByte}
 
 pub all_bytes : (bytes : List ℕ) → IsBytes bytes → AllByRecursion IsByte bytes

@@ -7,7 +7,7 @@ use Rattle.ospf_lsa.specs.Faults.{HasFault, HasFirstFault}
 use Rattle.ospf_lsa.specs.LsaText.{lsa_length, lsa_text, lsas_text}
 use Rattle.ospf_lsa.specs.Lsas.{AreLsas, IsLsa}
 use Rattle.ospf_lsa.specs.Outcome.{IsFirstLsaFault}
-use Rattle.ospf_lsa.specs.Reading.{record_in}
+use Rattle.ospf_lsa.specs.steps.Reading.{record_in}
 use Rattle.ospf_lsa.proofs.FaultlessAtFront.{no_fault_at_front}
 use Rattle.ospf_lsa.proofs.KindsInOrder.{one_first_kind}
 use Rattle.ospf_lsa.proofs.Records.{record_read}

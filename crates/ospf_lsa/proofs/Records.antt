@@ -13,7 +13,7 @@ use Rattle.ospf_lsa.specs.declared.lsa.Lsa.{Lsa}
 use Rattle.ospf_lsa.specs.LsaText.{body_text, lsa_length, header_text, lsa_text, covered_text}
 use Rattle.ospf_lsa.specs.Checksum.{is_good}
 use Rattle.ospf_lsa.specs.Header.{number_at, length_field, covered_bytes, body_bytes}
-use Rattle.ospf_lsa.specs.Reading.{lsa_in, header_fault, typed_body, with_body, record_in}
+use Rattle.ospf_lsa.specs.steps.Reading.{lsa_in, header_fault, typed_body, with_body, record_in}
 use Rattle.ospf_lsa.specs.Lsas.{IsLsa}
 use Rattle.mrt_graph.proofs.Bytes.{IsBytes, bytes_after}
 use Rattle.ospf_lsa.proofs.Numbers.{bytes_taken, spelled8, spelled16, spelled32, spelled_at, number_fits}

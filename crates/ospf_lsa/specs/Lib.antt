@@ -6,6 +6,6 @@ pub mod LsaText
 pub mod Lsas
 pub mod MaxAge
 pub mod Outcome
-pub mod Reading
 pub mod Types
 pub mod Written
+pub mod steps

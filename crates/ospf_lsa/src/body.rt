@@ -2,7 +2,7 @@
 
 ghost use Rattle.std.specs.Prelude.{◌≡◌, ◌≤◌, IfOk, IfSome, length};
 ghost use Rattle.std.specs.Option.{option_map};
-ghost use Rattle.ospf_lsa.specs.Reading.{body_links, network_body, router_body, typed_body};
+ghost use Rattle.ospf_lsa.specs.steps.Reading.{body_links, network_body, router_body, typed_body};
 
 use crate::error::LsaKind;
 use crate::field::{after, number_8, number_16, number_32, numbers};

@@ -2,7 +2,8 @@
 
 ghost use Rattle.std.specs.Prelude.{◌≡◌, ◌≤◌, ◌+◌, ◌*◌, ◌++◌, IfOk, OnOk, length, drop};
 ghost use Rattle.std.specs.Int.{w32, cast_signed};
-ghost use Rattle.ospf_lsa.specs.{Header.number_at, Reading.numbers_in};
+ghost use Rattle.ospf_lsa.specs.Header.{number_at};
+ghost use Rattle.ospf_lsa.specs.steps.Reading.{numbers_in};
 
 use byteorder::{BigEndian, ByteOrder};
 use std::alloc::{AllocError, Global};

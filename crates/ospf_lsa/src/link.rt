@@ -2,7 +2,7 @@
 
 ghost use Rattle.std.specs.Prelude.{◌≡◌, ◌≤◌, IfOk, IfSome, length};
 ghost use Rattle.std.specs.{List.list_any, Option.option_map};
-ghost use Rattle.ospf_lsa.specs.Reading.{first_link, link_length, links_in};
+ghost use Rattle.ospf_lsa.specs.steps.Reading.{first_link, link_length, links_in};
 ghost use Rattle.ospf_lsa.specs.Lsas.{has_zero_metric};
 
 use crate::field::{add_numbers, after, number_8, number_16, number_32};

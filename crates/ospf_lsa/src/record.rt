@@ -4,7 +4,7 @@ ghost use Rattle.std.specs.Prelude.{◌≡◌, ◌≤◌, IfOk, length};
 ghost use Rattle.std.specs.Option.{IfNone};
 ghost use Rattle.ospf_lsa.specs.Checksum.{is_good};
 ghost use Rattle.ospf_lsa.specs.Header.{body_bytes, checksum_field, covered_bytes, length_field};
-ghost use Rattle.ospf_lsa.specs.Reading.{Answers, header_fault, record_in};
+ghost use Rattle.ospf_lsa.specs.steps.Reading.{Answers, header_fault, record_in};
 
 use crate::body::body;
 use crate::checksum::sums;

@@ -4,7 +4,7 @@ use Rattle.std.specs.Prelude.{nat_lt}
 use Rattle.std.specs.List.{filter}
 use Rattle.std.proofs.lemmas.Bool.{cases_eq, cases_lt, eq-eqb, le-ltb, lt-ltb, ne_eqb}
 use Rattle.area_graph.specs.declared.area_types.Arc.{Arc}
-use Rattle.area_graph.specs.Starts.{below}
+use Rattle.area_graph.specs.steps.Starts.{below}
 use Rattle.mrt_graph.proofs.Tallies.{count_is_tally, length_is_tally, tally}
 
 share : (s : ℕ) (arcs : List Arc) → tally (λ arc. nat_lt arc.tail (s + 1)) arcs ≡ tally (λ arc. nat_lt arc.tail s) arcs + tally (λ arc. arc.tail == s) arcs

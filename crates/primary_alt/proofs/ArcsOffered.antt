@@ -5,7 +5,7 @@ use Rattle.std.proofs.lemmas.Option.{get_or_from_slice_get, slice_get_within}
 use Rattle.area_graph.specs.declared.area_types.Arc.{Arc}
 use Rattle.area_graph.specs.AreaInvariant.{IsArc, IsArea, IsBond}
 use Rattle.area_graph.specs.Parts.{AreaParts}
-use Rattle.area_graph.specs.Starts.{below}
+use Rattle.area_graph.specs.steps.Starts.{below}
 use Rattle.area_graph.proofs.Slices.{climbs, none_further, one_further}
 use Rattle.mrt_graph.proofs.Members.{all_has, has_at}
 

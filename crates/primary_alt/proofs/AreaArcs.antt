@@ -8,13 +8,13 @@ use Rattle.std.proofs.lemmas.List.Sorted.{Contains-permutation, IsPermutation-sy
 use Rattle.area_graph.specs.declared.area_types.Arc.{Arc}
 use Rattle.area_graph.specs.AreaInvariant.{IsArc, IsArea}
 use Rattle.area_graph.specs.Parts.{AreaParts}
-use Rattle.area_graph.specs.Starts.{below}
+use Rattle.area_graph.specs.steps.Starts.{below}
 use Rattle.area_graph.proofs.Slices.{arcs_of_node, climbs, fewer_below}
 use Rattle.mrt_graph.proofs.Members.{all_from_has, all_has}
 use Rattle.mrt_graph.proofs.Tallies.{count_is_tally, tally}
 use Rattle.mrt_graph.proofs.ListPlaces.{place_of}
-use Rattle.primary_alt.specs.ArcsInto.{AreFromBelow}
-use Rattle.primary_alt.specs.Attaining.{AreBetween}
+use Rattle.primary_alt.specs.steps.ArcsInto.{AreFromBelow}
+use Rattle.primary_alt.specs.steps.Attaining.{AreBetween}
 use Rattle.primary_alt.proofs.ArcWalks.{arc_bond, arc_kept}
 use Rattle.primary_alt.proofs.ArcsOffered.{far_within}
 

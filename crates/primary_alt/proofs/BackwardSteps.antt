@@ -8,10 +8,11 @@ use Rattle.area_graph.specs.declared.area_types.Arc.{Arc}
 use Rattle.mrt_graph.proofs.ListPlaces.{place_of}
 use Rattle.mrt_graph.proofs.Members.{contains_cases, contains_later, contains_none}
 use Rattle.primary_alt.specs.declared.backward.Offer.{Offer}
-use Rattle.primary_alt.specs.ArcsInto.{AreInto}
+use Rattle.primary_alt.specs.steps.ArcsInto.{AreInto}
 use Rattle.primary_alt.specs.ArcWalk.{ArcWalk, cost_of}
-use Rattle.primary_alt.specs.BackwardSearch.{HasAtMost, IsLeafOf, IsOffered, IsPassed, IsReached, IsRelaxed, IsSearching, Waits}
-use Rattle.primary_alt.specs.Distances.{AreDistances, HasDistance}
+use Rattle.primary_alt.specs.steps.BackwardSearch.{HasAtMost, IsLeafOf, IsOffered, IsPassed, IsReached, IsRelaxed, IsSearching, Waits}
+use Rattle.primary_alt.specs.steps.Distances.{AreDistances}
+use Rattle.primary_alt.specs.Distances.{HasDistance}
 
 -- an offer as the heap holds it
 abbrev pub held : ℕ → ℕ → Reverse Offer

@@ -5,7 +5,7 @@ use Rattle.std.proofs.lemmas.Option.{same_Some, slice_get-get_or, slice_get_read
 use Rattle.area_graph.specs.declared.area_types.Arc.{Arc}
 use Rattle.area_graph.specs.Parts.{AreaParts}
 use Rattle.primary_alt.specs.declared.beginnings.Beginning.{Beginning}
-use Rattle.primary_alt.specs.Beginnings.{IsFirst}
+use Rattle.primary_alt.specs.steps.Beginnings.{IsFirst}
 use Rattle.primary_alt.specs.Primaries.{Direct, IsFirstArc, IsPrimary, LeadsOver, Over}
 
 -- the arc of a first number

@@ -10,12 +10,12 @@ use Rattle.mrt_graph.proofs.ListPlaces.{contains_at, place_of}
 use Rattle.mrt_graph.specs.GraphInvariant.{IsNetwork}
 use Rattle.primary_alt.specs.declared.beginnings.Beginning.{Beginning}
 use Rattle.primary_alt.specs.ArcWalk.{ArcWalk, cost_of}
-use Rattle.primary_alt.specs.Beginnings.{AreBeginnings, HasBeginning, IsFirst}
+use Rattle.primary_alt.specs.steps.Beginnings.{AreBeginnings, HasBeginning, IsFirst}
 use Rattle.primary_alt.specs.Distance.{IsDistance}
 use Rattle.primary_alt.specs.Distances.{HasDistance}
 use Rattle.primary_alt.specs.DistancesFrom.{AreDistancesFrom}
-use Rattle.primary_alt.specs.LeastBeginnings.{AreLeast, BeginsWith, HasUpTo, IsBegun, IsUpTo, Later, Own, Second}
-use Rattle.primary_alt.specs.Onward.{CostInRow, IsOnward}
+use Rattle.primary_alt.specs.steps.LeastBeginnings.{AreLeast, BeginsWith, HasUpTo, IsBegun, IsUpTo, Later, Own, Second}
+use Rattle.primary_alt.specs.steps.Onward.{CostInRow, IsOnward}
 use Rattle.primary_alt.specs.Primaries.{BeginsShortest, IsFirstArc, LeadsOver}
 use Rattle.primary_alt.specs.Routers.{IsRouter}
 use Rattle.primary_alt.proofs.AreaArcs.{arcs_between}

@@ -8,10 +8,10 @@ use Rattle.mrt_graph.proofs.ListPlaces.{contains_at, place_of}
 use Rattle.primary_alt.specs.declared.beginnings.Beginning.{Beginning}
 use Rattle.primary_alt.specs.declared.onward.Onward.{Onward}
 use Rattle.primary_alt.specs.ArcWalk.{ArcWalk, cost_of}
-use Rattle.primary_alt.specs.Beginnings.{HasBeginning}
+use Rattle.primary_alt.specs.steps.Beginnings.{HasBeginning}
 use Rattle.primary_alt.specs.Distances.{HasDistance}
-use Rattle.primary_alt.specs.LeastBeginnings.{AreLeast, BeginsWith, GoesOn, HasUpTo, IsBegun, IsPassedOn, IsUpTo, Later, Own, Second}
-use Rattle.primary_alt.specs.Onward.{AreOnward, CostInRow, IsOnward}
+use Rattle.primary_alt.specs.steps.LeastBeginnings.{AreLeast, BeginsWith, GoesOn, HasUpTo, IsBegun, IsPassedOn, IsUpTo, Later, Own, Second}
+use Rattle.primary_alt.specs.steps.Onward.{AreOnward, CostInRow, IsOnward}
 use Rattle.primary_alt.proofs.ArcWalks.{arc_onward, cost_onward}
 use Rattle.primary_alt.proofs.NumbersRead.{one_number}
 

@@ -15,7 +15,7 @@ use Rattle.mrt_graph.specs.GraphInvariant.{IsNetwork}
 use Rattle.mrt_graph.specs.Topology.{Topology}
 use Rattle.mrt_graph.specs.declared.node_id.NodeId.{NodeId}
 use Rattle.primary_alt.specs.declared.shortest.Primary.{Primary}
-use Rattle.primary_alt.specs.FirstArcs.{AreColumnsFor, AreFirstArcs, IsFirstFor, IsTable, columns_of, primaries_by, primary_by, primary_over}
+use Rattle.primary_alt.specs.steps.FirstArcs.{AreColumnsFor, AreFirstArcs, IsFirstFor, IsTable, columns_of, primaries_by, primary_by, primary_over}
 use Rattle.primary_alt.specs.Offers.{is_network}
 use Rattle.primary_alt.specs.Primaries.{Direct, IsFirstArc, IsPrimary, Itself, LeadsOver, NoWalk, Over}
 use Rattle.primary_alt.specs.RouteLists.{HasColumn, RouteLists, primary_at}

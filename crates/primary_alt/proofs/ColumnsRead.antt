@@ -7,7 +7,7 @@ use Rattle.std.proofs.lemmas.List.{get_or_default, get_or_past}
 use Rattle.std.proofs.lemmas.List.FromFn.{get_or-map-range_with_len, length-map-range_with_len}
 use Rattle.std.proofs.lemmas.Option.{get_or_from_slice_get, same_Some, slice_get_within, slice_get_read}
 use Rattle.primary_alt.specs.declared.shortest.Primary.{Primary}
-use Rattle.primary_alt.specs.FirstArcs.{columns_of, primaries_by, primary_by}
+use Rattle.primary_alt.specs.steps.FirstArcs.{columns_of, primaries_by, primary_by}
 
 no_clash : {X : Type 0} (x : X) → None ≡ Some x → ⊥
 no_clash x is = cc

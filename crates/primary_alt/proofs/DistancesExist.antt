@@ -12,8 +12,9 @@ use Rattle.area_graph.specs.declared.area_types.Arc.{Arc}
 use Rattle.mrt_graph.proofs.ListPlaces.{set_elsewhere, set_there}
 use Rattle.mrt_graph.proofs.ListTests.{there}
 use Rattle.mrt_graph.proofs.Members.{contains_cases, contains_first, contains_later, contains_none}
-use Rattle.primary_alt.specs.BackwardSearch.{HasAtMost, IsReached}
-use Rattle.primary_alt.specs.Distances.{AreDistances, HasDistance}
+use Rattle.primary_alt.specs.steps.BackwardSearch.{HasAtMost, IsReached}
+use Rattle.primary_alt.specs.steps.Distances.{AreDistances}
+use Rattle.primary_alt.specs.Distances.{HasDistance}
 use Rattle.primary_alt.proofs.BackwardSteps.{held, reached_by, search_ends}
 
 -- less than a distance; less than none is all

@@ -7,10 +7,11 @@ use Rattle.area_graph.specs.AreaInvariant.{IsArea}
 use Rattle.area_graph.specs.Parts.{AreaParts}
 use Rattle.mrt_graph.proofs.ListPlaces.{place_of}
 use Rattle.mrt_graph.proofs.Members.{contains_from_has, has_from_contains, is_from}
-use Rattle.primary_alt.specs.ArcsInto.{AreFromBelow, AreStartsInto}
-use Rattle.primary_alt.specs.Distances.{AreDistances}
-use Rattle.primary_alt.specs.DistancesFrom.{AreDistancesFrom, AreItsArcs}
-use Rattle.primary_alt.specs.Turned.{turned}
+use Rattle.primary_alt.specs.steps.ArcsInto.{AreFromBelow, AreStartsInto}
+use Rattle.primary_alt.specs.steps.Distances.{AreDistances}
+use Rattle.primary_alt.specs.DistancesFrom.{AreDistancesFrom}
+use Rattle.primary_alt.specs.steps.DistancesFrom.{AreItsArcs}
+use Rattle.primary_alt.specs.steps.Turned.{turned}
 use Rattle.primary_alt.proofs.AreaArcs.{arcs_between}
 use Rattle.primary_alt.proofs.FirstsByDistances.{distances_moved}
 use Rattle.primary_alt.proofs.TurnedWalks.{distances_turned}

@@ -11,10 +11,10 @@ use Rattle.mrt_graph.proofs.ListPlaces.{set_elsewhere, set_there}
 use Rattle.area_graph.specs.declared.area_types.Arc.{Arc}
 use Rattle.area_graph.specs.AreaInvariant.{IsArea}
 use Rattle.area_graph.specs.Parts.{AreaParts}
-use Rattle.area_graph.specs.Starts.{AreStarts}
-use Rattle.primary_alt.specs.Attaining.{AreFirstToAttain, Does, IsFirstToAttain, NoneDoes}
-use Rattle.primary_alt.specs.Distances.{AreDistances}
-use Rattle.primary_alt.specs.FirstArcs.{AreColumnsFor, AreFirstArcs}
+use Rattle.area_graph.specs.steps.Starts.{AreStarts}
+use Rattle.primary_alt.specs.steps.Attaining.{AreFirstToAttain, Does, IsFirstToAttain, NoneDoes}
+use Rattle.primary_alt.specs.steps.Distances.{AreDistances}
+use Rattle.primary_alt.specs.steps.FirstArcs.{AreColumnsFor, AreFirstArcs}
 use Rattle.primary_alt.proofs.FirstsByDistances.{first_by_distances}
 
 -- those of so many nodes

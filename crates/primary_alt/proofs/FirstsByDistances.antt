@@ -6,13 +6,14 @@ use Rattle.std.proofs.lemmas.List.Sorted.{Contains-permutation, IsPermutation-sy
 use Rattle.area_graph.specs.declared.area_types.Arc.{Arc}
 use Rattle.area_graph.specs.AreaInvariant.{IsArea}
 use Rattle.area_graph.specs.Parts.{AreaParts}
-use Rattle.area_graph.specs.Starts.{below}
+use Rattle.area_graph.specs.steps.Starts.{below}
 use Rattle.mrt_graph.proofs.ListPlaces.{place_of}
 use Rattle.mrt_graph.proofs.ListTests.{there}
-use Rattle.primary_alt.specs.Attaining.{Attains, Does, IsFirstToAttain, NoneDoes}
+use Rattle.primary_alt.specs.steps.Attaining.{Attains, Does, IsFirstToAttain, NoneDoes}
 use Rattle.primary_alt.specs.ArcWalk.{ArcWalk, cost_of}
-use Rattle.primary_alt.specs.Distances.{AreDistances, HasDistance}
-use Rattle.primary_alt.specs.FirstArcs.{IsFirstFor}
+use Rattle.primary_alt.specs.steps.Distances.{AreDistances}
+use Rattle.primary_alt.specs.Distances.{HasDistance}
+use Rattle.primary_alt.specs.steps.FirstArcs.{IsFirstFor}
 use Rattle.primary_alt.specs.Primaries.{BeginsShortest}
 use Rattle.primary_alt.proofs.AreaArcs.{arcs_between}
 use Rattle.primary_alt.proofs.ArcWalks.{one_distance}

@@ -12,8 +12,8 @@ use Rattle.area_graph.specs.declared.area_types.Arc.{Arc}
 use Rattle.mrt_graph.proofs.ListPlaces.{set_elsewhere, set_there}
 use Rattle.mrt_graph.proofs.Members.{contains_cases, contains_first, contains_later}
 use Rattle.primary_alt.specs.declared.backward.Offer.{Offer}
-use Rattle.primary_alt.specs.ArcsInto.{AreInto}
-use Rattle.primary_alt.specs.BackwardSearch.{AreSmall, HasAtMost, IsAdded, IsOffered, WaitsUnlessLeaf, reached, room_of}
+use Rattle.primary_alt.specs.steps.ArcsInto.{AreInto}
+use Rattle.primary_alt.specs.steps.BackwardSearch.{AreSmall, HasAtMost, IsAdded, IsOffered, WaitsUnlessLeaf, reached, room_of}
 use Rattle.primary_alt.specs.Distances.{HasDistance}
 
 pub added_by : (arcs : List Arc) (u : ℕ) (offer : Reverse Offer) (heap heap' : List (Reverse Offer)) → IsPermutation (offer ∷ heap) heap'

@@ -7,7 +7,7 @@ use Rattle.std.proofs.lemmas.List.Sorted.{Contains-permutation, IsPermutation-sy
 use Rattle.std.proofs.lemmas.Option.{same_Some}
 use Rattle.area_graph.specs.declared.area_types.Arc.{Arc}
 use Rattle.primary_alt.specs.declared.onward.Onward.{Onward}
-use Rattle.primary_alt.specs.Onward.{AreOnward, IsOnward}
+use Rattle.primary_alt.specs.steps.Onward.{AreOnward, IsOnward}
 use Rattle.primary_alt.proofs.NumbersRead.{one_number}
 
 -- the arc of the last number is this one

@@ -6,14 +6,15 @@ use Rattle.std.proofs.lemmas.Option.{same_Some}
 use Rattle.area_graph.specs.declared.area_types.Arc.{Arc}
 use Rattle.area_graph.specs.AreaInvariant.{IsArea}
 use Rattle.area_graph.specs.Parts.{AreaParts}
-use Rattle.area_graph.specs.Starts.{below}
+use Rattle.area_graph.specs.steps.Starts.{below}
 use Rattle.area_graph.proofs.Slices.{fewer_below}
 use Rattle.mrt_graph.proofs.ListPlaces.{place_of}
 use Rattle.mrt_graph.proofs.ListTests.{there}
 use Rattle.primary_alt.specs.declared.shortest.Primary.{Primary}
-use Rattle.primary_alt.specs.Attaining.{Attains, Does, IsFirstToAttain, NoneDoes}
-use Rattle.primary_alt.specs.Distances.{AreDistances, HasDistance}
-use Rattle.primary_alt.specs.FirstArcs.{IsFirstFor}
+use Rattle.primary_alt.specs.steps.Attaining.{Attains, Does, IsFirstToAttain, NoneDoes}
+use Rattle.primary_alt.specs.steps.Distances.{AreDistances}
+use Rattle.primary_alt.specs.Distances.{HasDistance}
+use Rattle.primary_alt.specs.steps.FirstArcs.{IsFirstFor}
 use Rattle.primary_alt.specs.Offers.{is_network}
 use Rattle.primary_alt.specs.Primaries.{Direct, IsFirstArc, IsPrimary, Itself, LeadsOver, NoWalk, Over}
 use Rattle.primary_alt.specs.Routers.{IsRouter}

@@ -6,7 +6,7 @@ use Rattle.std.proofs.lemmas.Option.{same_Some}
 use Rattle.area_graph.specs.declared.area_types.Arc.{Arc}
 use Rattle.mrt_graph.proofs.ListPlaces.{contains_at}
 use Rattle.primary_alt.specs.declared.backward.Offer.{Offer}
-use Rattle.primary_alt.specs.BackwardSearch.{AreSmall, HasAtMost, IsOffered, IsRelaxed, Waits, WaitsUnlessLeaf, reached}
+use Rattle.primary_alt.specs.steps.BackwardSearch.{AreSmall, HasAtMost, IsOffered, IsRelaxed, Waits, WaitsUnlessLeaf, reached}
 
 pub relaxed_none : (arcs row : List Arc) (u distance : ℕ) (known : List (Option ℕ)) (heap : List (Reverse Offer)) → AreSmall known
     → IsRelaxed arcs row u 0 distance known known heap heap

@@ -3,7 +3,7 @@ use Rattle.std.proofs.Common.{◌≡◌, ◌<◌, ◌≤◌, ◌+◌, ◌-◌, �
 use Rattle.std.proofs.lemmas.Bool.{cases_lt}
 use Rattle.std.proofs.lemmas.List.{get_or-drop, get_or-take, get_or_append_left, get_or_push, get_or_read, length-drop, length-take-le}
 use Rattle.area_graph.specs.declared.area_types.Arc.{Arc}
-use Rattle.primary_alt.specs.ArcsInto.{AreInto, AreStartsInto, IsStartInto}
+use Rattle.primary_alt.specs.steps.ArcsInto.{AreInto, AreStartsInto, IsStartInto}
 
 any_arc : Arc
 any_arc = record { tail = 0; to = 0; metric = 0; link_data = 0; bond = 0 }

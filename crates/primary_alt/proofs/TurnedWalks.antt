@@ -6,10 +6,11 @@ use Rattle.mrt_graph.proofs.ListPlaces.{contains_at}
 use Rattle.mrt_graph.proofs.ListTests.{there}
 use Rattle.mrt_graph.proofs.Members.{contains_from_has, has_from_contains, has_map, is_from}
 use Rattle.primary_alt.specs.ArcWalk.{ArcWalk, cost_of}
-use Rattle.primary_alt.specs.BackwardSearch.{HasAtMost}
-use Rattle.primary_alt.specs.Distances.{AreDistances, HasDistance}
+use Rattle.primary_alt.specs.steps.BackwardSearch.{HasAtMost}
+use Rattle.primary_alt.specs.steps.Distances.{AreDistances}
+use Rattle.primary_alt.specs.Distances.{HasDistance}
 use Rattle.primary_alt.specs.DistancesFrom.{AreDistancesFrom}
-use Rattle.primary_alt.specs.Turned.{turned}
+use Rattle.primary_alt.specs.steps.Turned.{turned}
 use Rattle.primary_alt.proofs.ArcWalks.{arc_onward, cost_onward}
 
 -- one walk after another

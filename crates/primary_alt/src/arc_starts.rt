@@ -1,7 +1,7 @@
 //! Where the arcs of each node begin.
 
 ghost use Rattle.std.specs.Prelude.{IfOk, length};
-ghost use Rattle.area_graph.specs.Starts.{AreStarts};
+ghost use Rattle.area_graph.specs.steps.Starts.{AreStarts};
 
 use area_graph::{Area, Spot};
 use mrt_graph::NoMemory;

@@ -3,7 +3,7 @@
 ghost use Rattle.std.specs.Prelude.{◌≡◌, ◌<◌, ◌≤◌, ◌+◌, IfOk, IsPermutation, length};
 ghost use Rattle.std.specs.List.Sorted.{IsNonDecreasingBy};
 ghost use Rattle.std.proofs.Props.{props};
-ghost use Rattle.primary_alt.specs.ArcsInto.{AreFromBelow, AreStartsInto, IsStartInto};
+ghost use Rattle.primary_alt.specs.steps.ArcsInto.{AreFromBelow, AreStartsInto, IsStartInto};
 
 use area_graph::{Arc, Area, Spot};
 use mrt_graph::NoMemory;
@@ -24,7 +24,7 @@ impl Drop for ArcsInto {
 
 impl ArcsInto {
     ghost use Rattle.std.specs.Prelude.{◌≡◌, ◌<◌, ◌+◌, IfOk, IsPermutation, length};
-    ghost use Rattle.primary_alt.specs.ArcsInto.{AreInto, AreStartsInto};
+    ghost use Rattle.primary_alt.specs.steps.ArcsInto.{AreInto, AreStartsInto};
 
     /// Those arcs, by the node that they lead to, of so many nodes.
     pub fn new(alloc: Global, mut arcs: Vec<Arc>, count: u16) -> Result<ArcsInto, NoMemory>

@@ -3,8 +3,10 @@
 ghost use Rattle.std.specs.BinaryHeap.{heap_items, heap_len};
 ghost use Rattle.std.specs.Prelude.{◌≡◌, ◌<◌, ◌≤◌, ◌+◌, ◌*◌, ◌∷◌, ◌↔◌, ℕ, Contains, IsTrue, OnErr, OnOk, length};
 ghost use Rattle.area_graph.specs.declared.area_types.Arc.{Arc};
-ghost use Rattle.primary_alt.specs.{ArcsInto.AreFromBelow, ArcsInto.AreStartsInto, Distances.AreDistances, Distances.HasDistance};
-ghost use Rattle.primary_alt.specs.BackwardSearch.{AreSmall, IsAdded, IsOffered, IsRelaxed, IsSearching, left, reached, room_of};
+ghost use Rattle.primary_alt.specs.steps.ArcsInto.{AreFromBelow, AreStartsInto};
+ghost use Rattle.primary_alt.specs.steps.Distances.{AreDistances};
+ghost use Rattle.primary_alt.specs.Distances.{HasDistance};
+ghost use Rattle.primary_alt.specs.steps.BackwardSearch.{AreSmall, IsAdded, IsOffered, IsRelaxed, IsSearching, left, reached, room_of};
 
 use crate::arcs_into::ArcsInto;
 use area_graph::{Arc, Spot};

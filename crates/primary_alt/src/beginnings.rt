@@ -2,9 +2,12 @@
 
 ghost use Rattle.std.specs.Prelude.{◌≡◌, ◌<◌, ◌≤◌, ◌⊎◌, ◌↔◌, ℕ, IfOk, IfSome, IsTrue, Some, length, slice_get};
 ghost use Rattle.area_graph.specs.declared.area_types.Arc.{Arc};
-ghost use Rattle.primary_alt.specs.{declared.beginnings.Beginning.Beginning, Attaining.AreBetween, Beginnings.HasBeginning, Distances.HasDistance};
-ghost use Rattle.primary_alt.specs.Onward.{CostInRow};
-ghost use Rattle.primary_alt.specs.LeastBeginnings.{AreLeast, GoesOn, IsAtMost, IsPassedOn, IsUpTo};
+ghost use Rattle.primary_alt.specs.declared.beginnings.Beginning.{Beginning};
+ghost use Rattle.primary_alt.specs.steps.Attaining.{AreBetween};
+ghost use Rattle.primary_alt.specs.steps.Beginnings.{HasBeginning};
+ghost use Rattle.primary_alt.specs.Distances.{HasDistance};
+ghost use Rattle.primary_alt.specs.steps.Onward.{CostInRow};
+ghost use Rattle.primary_alt.specs.steps.LeastBeginnings.{AreLeast, GoesOn, IsAtMost, IsPassedOn, IsUpTo};
 
 use crate::onward::onward_arcs;
 use area_graph::{Arc, ArcNo, Spot};

@@ -12,7 +12,7 @@ impl Model for FirstArc {
 
     ghost Value = { Option ℕ };
 
-    ghost use Rattle.primary_alt.specs.NoArc.{arc_by, inside_of, told_again};
+    ghost use Rattle.primary_alt.specs.steps.NoArc.{arc_by, inside_of, told_again};
 
     ghost view = { λ first. arc_by first.0 };
 

@@ -2,10 +2,11 @@
 
 ghost use Rattle.std.specs.Prelude.{◌≡◌, ◌<◌, ◌≤◌, ◌+◌, ◌↔◌, ℕ, Contains, IfOk, IsPermutation, IsTrue, None, length, map};
 ghost use Rattle.std.specs.List.{range_with_len};
-ghost use Rattle.area_graph.specs.{declared.area_types.Arc.Arc, Starts.AreStarts};
-ghost use Rattle.primary_alt.specs.ArcsInto.{AreStartsInto};
-ghost use Rattle.primary_alt.specs.Attaining.{AreBetween, AreFirstToAttain, Attains, IsFirstToAttain};
-ghost use Rattle.primary_alt.specs.FirstArcs.{AreColumnsFor};
+ghost use Rattle.area_graph.specs.declared.area_types.Arc.{Arc};
+ghost use Rattle.area_graph.specs.steps.Starts.{AreStarts};
+ghost use Rattle.primary_alt.specs.steps.ArcsInto.{AreStartsInto};
+ghost use Rattle.primary_alt.specs.steps.Attaining.{AreBetween, AreFirstToAttain, Attains, IsFirstToAttain};
+ghost use Rattle.primary_alt.specs.steps.FirstArcs.{AreColumnsFor};
 
 use crate::arc_starts::arc_starts;
 use crate::arcs_into::ArcsInto;

@@ -3,7 +3,8 @@
 ghost use Rattle.std.specs.Prelude.{◌≡◌, ◌≢◌, ◌<◌, ◌↔◌, IfOk, IsTrue, Some, length};
 ghost use Rattle.area_graph.specs.AreaInvariant.{IsArea};
 ghost use Rattle.mrt_graph.specs.GraphInvariant.{IsNetwork};
-ghost use Rattle.primary_alt.specs.{Beginnings.AreBeginnings, Beginnings.IsBeginning, DistancesFrom.AreDistancesFrom};
+ghost use Rattle.primary_alt.specs.steps.Beginnings.{AreBeginnings, IsBeginning};
+ghost use Rattle.primary_alt.specs.DistancesFrom.{AreDistancesFrom};
 ghost use Rattle.primary_alt.specs.Primaries.{ArePrimaries, IsPrimary, LeadsOver};
 
 use crate::beginnings::{Beginning, least_beginnings};

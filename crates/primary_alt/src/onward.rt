@@ -2,7 +2,8 @@
 
 ghost use Rattle.std.specs.Prelude.{◌≡◌, ◌<◌, ◌≤◌, ◌↔◌, ℕ, IfOk, Some, length};
 ghost use Rattle.std.specs.List.Sorted.{IsNonDecreasingBy};
-ghost use Rattle.primary_alt.specs.{Attaining.AreBetween, Onward.AreOnward, Onward.IsOnward};
+ghost use Rattle.primary_alt.specs.steps.Attaining.{AreBetween};
+ghost use Rattle.primary_alt.specs.steps.Onward.{AreOnward, IsOnward};
 
 use area_graph::{Arc, ArcNo};
 use mrt_graph::NoMemory;

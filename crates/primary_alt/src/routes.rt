@@ -1,7 +1,7 @@
 //! The primaries of all routers of an area, and what its nodes and bonds are in an island.
 
 ghost use Rattle.std.specs.Prelude.{◌≡◌, ◌<◌, ◌==◌, ◌||◌, false, not, length, slice_index_or};
-ghost use Rattle.primary_alt.specs.FirstArcs.{IsFirstColumn, primary_by, primary_over};
+ghost use Rattle.primary_alt.specs.steps.FirstArcs.{IsFirstColumn, primary_by, primary_over};
 
 use crate::first_arcs::first_columns;
 use crate::first_column::FirstColumn;
@@ -50,7 +50,8 @@ impl Drop for Routes {
 }
 
 impl Model for Routes {
-    ghost use Rattle.primary_alt.specs.{RouteLists.RouteLists, FirstArcs.IsTable, FirstArcs.columns_of};
+    ghost use Rattle.primary_alt.specs.RouteLists.{RouteLists};
+    ghost use Rattle.primary_alt.specs.steps.FirstArcs.{IsTable, columns_of};
 
     ghost Value = { RouteLists };
 

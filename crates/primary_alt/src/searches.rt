@@ -33,7 +33,7 @@ impl Drop for Searches<'_> {
 
 impl<'a> Model for Searches<'a> {
     ghost use Rattle.area_graph.specs.Parts.{AreaParts};
-    ghost use Rattle.primary_alt.specs.DistancesFrom.{AreItsArcs};
+    ghost use Rattle.primary_alt.specs.steps.DistancesFrom.{AreItsArcs};
 
     ghost Value = { AreaParts };
 

@@ -1,7 +1,7 @@
 //! Arcs turned round.
 
 ghost use Rattle.std.specs.Prelude.{◌≡◌, IfOk, map};
-ghost use Rattle.primary_alt.specs.Turned.{turned};
+ghost use Rattle.primary_alt.specs.steps.Turned.{turned};
 
 use area_graph::Arc;
 use mrt_graph::NoMemory;

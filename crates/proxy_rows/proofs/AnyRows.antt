@@ -17,7 +17,8 @@ use Rattle.proxy_rows.specs.declared.side.Side.{Side}
 use Rattle.proxy_rows.specs.declared.side.Side.TheVariants.{Low, High}
 use Rattle.proxy_rows.specs.declared.words.Words.{Words}
 use Rattle.proxy_rows.specs.Attachment.{IsAttachment}
-use Rattle.proxy_rows.specs.Words.{AreAccepted, AreMarks, AreReadWith, IsGround, IsOn, ReadFrom, with_rows}
+use Rattle.proxy_rows.specs.steps.Words.{AreAccepted, AreMarks, AreReadWith, IsGround, IsOn, with_rows}
+use Rattle.proxy_rows.specs.Words.{ReadFrom}
 use Rattle.proxy_rows.specs.ProxyRows.{IsHeadRed, Closing, OneLink}
 use Rattle.proxy_rows.specs.Sides.{IsIn, Router, Onward, goes_on}
 use Rattle.proxy_rows.proofs.Grounds.{counts, head_within}

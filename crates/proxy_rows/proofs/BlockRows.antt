@@ -19,7 +19,7 @@ use Rattle.mrt_graph.proofs.RowFacts.{NearRow, Says, BelowRow, AboveRow}
 use Rattle.proxy_rows.specs.declared.attachment.Attachment.{Attachment}
 use Rattle.proxy_rows.specs.declared.side.Side.{Side}
 use Rattle.proxy_rows.specs.declared.side.Side.TheVariants.{Low, High}
-use Rattle.proxy_rows.specs.Words.{IsGround}
+use Rattle.proxy_rows.specs.steps.Words.{IsGround}
 use Rattle.proxy_rows.specs.Sides.{IsIn, Router, Onward, IsMember, IsOfBlock}
 use Rattle.proxy_rows.proofs.Attaching.{words}
 use Rattle.proxy_rows.proofs.Grounds.{apart, ascending, b, head_is, head_no_member, head_within, is_higher, is_lower, is_member, less_is, lower_member, lower_within, member_at, member_block, member_head, member_within, of_block, part_of, rows, upper_member, upper_within}

@@ -23,7 +23,7 @@ use Rattle.mrt_graph.proofs.TestFacts.{both_pass, common_block, less_numbers, nu
 use Rattle.proxy_rows.specs.declared.attachment.Attachment.{Attachment}
 use Rattle.proxy_rows.specs.declared.side.Side.{Side}
 use Rattle.proxy_rows.specs.declared.side.Side.TheVariants.{Low, High}
-use Rattle.proxy_rows.specs.Words.{IsGround}
+use Rattle.proxy_rows.specs.steps.Words.{IsGround}
 use Rattle.proxy_rows.specs.Sides.{IsMember, IsOfBlock, goes_on, router_of}
 use Rattle.proxy_rows.proofs.Attaching.{blocks_of, node_there, words}
 

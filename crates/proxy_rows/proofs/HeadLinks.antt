@@ -19,7 +19,7 @@ use Rattle.mrt_graph.proofs.TestFacts.{both_pass, closing_is, role_there, unless
 use Rattle.proxy_rows.specs.declared.attachment.Attachment.{Attachment}
 use Rattle.proxy_rows.specs.declared.proxy_row.Out.{Out}
 use Rattle.proxy_rows.specs.declared.proxy_row.Out.TheVariants as outs
-use Rattle.proxy_rows.specs.Words.{IsGround}
+use Rattle.proxy_rows.specs.steps.Words.{IsGround}
 use Rattle.proxy_rows.specs.ProxyRows.{IsHeadRed, Closing, OneLink}
 use Rattle.proxy_rows.specs.Sides.{IsOfBlock}
 use Rattle.proxy_rows.proofs.Attaching.{words}

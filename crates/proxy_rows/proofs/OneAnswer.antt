@@ -25,7 +25,7 @@ use Rattle.proxy_rows.specs.declared.proxy_row.ProxyRow.{ProxyRow}
 use Rattle.proxy_rows.specs.declared.side.Side.TheVariants.{Low, High}
 use Rattle.mrt_graph.specs.AcceptedFor.{IsAcceptedFor}
 use Rattle.proxy_rows.specs.Attachment.{IsAttachment}
-use Rattle.proxy_rows.specs.Words.{IsGround}
+use Rattle.proxy_rows.specs.steps.Words.{IsGround}
 use Rattle.proxy_rows.specs.declared.standing.Standing.{Standing}
 use Rattle.proxy_rows.specs.declared.standing.Standing.TheVariants as places
 use Rattle.proxy_rows.specs.ProxyRows.{AreProxyRows, AreRowsOf, IsBlue, IsEntry, First, None as none_of_it, IsFirstOut, Here, Over, IsLinkFor, IsLinkIn, IsOnward, IsPlainToLow, IsProxyRow, IsRed}

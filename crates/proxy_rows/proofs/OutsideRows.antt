@@ -24,7 +24,7 @@ use Rattle.mrt_graph.proofs.Whole.{good_everywhere}
 use Rattle.proxy_rows.specs.declared.attachment.Attachment.{Attachment}
 use Rattle.proxy_rows.specs.declared.proxy_row.Out.{Out}
 use Rattle.proxy_rows.specs.declared.proxy_row.Out.TheVariants as outs
-use Rattle.proxy_rows.specs.Words.{IsGround}
+use Rattle.proxy_rows.specs.steps.Words.{IsGround}
 use Rattle.proxy_rows.specs.ProxyRows.{BelongsTo, IsEntry, First, None as none_of_it, IsLinkFor, IsLinkIn}
 use Rattle.proxy_rows.specs.Sides.{IsMember}
 use Rattle.proxy_rows.proofs.Attaching.{words}

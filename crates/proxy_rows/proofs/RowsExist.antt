@@ -28,8 +28,8 @@ use Rattle.proxy_rows.specs.declared.side.Side.{Side}
 use Rattle.proxy_rows.specs.declared.side.Side.TheVariants.{Low, High}
 use Rattle.mrt_graph.specs.AcceptedFor.{IsAcceptedFor}
 use Rattle.proxy_rows.specs.Attachment.{IsAttachment}
-use Rattle.proxy_rows.specs.Steps.{HasNoEnd, NoneBefore}
-use Rattle.proxy_rows.specs.Words.{IsGround}
+use Rattle.proxy_rows.specs.steps.Steps.{HasNoEnd, NoneBefore}
+use Rattle.proxy_rows.specs.steps.Words.{IsGround}
 use Rattle.proxy_rows.specs.declared.standing.Standing.{Standing}
 use Rattle.proxy_rows.specs.declared.standing.Standing.TheVariants as places
 use Rattle.proxy_rows.specs.ProxyRows.{AreProxyRows, AreRowsOf, IsBlue, IsFirstOut, IsHeadBlue, IsLinkFor, IsOnward, IsPlainToLow, IsProxyRow, IsRed, IsSideOut, Here, Over}

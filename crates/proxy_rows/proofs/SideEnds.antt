@@ -9,8 +9,8 @@ use Rattle.mrt_graph.proofs.EndsAt.{leads_end, list_of_ends}
 use Rattle.proxy_rows.specs.declared.attachment.Attachment.{Attachment}
 use Rattle.proxy_rows.specs.declared.side.Side.{Side}
 use Rattle.proxy_rows.specs.declared.side.Side.TheVariants.{Low}
-use Rattle.proxy_rows.specs.Steps.{HasNoEnd, IsNotPlain}
-use Rattle.proxy_rows.specs.Words.{IsGround}
+use Rattle.proxy_rows.specs.steps.Steps.{HasNoEnd, IsNotPlain}
+use Rattle.proxy_rows.specs.steps.Words.{IsGround}
 use Rattle.proxy_rows.specs.ProxyRows.{IsOnward, IsPlainToLow}
 use Rattle.proxy_rows.specs.Sides.{IsIn, Router, Onward, IsOfBlock, goes_on, router_of}
 use Rattle.proxy_rows.proofs.BlockRows.{to_high, to_low}

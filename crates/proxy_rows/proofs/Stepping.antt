@@ -15,7 +15,7 @@ use Rattle.mrt_graph.proofs.Settled.{path_stays, reachable_onward}
 use Rattle.proxy_rows.specs.declared.attachment.Attachment.{Attachment}
 use Rattle.proxy_rows.specs.declared.side.Side.{Side}
 use Rattle.proxy_rows.specs.Sides.{IsIn, Router, Onward, IsMember, IsOfBlock, goes_on, router_of}
-use Rattle.proxy_rows.specs.Steps.{LeadsTo, OneLeadsTo, StepsTo}
+use Rattle.proxy_rows.specs.steps.Steps.{LeadsTo, OneLeadsTo, StepsTo}
 
 -- the end at a place leads to s
 abbrev pub LeadsAt : Certificate → Attachment → Side → ℕ → List End → ℕ → ℕ → Type 0

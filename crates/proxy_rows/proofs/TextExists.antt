@@ -21,7 +21,7 @@ use Rattle.proxy_rows.specs.declared.proxy_row.Out.{Out}
 use Rattle.proxy_rows.specs.declared.proxy_row.Out.TheVariants as outs
 use Rattle.proxy_rows.specs.declared.proxy_row.ProxyRow.{ProxyRow}
 use Rattle.proxy_rows.specs.ProxyText.{IsEndOn, IsHead, IsHop, IsLine, IsOutText, IsProxyText}
-use Rattle.proxy_rows.specs.Touches.{AllTouch, Touches}
+use Rattle.proxy_rows.specs.steps.Touches.{AllTouch, Touches}
 use Rattle.proxy_rows.proofs.OneAnswer.{never_both}
 use Rattle.proxy_rows.proofs.RowsExist.{rows_or_none}
 use Rattle.proxy_rows.proofs.Touching.{all_touch}

@@ -4,6 +4,5 @@ pub mod ProxyRows
 pub mod ProxyText
 pub mod Sides
 pub mod Standing
-pub mod Steps
-pub mod Touches
 pub mod Words
+pub mod steps

@@ -4,8 +4,8 @@ ghost use Rattle.std.specs.Prelude.{◌≡◌, ◌==◌, ◌<◌, ◌↔◌, ℕ
 ghost use Rattle.std.specs.Option.{option_map};
 ghost use Rattle.mrt_graph.specs.{declared.cert.Row.Row, CertWords.has_role, FirstEnd.IsFirstEnd, Roles.is_plain, Search.IsMarked};
 ghost use Rattle.proxy_rows.specs.{declared.side.Side.TheVariants.Low, ProxyRows.IsOnward, ProxyRows.IsPlainToLow, Sides.IsOfBlock};
-ghost use Rattle.proxy_rows.specs.Steps.{HasNoEnd, IsNotPlain, IsWanted, NoneBefore, side_of};
-ghost use Rattle.proxy_rows.specs.Words.{AreAccepted, AreMarks, with_rows, without_rows};
+ghost use Rattle.proxy_rows.specs.steps.Steps.{HasNoEnd, IsNotPlain, IsWanted, NoneBefore, side_of};
+ghost use Rattle.proxy_rows.specs.steps.Words.{AreAccepted, AreMarks, with_rows, without_rows};
 
 use crate::attachment::Attachment;
 use crate::side::{Side, goes_on};

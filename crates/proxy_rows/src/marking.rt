@@ -3,8 +3,8 @@
 ghost use Rattle.std.specs.Prelude.{◌≡◌, ◌<◌, ◌↔◌, ℕ, IfOk, IsTrue, length};
 ghost use Rattle.mrt_graph.specs.Search.{Enters, IsMarked};
 ghost use Rattle.proxy_rows.specs.Sides.{IsMember};
-ghost use Rattle.proxy_rows.specs.Steps.{AreEndsWithin, LeadsTo, LeadsToMember, OneLeadsTo};
-ghost use Rattle.proxy_rows.specs.Words.{AreAccepted, AreMarks, without_rows};
+ghost use Rattle.proxy_rows.specs.steps.Steps.{AreEndsWithin, LeadsTo, LeadsToMember, OneLeadsTo};
+ghost use Rattle.proxy_rows.specs.steps.Words.{AreAccepted, AreMarks, without_rows};
 
 use crate::attachment::Attachment;
 use crate::side::{Side, goes_on, router_of};

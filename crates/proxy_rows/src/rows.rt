@@ -5,7 +5,7 @@ ghost use Rattle.mrt_graph.specs.{declared.cert.Row.Row, AcceptedFor.IsAcceptedF
 ghost use Rattle.proxy_rows.specs.{declared.attachment.Attachment.Attachment, declared.side.Side.TheVariants.Low, declared.side.Side.TheVariants.High, Attachment.IsAttachment, Words.ReadFrom};
 ghost use Rattle.proxy_rows.specs.GraphWith.{AreRowsWith, links_with, new_node};
 ghost use Rattle.proxy_rows.specs.ProxyRows.{AreProxyRows, AreRowsOf, IsHeadBlue, IsHeadRed, IsProxyRow, IsSideOut};
-ghost use Rattle.proxy_rows.specs.Words.{AreAccepted, AreMarks, AreReadWith, IsOn, with_rows};
+ghost use Rattle.proxy_rows.specs.steps.Words.{AreAccepted, AreMarks, AreReadWith, IsOn, with_rows};
 
 use crate::attachment::{Attachment, attach};
 use crate::ends::{Wanted, first_end};

@@ -1,7 +1,8 @@
 //! The two sides of a block.
 
 ghost use Rattle.std.specs.Prelude.{◌≡◌, ◌<◌, length};
-ghost use Rattle.proxy_rows.specs.{Sides.goes_on, Sides.router_of, Words.without_rows};
+ghost use Rattle.proxy_rows.specs.Sides.{goes_on, router_of};
+ghost use Rattle.proxy_rows.specs.steps.Words.{without_rows};
 
 use crate::attachment::Attachment;
 use crate::words::{Words, node_at};

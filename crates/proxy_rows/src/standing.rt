@@ -3,7 +3,8 @@
 ghost use Rattle.std.specs.Prelude.{◌≡◌, ◌<◌, ◌↔◌, ℕ, List, length};
 ghost use Rattle.mrt_graph.specs.{declared.cert.Row.Row, Search.IsMarked};
 ghost use Rattle.proxy_rows.specs.{declared.side.Side.TheVariants.Low, declared.side.Side.TheVariants.High};
-ghost use Rattle.proxy_rows.specs.{Standing.IsStanding, Standing.standing_by, Words.AreMarks, Words.with_rows};
+ghost use Rattle.proxy_rows.specs.Standing.{IsStanding, standing_by};
+ghost use Rattle.proxy_rows.specs.steps.Words.{AreMarks, with_rows};
 
 use crate::attachment::Attachment;
 use crate::ends::is_marked;

@@ -2,8 +2,10 @@
 
 ghost use Rattle.std.specs.Prelude.{◌≡◌, ◌≢◌, ◌<◌, ◌↔◌, true, Err, IfOk, Some, length, slice_get};
 ghost use Rattle.mrt_graph.specs.{Certificate.Certificate, CertWords.order_of, GraphInvariant.IsTopology, Related.are_unrelated, AcceptedFor.IsAcceptedFor};
-ghost use Rattle.text_parts.specs.{Adds.Adds, Parts.AreParts};
-ghost use Rattle.proxy_rows.specs.{ProxyRows.AreProxyRows, Touches.AllTouch, Touches.Touches};
+ghost use Rattle.text_parts.specs.steps.Adds.{Adds};
+ghost use Rattle.text_parts.specs.Parts.{AreParts};
+ghost use Rattle.proxy_rows.specs.ProxyRows.{AreProxyRows};
+ghost use Rattle.proxy_rows.specs.steps.Touches.{AllTouch, Touches};
 ghost use Rattle.proxy_rows.specs.ProxyText.{IsHead, IsHop, IsLine, IsOutText, IsProxyText};
 
 use crate::ends::end_on;

@@ -2,7 +2,7 @@
 use Rattle.std.proofs.Common.{◌≡◌, ◌<◌, ◌+◌, ◌++◌, ◌∙◌, ℕ, zero, suc, List, [], Some, slice_get, refl, sym, ap, subst, arith, append-nil, append_assoc}
 use Rattle.std.proofs.lemmas.Option.{same_Some}
 use Rattle.mrt_graph.specs.declared.node_id.NodeId.{NodeId}
-use Rattle.text_parts.specs.Adds.{Adds}
+use Rattle.text_parts.specs.steps.Adds.{Adds}
 use Rattle.text_parts.specs.Parts.{AreParts, IsHeaded}
 
 -- no part

@@ -15,7 +15,8 @@ use Rattle.std.proofs.Math.Seq.{drop-cons}
 use Rattle.mrt_graph.specs.TextLines.{text_lines}
 use Rattle.text_parts.specs.declared.line_error.LineError.{LineError}
 use Rattle.text_parts.specs.declared.line_error.LineError.TheVariants as errors
-use Rattle.text_parts.specs.TextRead.{Reads, Takes}
+use Rattle.text_parts.specs.TextRead.{Reads}
+use Rattle.text_parts.specs.steps.TextRead.{Takes}
 use Rattle.text_parts.specs.TextRule.{IsFirstFault, IsText, OfEnd, OfLine, TextRule, said_by, with_line}
 
 -- so many lines were taken in, which say so much, and these are left

@@ -1,17 +1,11 @@
 -- What the reading of a text line by line comes to.
-use Rattle.std.specs.Prelude.{◌≡◌, ℕ, List, Result, Ok, Err}
+use Rattle.std.specs.Prelude.{ℕ, List, Result, Ok, Err}
 use Rattle.text_parts.specs.declared.line_error.LineError.{LineError}
 use Rattle.text_parts.specs.declared.line_error.LineError.TheVariants.{Fault, NoMemory}
-use Rattle.text_parts.specs.TextRule.{IsFirstFault, IsText, TextRule, with_line}
+use Rattle.text_parts.specs.TextRule.{IsFirstFault, IsText, TextRule}
 
 -- where there was memory: what the whole text says, or the first fault
 abbrev pub Reads : {S W F : Type 0} → TextRule S W F → List (List ℕ) → Result W (LineError F) → Type 0
 Reads rule lines (Ok text) = IsText rule lines text
 Reads rule lines (Err (Fault number fault)) = IsFirstFault rule lines number fault
 Reads rule lines (Err NoMemory) = Unit {0}
-
--- and of the line with this number alone, after which so much is said
-abbrev pub Takes : {S W F : Type 0} → TextRule S W F → S → List ℕ → ℕ → Result (Unit {0}) (LineError F) → S → Type 0
-Takes rule said line number (Ok done) after = with_line rule (Ok said) line ≡ Ok after
-Takes rule said line number (Err (Fault told fault)) after = (told ≡ number) × (with_line rule (Ok said) line ≡ Err fault)
-Takes rule said line number (Err NoMemory) after = Unit {0}

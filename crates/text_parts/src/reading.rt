@@ -3,7 +3,8 @@
 ghost use Rattle.std.specs.Prelude.{◌≡◌, ◌≤◌, IfOk, length};
 ghost use Rattle.std.specs.Result.{result_map_both};
 ghost use Rattle.mrt_graph.specs.TextLines.{text_lines};
-ghost use Rattle.text_parts.specs.TextRead.{Reads, Takes};
+ghost use Rattle.text_parts.specs.TextRead.{Reads};
+ghost use Rattle.text_parts.specs.steps.TextRead.{Takes};
 
 use crate::line_error::LineError;
 use mrt_graph::{NoMemory, first_line, is_passed_over};

@@ -41,7 +41,7 @@ DEFINITIONS = """# Definitions
 What the contracts of the public functions stand on, down to the library's lists, numbers and options, as the comments
 over the definitions say it; a comment counts for less than its definition. This page is made by `tools/clauses --make`,
 of `crates/*/specs`; `tools/clauses NAME` prints a definition itself, and with `--all` all below it. What only the steps
-inside a crate speak of is left out. In a comment a name of one letter is an argument of the definition.
+inside a crate speak of stands in `specs/steps`, and not here. In a comment a name of one letter is an argument of the definition.
 
 [AUDIT.md](AUDIT.md) has what the headline stands on, in the order in which it has to be believed.
 """

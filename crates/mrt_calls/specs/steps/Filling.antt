@@ -3,7 +3,7 @@ use Rattle.std.specs.Prelude.{ℕ, List, map}
 use Rattle.std.specs.List.{AllZip}
 use Rattle.mrt_report.specs.TableText.{others}
 use Rattle.mrt_report.specs.declared.row.TableRow.{TableRow}
-use Rattle.mrt_calls.specs.Putting.{IsHeldIn}
+use Rattle.mrt_calls.specs.steps.Putting.{IsHeldIn}
 use Rattle.mrt_calls.specs.RowNumbers.{row_in}
 use Rattle.mrt_calls.specs.declared.row.MrtRow.{MrtRow}
 

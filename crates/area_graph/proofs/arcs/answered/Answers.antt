@@ -3,7 +3,7 @@ use Rattle.std.specs.List.{filter}
 use Rattle.std.proofs.lemmas.List.{append-nil, take_all}
 use Rattle.std.proofs.lemmas.List.Elements.{filter_more}
 use Rattle.area_graph.specs.declared.entry.NumberedEntry.{NumberedEntry as Entry}
-use Rattle.area_graph.specs.NumberedArcs.{is_arc}
+use Rattle.area_graph.specs.steps.NumberedArcs.{is_arc}
 use Rattle.area_graph.proofs.arcs.answered.Goals as goal
 use Rattle.area_graph.proofs.arcs.answered.Goals.{then-is_answered+in_ok-push, else-is_answered}
 

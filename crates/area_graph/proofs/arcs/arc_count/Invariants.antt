@@ -1,6 +1,6 @@
 use Rattle.std.proofs.Common.{◌≡◌, ◌≤◌, length, take}
 use Rattle.std.specs.List.{filter}
-use Rattle.area_graph.specs.NumberedArcs.{is_arc}
+use Rattle.area_graph.specs.steps.NumberedArcs.{is_arc}
 use Rattle.area_graph.proofs.arcs.arc_count.Given as goal
 
 abbrev pub invariant-loop-entry : goal.invariant-loop-entry

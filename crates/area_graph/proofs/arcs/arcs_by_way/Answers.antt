@@ -6,7 +6,7 @@ use Rattle.area_graph.specs.AreaSize.{TellsTooLarge}
 use Rattle.area_graph.specs.declared.area_error.AreaError.{AreaError}
 use Rattle.area_graph.specs.declared.area_error.AreaError.TheVariants.{NoMemory}
 use Rattle.area_graph.specs.declared.entry.NumberedEntry.{NumberedEntry as Entry}
-use Rattle.area_graph.specs.NumberedArcs.{arcs_among, is_arc, pairing_cmp}
+use Rattle.area_graph.specs.steps.NumberedArcs.{arcs_among, is_arc, pairing_cmp}
 use Rattle.area_graph.proofs.Apart.{arcs_in_order, pairing_total}
 use Rattle.area_graph.proofs.Built.{handed_on}
 use Rattle.area_graph.proofs.arcs.arcs_by_way.Goals as goal

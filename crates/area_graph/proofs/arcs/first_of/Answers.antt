@@ -1,6 +1,6 @@
 use Rattle.std.proofs.Common.{rules}
 use Rattle.std.proofs.lemmas.List.Sorted.{IsPartitionPoint-from_clause}
-use Rattle.area_graph.specs.Ways.{is_before_way}
+use Rattle.area_graph.specs.steps.Ways.{is_before_way}
 use Rattle.area_graph.proofs.Ways.{partitioned}
 use Rattle.area_graph.proofs.arcs.first_of.Goals as goal
 

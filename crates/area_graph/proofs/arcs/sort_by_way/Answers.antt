@@ -1,7 +1,7 @@
 use Rattle.std.proofs.Common.{rules, ℕ}
 use Rattle.std.proofs.lemmas.List.Sorted.{answers_always}
 use Rattle.mrt_graph.proofs.InOrder.{in_order_is}
-use Rattle.area_graph.specs.NumberedArcs.{pairing_cmp}
+use Rattle.area_graph.specs.steps.NumberedArcs.{pairing_cmp}
 use Rattle.area_graph.specs.declared.entry.NumberedEntry.{NumberedEntry as Entry}
 use Rattle.area_graph.proofs.Apart.{pairing_total, pairing_ties_alone}
 use Rattle.area_graph.proofs.arcs.sort_by_way.Goals as goal

@@ -4,14 +4,14 @@ use Rattle.ospf_lsa.specs.declared.lsa.Lsa.{Lsa}
 use Rattle.lsdb.specs.Entries.{Entry as DatabaseEntry}
 use Rattle.area_graph.specs.AreaOf.{area_of}
 use Rattle.area_graph.specs.AreaSize.{TellsTooLarge}
-use Rattle.area_graph.specs.NumberedArcs.{arcs_among}
-use Rattle.area_graph.specs.NumberedEntries.{entries}
+use Rattle.area_graph.specs.steps.NumberedArcs.{arcs_among}
+use Rattle.area_graph.specs.steps.NumberedEntries.{entries}
 use Rattle.area_graph.specs.Nodes.{nodes}
 use Rattle.area_graph.specs.declared.area_error.AreaError.{AreaError}
 use Rattle.area_graph.specs.declared.area_error.AreaError.TheVariants.{NoMemory}
 use Rattle.area_graph.specs.Parts.{AreaParts}
 use Rattle.area_graph.proofs.Built.{between, handed_on, is_area, not_too_large, ordered, parts_are, too_large_is}
-use Rattle.area_graph.specs.NumberedArea.{parts_of}
+use Rattle.area_graph.specs.steps.NumberedArea.{parts_of}
 use Rattle.area_graph.proofs.build.build_area.Goals as goal
 
 pub returns-in_err-by_way-clause-refused : goal.returns-in_err-by_way-clause-refused

@@ -3,7 +3,7 @@ use Rattle.std.specs.Option.{option_to_list}
 use Rattle.std.proofs.lemmas.List.{drop_all}
 use Rattle.ospf_lsa.specs.declared.lsa.RouterLink.{RouterLink}
 use Rattle.area_graph.specs.Entries.{entries_of_links}
-use Rattle.area_graph.specs.NumberedEntries.{by_number}
+use Rattle.area_graph.specs.steps.NumberedEntries.{by_number}
 use Rattle.area_graph.specs.declared.entry.NumberedEntry.{NumberedEntry}
 use Rattle.area_graph.proofs.Adding.{links_more}
 use Rattle.area_graph.proofs.entries.add_links.Goals as goal

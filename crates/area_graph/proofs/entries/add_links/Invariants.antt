@@ -1,7 +1,7 @@
 use Rattle.std.proofs.Common.{◌≡◌, ◌≤◌, ◌+◌, ◌++◌, drop, length, vec_len}
 use Rattle.std.specs.Prelude.{vec_capacity}
 use Rattle.area_graph.specs.Entries.{entries_of_links}
-use Rattle.area_graph.specs.NumberedEntries.{by_number}
+use Rattle.area_graph.specs.steps.NumberedEntries.{by_number}
 use Rattle.area_graph.proofs.entries.add_links.Given as goal
 
 abbrev pub invariant-loop-place : goal.invariant-loop-place

@@ -2,7 +2,7 @@ use Rattle.std.proofs.Common.{◌∙◌, ◌++◌, ℕ, List, Option, ap, append
 use Rattle.std.specs.Option.{option_to_list}
 use Rattle.std.proofs.lemmas.List.{drop_all}
 use Rattle.area_graph.specs.Entries.{entries_of_listed}
-use Rattle.area_graph.specs.NumberedEntries.{by_number}
+use Rattle.area_graph.specs.steps.NumberedEntries.{by_number}
 use Rattle.area_graph.specs.declared.entry.NumberedEntry.{NumberedEntry}
 use Rattle.area_graph.proofs.Adding.{listed_more}
 use Rattle.area_graph.proofs.entries.add_listed.Goals as goal

@@ -2,7 +2,7 @@ use Rattle.std.proofs.Common.{◌≡◌, ◌≤◌, ◌+◌, ◌++◌, drop, len
 use Rattle.std.specs.Prelude.{vec_capacity}
 use Rattle.mrt_graph.specs.declared.node_id.NodeId.{NodeId}
 use Rattle.area_graph.specs.Entries.{entries_of_listed}
-use Rattle.area_graph.specs.NumberedEntries.{by_number}
+use Rattle.area_graph.specs.steps.NumberedEntries.{by_number}
 use Rattle.area_graph.proofs.entries.add_listed.Given as goal
 
 abbrev pub invariant-loop-place : goal.invariant-loop-place

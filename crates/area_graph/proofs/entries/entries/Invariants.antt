@@ -1,5 +1,5 @@
 use Rattle.std.proofs.Common.{◌≡◌, ◌++◌, drop}
-use Rattle.area_graph.specs.NumberedEntries.{entries_from}
+use Rattle.area_graph.specs.steps.NumberedEntries.{entries_from}
 use Rattle.area_graph.specs.Nodes.{speakers}
 use Rattle.area_graph.proofs.entries.entries.Given as goal
 

@@ -2,8 +2,8 @@ use Rattle.std.proofs.Common.{◌≡◌, ◌∙◌, List, map, ap, sym, subst}
 use Rattle.std.specs.List.Sorted.{IsStrictlySortedBy}
 use Rattle.mrt_graph.specs.NodeOrder.{node_id_cmp}
 use Rattle.mrt_graph.specs.declared.node_id.NodeId.{NodeId}
-use Rattle.area_graph.specs.NumberedEntries.{entries, entries_from}
-use Rattle.area_graph.specs.Listed.{AreEntries}
+use Rattle.area_graph.specs.steps.NumberedEntries.{entries, entries_from}
+use Rattle.area_graph.specs.steps.Listed.{AreEntries}
 use Rattle.area_graph.specs.Nodes.{nodes, speakers}
 use Rattle.area_graph.specs.declared.entry.NumberedEntry.{NumberedEntry as Entry}
 use Rattle.area_graph.specs.declared.speaker.Speaker.{Speaker}

@@ -10,10 +10,10 @@ use Rattle.area_graph.specs.declared.area_types.Arc.{Arc}
 use Rattle.area_graph.specs.declared.area_types.Bond.{Bond}
 use Rattle.area_graph.specs.declared.entry.NumberedEntry.{NumberedEntry as Entry}
 use Rattle.area_graph.specs.declared.pairing.Numbered.{Numbered}
-use Rattle.area_graph.specs.NumberedArea.{bond_by, bond_from, numbered as with_bond}
-use Rattle.area_graph.specs.NumberedArcs.{arc_cmp}
-use Rattle.area_graph.specs.NumberedBonds.{is_of, is_single, pairs, partner, bond_of}
-use Rattle.area_graph.specs.Pairing.{AreOrdered, IsBetween, bonds_upto, with_pair}
+use Rattle.area_graph.specs.steps.NumberedArea.{bond_by, bond_from, numbered as with_bond}
+use Rattle.area_graph.specs.steps.NumberedArcs.{arc_cmp}
+use Rattle.area_graph.specs.steps.NumberedBonds.{is_of, is_single, pairs, partner, bond_of}
+use Rattle.area_graph.specs.steps.Pairing.{AreOrdered, IsBetween, bonds_upto, with_pair}
 use Rattle.area_graph.proofs.Apart.{once_from_apart}
 use Rattle.area_graph.proofs.BondNumbers.{bonds_more, number_bound, number_is, ordered_arcs, single_is}
 use Rattle.area_graph.proofs.pairing.number_all.Goals as goal

@@ -1,8 +1,8 @@
 use Rattle.std.proofs.Common.{◌≡◌, map, take}
 use Rattle.mrt_graph.specs.InOrder.{in_order}
-use Rattle.area_graph.specs.NumberedArea.{bond_from, numbered as with_bond}
-use Rattle.area_graph.specs.NumberedArcs.{arc_cmp}
-use Rattle.area_graph.specs.Pairing.{bonds_upto}
+use Rattle.area_graph.specs.steps.NumberedArea.{bond_from, numbered as with_bond}
+use Rattle.area_graph.specs.steps.NumberedArcs.{arc_cmp}
+use Rattle.area_graph.specs.steps.Pairing.{bonds_upto}
 use Rattle.area_graph.proofs.pairing.number_all.Given as goal
 
 abbrev pub invariant-loop-x : goal.invariant-loop-x

@@ -4,9 +4,9 @@ use Rattle.std.proofs.lemmas.List.{get_or_default, map_more, take_all}
 use Rattle.std.proofs.lemmas.List.Elements.{All-from_recursion}
 use Rattle.area_graph.specs.declared.entry.NumberedEntry.{NumberedEntry as Entry}
 use Rattle.area_graph.specs.declared.pairing.Numbered.{Numbered}
-use Rattle.area_graph.specs.NumberedArea.{bond_from}
-use Rattle.area_graph.specs.NumberedBonds.{tells_pair}
-use Rattle.area_graph.specs.Pairing.{IsBetween, with_pair}
+use Rattle.area_graph.specs.steps.NumberedArea.{bond_from}
+use Rattle.area_graph.specs.steps.NumberedBonds.{tells_pair}
+use Rattle.area_graph.specs.steps.Pairing.{IsBetween, with_pair}
 use Rattle.area_graph.proofs.pairing.number_pairs.Goals as goal
 
 abbrev nothing : Entry

@@ -1,6 +1,6 @@
 use Rattle.std.proofs.Common.{◌≡◌, map, take}
-use Rattle.area_graph.specs.NumberedArea.{bond_from}
-use Rattle.area_graph.specs.Pairing.{pairs_upto, with_pair}
+use Rattle.area_graph.specs.steps.NumberedArea.{bond_from}
+use Rattle.area_graph.specs.steps.Pairing.{pairs_upto, with_pair}
 use Rattle.area_graph.proofs.pairing.number_pairs.Given as goal
 
 abbrev pub invariant-loop-place : goal.invariant-loop-place

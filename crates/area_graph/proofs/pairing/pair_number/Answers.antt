@@ -4,8 +4,8 @@ use Rattle.mrt_graph.proofs.Members.{has_from_contains}
 use Rattle.area_graph.specs.declared.area_types.Bond.{Bond}
 use Rattle.area_graph.specs.declared.entry.NumberedEntry.{NumberedEntry as Entry}
 use Rattle.area_graph.specs.declared.pairing.Numbered.{Numbered}
-use Rattle.area_graph.specs.NumberedArea.{bond_by, bond_from}
-use Rattle.area_graph.specs.Pairing.{pairs_upto, with_pair}
+use Rattle.area_graph.specs.steps.NumberedArea.{bond_by, bond_from}
+use Rattle.area_graph.specs.steps.Pairing.{pairs_upto, with_pair}
 use Rattle.area_graph.proofs.Apart.{once_from_apart}
 use Rattle.area_graph.proofs.BondNumbers.{none_of_single, pair_place, pairs_more_back, pairs_more_none, pairs_more_pair, partners_number}
 use Rattle.area_graph.proofs.pairing.pair_number.Goals as goal

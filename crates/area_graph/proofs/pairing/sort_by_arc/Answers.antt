@@ -8,8 +8,8 @@ use Rattle.mrt_graph.specs.InOrder.{in_order}
 use Rattle.mrt_graph.proofs.InOrder.{in_order_is, is_before}
 use Rattle.area_graph.specs.declared.entry.NumberedEntry.{NumberedEntry as Entry}
 use Rattle.area_graph.specs.declared.pairing.Numbered.{Numbered}
-use Rattle.area_graph.specs.NumberedArcs.{arc_cmp}
-use Rattle.area_graph.specs.Pairing.{with_pair}
+use Rattle.area_graph.specs.steps.NumberedArcs.{arc_cmp}
+use Rattle.area_graph.specs.steps.Pairing.{with_pair}
 use Rattle.area_graph.proofs.Apart.{arc_ties_alone, arc_total}
 use Rattle.area_graph.proofs.pairing.sort_by_arc.Goals as goal
 

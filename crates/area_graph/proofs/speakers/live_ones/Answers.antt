@@ -4,7 +4,7 @@ use Rattle.std.specs.List.{AllZip}
 use Rattle.std.proofs.lemmas.List.{take_all}
 use Rattle.ospf_lsa.specs.declared.lsa.Lsa.{Lsa}
 use Rattle.area_graph.specs.Nodes.{live}
-use Rattle.area_graph.specs.Speaking.{IsSpeakerOf}
+use Rattle.area_graph.specs.steps.Speaking.{IsSpeakerOf}
 use Rattle.area_graph.specs.declared.speaker.Speaker.{Speaker}
 use Rattle.area_graph.proofs.LiveOnes.{live_more, live_same}
 use Rattle.area_graph.proofs.speakers.live_ones.Goals.{then-is_live, else-is_live}

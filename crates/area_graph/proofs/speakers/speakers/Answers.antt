@@ -10,7 +10,7 @@ use Rattle.mrt_graph.specs.NodeOrder.{node_id_cmp}
 use Rattle.mrt_graph.proofs.InOrder.{before_ranks}
 use Rattle.mrt_graph.proofs.NodeIds.{node_id_total}
 use Rattle.area_graph.specs.Nodes.{speakers}
-use Rattle.area_graph.specs.Speaking.{IsSpeakerOf}
+use Rattle.area_graph.specs.steps.Speaking.{IsSpeakerOf}
 use Rattle.area_graph.specs.declared.speaker.Speaker.{Speaker}
 use Rattle.area_graph.proofs.Foremost.{greatest_first_total}
 use Rattle.area_graph.proofs.OneOfEachNode.{by_id, speaker_cmp, found, found_speak, ids_ascend}

@@ -1,5 +1,5 @@
 use Rattle.std.proofs.Common.{length, ◌-◌, ◌≤◌}
-use Rattle.area_graph.specs.Starts.{below}
+use Rattle.area_graph.specs.steps.Starts.{below}
 use Rattle.area_graph.proofs.starts.first_from.Given as goal
 
 abbrev pub invariant-loop-at : goal.invariant-loop-at

@@ -1,5 +1,5 @@
 use Rattle.std.proofs.Common.{◌≡◌, ◌+◌, ◌++◌, ◌∙◌, ◌∷◌, [], ℕ, suc, List, ap, arith}
-use Rattle.area_graph.specs.Starts.{below, starts_to}
+use Rattle.area_graph.specs.steps.Starts.{below, starts_to}
 use Rattle.area_graph.proofs.Slices.{are_starts, fewer_below}
 use Rattle.area_graph.proofs.starts.starts.Goals as goal
 

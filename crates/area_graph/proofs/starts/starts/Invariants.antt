@@ -1,5 +1,5 @@
 use Rattle.std.proofs.Common.{◌≡◌, ◌≤◌, ◌+◌, vec_len, vec_capacity}
-use Rattle.area_graph.specs.Starts.{below, starts_to}
+use Rattle.area_graph.specs.steps.Starts.{below, starts_to}
 use Rattle.area_graph.proofs.starts.starts.Given as goal
 
 abbrev pub invariant-loop-s : goal.invariant-loop-s

@@ -1,4 +1,4 @@
-use Rattle.cert_checker.specs.Told.{tells}
+use Rattle.cert_checker.specs.steps.Told.{tells}
 use Rattle.mrt_graph.specs.CertWords.{block_of, head_of}
 use Rattle.mrt_graph.specs.Places.{Each}
 use Rattle.cert_checker.proofs.heads.each_has_told_head.Given as goal

@@ -1,6 +1,6 @@
 use Rattle.std.proofs.Common.{◌≡◌, ◌∙◌, ℕ, true, sym, length, Option, Some, None}
 use Rattle.std.specs.Option.{MatchOption}
-use Rattle.cert_checker.specs.Found.{FoundFirst}
+use Rattle.cert_checker.specs.steps.Found.{FoundFirst}
 use Rattle.mrt_graph.specs.Certificate.{Certificate}
 use Rattle.mrt_graph.specs.HeadsAndBlocks.{Alone, Beside, HeadFails, HeadHoldsAt, one_head, placed}
 use Rattle.cert_checker.proofs.heads.head_fault_at.Goals as goal

@@ -1,5 +1,5 @@
 use Rattle.std.proofs.Common.{Some}
-use Rattle.cert_checker.specs.Told.{tells}
+use Rattle.cert_checker.specs.steps.Told.{tells}
 use Rattle.mrt_graph.specs.CertWords.{order_of}
 use Rattle.mrt_graph.specs.Places.{Each}
 use Rattle.cert_checker.proofs.orders.each_is_last.Given as goal

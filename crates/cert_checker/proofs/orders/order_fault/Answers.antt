@@ -1,7 +1,7 @@
 use Rattle.std.proofs.Common.{◌≡◌, ◌∙◌, sym, ℕ, true, length, Option, Some, None}
 use Rattle.std.specs.Option.{MatchOption}
 use Rattle.cert_checker.specs.declared.fault_at.FaultAt.{FaultAt}
-use Rattle.cert_checker.specs.Found.{FoundPair}
+use Rattle.cert_checker.specs.steps.Found.{FoundPair}
 use Rattle.mrt_graph.specs.declared.cert.CertFile.{CertFile}
 use Rattle.mrt_graph.specs.RootAndOrders.{RootAndOrders, OrderFault, AtRoot, EqualOrders, root_stands, orders_differ}
 use Rattle.mrt_graph.specs.Topology.{Topology}

@@ -1,4 +1,4 @@
-use Rattle.cert_checker.specs.RowFaults.{Before, KeptRows}
+use Rattle.cert_checker.specs.steps.RowFaults.{Before, KeptRows}
 use Rattle.cert_checker.proofs.rows.first_row_fault.Given as goal
 
 abbrev pub invariant-loop-s : goal.invariant-loop-s

@@ -1,7 +1,7 @@
 use Rattle.std.proofs.Common.{◌≡◌, ◌<◌, ◌∙◌, ◌++◌, [], ℕ, List, get_or, length, sym, ap, subst, arith}
 use Rattle.std.specs.Option.{option_to_list}
 use Rattle.std.specs.Prelude.{Contains}
-use Rattle.cert_checker.specs.RowFaults.{AndSome, KeptRows, row_test}
+use Rattle.cert_checker.specs.steps.RowFaults.{AndSome, KeptRows, row_test}
 use Rattle.mrt_graph.specs.Groups.{has_key, with_key}
 use Rattle.mrt_graph.specs.Kin.{Kin}
 use Rattle.mrt_graph.proofs.Grouping.{passing_low}

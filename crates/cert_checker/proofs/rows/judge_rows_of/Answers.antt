@@ -1,7 +1,7 @@
 use Rattle.std.proofs.Common.{◌≡◌, ◌+◌, ◌∙◌, [], ℕ, Some, inl, length, ap, arith}
 use Rattle.std.specs.List.{range_with_len}
 use Rattle.std.specs.Prelude.{Contains}
-use Rattle.cert_checker.specs.RowFaults.{row_test}
+use Rattle.cert_checker.specs.steps.RowFaults.{row_test}
 use Rattle.mrt_graph.proofs.ListPlaces.{contains_at}
 use Rattle.mrt_graph.proofs.Pairs.{range_at}
 use Rattle.cert_checker.proofs.RelatedRows.{ends, none_listed, starts}

@@ -2,7 +2,7 @@ use Rattle.std.proofs.Common.{◌<◌, ◌++◌, ℕ, List, length, subst, arith
 use Rattle.std.proofs.lemmas.List.{take_all}
 use Rattle.std.specs.Option.{option_map}
 use Rattle.std.specs.Prelude.{Contains}
-use Rattle.cert_checker.specs.RowFaults.{AndSome, KeptRows, row_test, targets_of}
+use Rattle.cert_checker.specs.steps.RowFaults.{AndSome, KeptRows, row_test, targets_of}
 use Rattle.cert_checker.proofs.RelatedRows.{listed_more}
 use Rattle.cert_checker.proofs.rows.judge_some.Goals as goal
 

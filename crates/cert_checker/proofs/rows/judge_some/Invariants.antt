@@ -1,8 +1,8 @@
 use Rattle.std.proofs.Common.{◌++◌, ℕ, List, take}
 use Rattle.std.specs.Option.{option_map}
 use Rattle.std.specs.Prelude.{Contains}
-use Rattle.cert_checker.specs.KnownNode.{AreHops}
-use Rattle.cert_checker.specs.RowFaults.{AndSome, KeptRows, targets_of}
+use Rattle.cert_checker.specs.steps.KnownNode.{AreHops}
+use Rattle.cert_checker.specs.steps.RowFaults.{AndSome, KeptRows, targets_of}
 use Rattle.cert_checker.proofs.rows.judge_some.Given as goal
 
 abbrev pub invariant-loop-k : goal.invariant-loop-k

@@ -2,7 +2,7 @@ use Rattle.std.proofs.Common.{◌++◌, ℕ, List, Option, sym, subst}
 use Rattle.std.specs.Option.{option_to_list}
 use Rattle.std.specs.Prelude.{Contains}
 use Rattle.std.proofs.lemmas.List.{append-nil}
-use Rattle.cert_checker.specs.RowFaults.{AndSome, KeptRows}
+use Rattle.cert_checker.specs.steps.RowFaults.{AndSome, KeptRows}
 use Rattle.cert_checker.proofs.rows.judge_upper.Goals as goal
 
 pub returns-in-None : goal.returns-in-None

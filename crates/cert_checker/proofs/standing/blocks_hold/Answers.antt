@@ -1,5 +1,5 @@
 use Rattle.std.proofs.Common.{◌≡◌, ◌≢◌, ℕ, length, below_more, arith}
-use Rattle.cert_checker.specs.Standing.{NodeFits}
+use Rattle.cert_checker.specs.steps.Standing.{NodeFits}
 use Rattle.cert_checker.proofs.ByStanding.{blocks}
 use Rattle.cert_checker.proofs.standing.blocks_hold.Goals as goal
 

@@ -1,5 +1,5 @@
 use Rattle.std.proofs.Common.{◌≢◌, ◌<◌, ℕ}
-use Rattle.cert_checker.specs.Standing.{NodeFits, link_fits}
+use Rattle.cert_checker.specs.steps.Standing.{NodeFits, link_fits}
 use Rattle.mrt_graph.specs.Places.{Each}
 use Rattle.cert_checker.proofs.standing.blocks_hold.Given as goal
 

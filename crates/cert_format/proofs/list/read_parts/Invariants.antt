@@ -1,5 +1,5 @@
 use Rattle.std.specs.Prelude.{◌≡◌, ◌≤◌, ◌+◌, ◌-◌, ◌*◌, ◌/◌, length, min, vec_len, vec_capacity}
-use Rattle.cert_format.specs.Reading.{TookMore}
+use Rattle.cert_format.specs.steps.Reading.{TookMore}
 use Rattle.cert_format.proofs.list.read_parts.Given as goal
 
 abbrev pub invariant-loop : goal.invariant-loop

@@ -1,6 +1,6 @@
 use Rattle.std.proofs.Common.{◌∙◌, Some, None, refl, sym}
 use Rattle.std.proofs.lemmas.Bool.{both_ways}
-use Rattle.fabric.specs.Viewed.{viewed}
+use Rattle.fabric.specs.steps.Viewed.{viewed}
 use Rattle.fabric.proofs.SomeHop.{some_repair}
 use Rattle.fabric.proofs.handling.handled.Goals as goal
 

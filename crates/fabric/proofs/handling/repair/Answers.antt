@@ -1,7 +1,7 @@
 use Rattle.std.proofs.Common.{◌∙◌, inl, inr, sym}
 use Rattle.fabric.specs.FabricParts.{FabricParts}
 use Rattle.fabric.specs.Handling.{IsInside, IsOutside}
-use Rattle.fabric.specs.Viewed.{viewed}
+use Rattle.fabric.specs.steps.Viewed.{viewed}
 use Rattle.fabric.proofs.Islands.{node_within}
 use Rattle.fabric.proofs.AcceptedRows.{sound_for}
 use Rattle.fabric.proofs.handling.repair.Goals as goal

@@ -2,7 +2,7 @@ use Rattle.std.proofs.Common.{◌∙◌, ℕ, Some, sym, ap}
 use Rattle.std.proofs.lemmas.Bool.{both_ways}
 use Rattle.fabric.specs.FabricParts.{FabricParts}
 use Rattle.fabric.specs.PacketHop.{OverNetwork, Straight}
-use Rattle.fabric.specs.Viewed.{viewed}
+use Rattle.fabric.specs.steps.Viewed.{viewed}
 use Rattle.fabric.proofs.Islands.{node_within, one_spot, spot_within}
 use Rattle.fabric.proofs.AcceptedRows.{hop_for}
 use Rattle.fabric.proofs.hops.color_hop.Goals as goal

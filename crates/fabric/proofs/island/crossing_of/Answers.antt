@@ -1,4 +1,4 @@
-use Rattle.fabric.specs.Viewed.{viewed}
+use Rattle.fabric.specs.steps.Viewed.{viewed}
 use Rattle.fabric.proofs.Routed.{routed_spot}
 use Rattle.fabric.proofs.island.crossing_of.Goals as goal
 

@@ -3,7 +3,7 @@ use Rattle.std.proofs.lemmas.Bool.{true≢false}
 use Rattle.area_graph.specs.Parts.{AreaParts}
 use Rattle.fabric.specs.declared.event.Event.TheVariants.{Step}
 use Rattle.fabric.specs.Viewed.{FabricTables, parts_of}
-use Rattle.fabric_runs.specs.Told.{IsTold}
+use Rattle.fabric_runs.specs.steps.Told.{IsTold}
 use Rattle.fabric_runs.proofs.StepsTold.{ended_at_last, no_steps, one_more, stepped}
 use Rattle.fabric_runs.proofs.stepping.tell_steps.Goals as goal
 

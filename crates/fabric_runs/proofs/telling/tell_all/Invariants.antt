@@ -1,7 +1,7 @@
 use Rattle.std.proofs.Common.{◌≡◌, map, take}
 use Rattle.fabric.specs.Viewed.{parts_of}
 use Rattle.fabric_runs.specs.NamedEvents.{event_of}
-use Rattle.fabric_runs.specs.Told.{IsTold}
+use Rattle.fabric_runs.specs.steps.Told.{IsTold}
 use Rattle.fabric_runs.proofs.telling.tell_all.Given as goal
 
 abbrev pub invariant-loop-event : goal.invariant-loop-event

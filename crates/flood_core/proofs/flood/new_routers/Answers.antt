@@ -1,7 +1,7 @@
 use Rattle.std.proofs.Common.{◌≡◌, ◌∙◌, ℕ, List, map, replicate, sym, ap, subst, arith}
 use Rattle.std.specs.List.{AllByRecursion}
 use Rattle.flood_core.specs.declared.receiver.Receiver.{Receiver}
-use Rattle.flood_core.specs.Numbers.{router_in, IsStored}
+use Rattle.flood_core.specs.steps.Numbers.{router_in, IsStored}
 use Rattle.flood_core.specs.Receiving.{new_router}
 use Rattle.flood_core.proofs.NumberedDelivery.{one_more_router, one_more_stored}
 use Rattle.flood_core.proofs.flood.new_routers.Goals as goal

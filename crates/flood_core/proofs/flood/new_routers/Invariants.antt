@@ -1,7 +1,7 @@
 use Rattle.std.proofs.Common.{◌≡◌, List, map, replicate}
 use Rattle.std.specs.List.{AllByRecursion}
 use Rattle.ospf_lsa.specs.declared.lsa.Lsa.{Lsa}
-use Rattle.flood_core.specs.Numbers.{router_in, IsStored}
+use Rattle.flood_core.specs.steps.Numbers.{router_in, IsStored}
 use Rattle.flood_core.specs.Receiving.{new_router}
 use Rattle.flood_core.proofs.flood.new_routers.Given as goal
 

@@ -1,7 +1,7 @@
 use Rattle.std.proofs.Common.{◌∙◌, ℕ, sym, ap}
 use Rattle.ospf_lsa.specs.declared.lsa.Lsa.{Lsa}
 use Rattle.lsdb.specs.Installing.{change_of}
-use Rattle.flood_core.specs.Numbers.{lsa_in}
+use Rattle.flood_core.specs.steps.Numbers.{lsa_in}
 use Rattle.flood_core.proofs.Numbered.{lsa_read, own_change}
 use Rattle.flood_core.proofs.held.change_to.Goals as goal
 

@@ -4,7 +4,7 @@ use Rattle.std.proofs.lemmas.Bool.{true≢false}
 use Rattle.lsdb.specs.Orders.{without_place}
 use Rattle.ospf_lsa.specs.declared.lsa.Lsa.{Lsa}
 use Rattle.flood_core.specs.declared.held.Held.{Held}
-use Rattle.flood_core.specs.Numbers.{lsa_in}
+use Rattle.flood_core.specs.steps.Numbers.{lsa_in}
 use Rattle.flood_core.proofs.Numbered.{all_at, lsa_read}
 use Rattle.flood_core.proofs.SameLsas.{one_differs, same_all, same_more}
 use Rattle.flood_core.proofs.same.hold_the_same.Goals as goal

@@ -7,7 +7,7 @@ use Rattle.flood_script.specs.declared.error.FloodScriptError.{FloodScriptError}
 use Rattle.flood_script.specs.declared.script.FloodScript.{FloodScript}
 use Rattle.flood_script.specs.Deliveries.{deliveries_in}
 use Rattle.flood_script.specs.FloodScripts.{IsAmong, IsScript}
-use Rattle.flood_script.specs.Taking.{error_of, wrong}
+use Rattle.flood_script.specs.steps.Taking.{error_of, wrong}
 use Rattle.flood_script.proofs.LinesSay.{script_means}
 use Rattle.flood_script.proofs.RoutersCounted.{counted}
 use Rattle.flood_script.proofs.reading.read_flood_script.Goals as goal

@@ -1,5 +1,5 @@
 use Rattle.std.proofs.Common.{◌∙◌, ℕ, refl, subst, arith}
-use Rattle.gadag_ears.specs.Blocks.{AreBlocksGiven, IsBlockGiven}
+use Rattle.gadag_ears.specs.steps.Blocks.{AreBlocksGiven, IsBlockGiven}
 use Rattle.gadag_ears.proofs.LinkBlocks.{block_more}
 use Rattle.gadag_ears.proofs.blocks.give_blocks.Goals as goal
 

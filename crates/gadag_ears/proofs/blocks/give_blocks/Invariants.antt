@@ -1,4 +1,4 @@
-use Rattle.gadag_ears.specs.Blocks.{AreBlocksGiven}
+use Rattle.gadag_ears.specs.steps.Blocks.{AreBlocksGiven}
 use Rattle.gadag_ears.proofs.blocks.give_blocks.Given as goal
 
 abbrev pub invariant-loop-e : goal.invariant-loop-e

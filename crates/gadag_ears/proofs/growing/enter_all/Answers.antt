@@ -1,7 +1,7 @@
 use Rattle.std.proofs.Common.{◌≡◌, ◌≤◌, ◌-◌, ◌++◌, ◌∙◌, ℕ, Bool, true, List, [], ◌∷◌, append-nil, drop, get_or, length, length-append, length-drop, reverse, set, refl, sym, ap, subst, arith}
 use Rattle.std.proofs.lemmas.List.{drop_all, length-reverse}
 use Rattle.mrt_graph.specs.declared.gadag.Place.{Place}
-use Rattle.gadag_ears.specs.Growing.{AreEntered, HasEntered}
+use Rattle.gadag_ears.specs.steps.Growing.{AreEntered, HasEntered}
 use Rattle.gadag_ears.proofs.Entering.{drop_from, member_before, none_entered, one_more_entered, one_more_waits}
 use Rattle.gadag_ears.proofs.growing.enter_all.Goals as goal
 

@@ -1,5 +1,5 @@
 use Rattle.std.proofs.Common.{drop}
-use Rattle.gadag_ears.specs.Growing.{HasEntered}
+use Rattle.gadag_ears.specs.steps.Growing.{HasEntered}
 use Rattle.gadag_ears.proofs.growing.enter_all.Given as goal
 
 abbrev pub invariant-entry : goal.invariant-entry

@@ -6,9 +6,10 @@ use Rattle.mrt_graph.specs.Topology.{Topology}
 use Rattle.mrt_graph.proofs.Members.{contains_first}
 use Rattle.gadag_ears.specs.declared.growing.Growing.{Growing}
 use Rattle.gadag_ears.specs.declared.kind.EarKind.{EarKind}
-use Rattle.gadag_ears.specs.Growing.{AreListed, IsLeaving, IsPlaceOfEar, IsEarTurn, IsEarWay, StartsEar}
-use Rattle.gadag_ears.specs.Ear.{Ear, ear_of}
-use Rattle.gadag_ears.specs.Marking.{AreEarMarked, IsMarkable}
+use Rattle.gadag_ears.specs.steps.Growing.{AreListed, IsLeaving, IsPlaceOfEar, IsEarTurn, IsEarWay, StartsEar}
+use Rattle.gadag_ears.specs.Ear.{Ear}
+use Rattle.gadag_ears.specs.steps.Ear.{ear_of}
+use Rattle.gadag_ears.specs.steps.Marking.{AreEarMarked, IsMarkable}
 use Rattle.mrt_graph.specs.declared.gadag.Mark.{Mark}
 use Rattle.gadag_ears.proofs.CutLists.{put_in}
 use Rattle.gadag_ears.proofs.EarBrought.{IsFoundEar, ear_of_way, leaving_of, markable_ear, room_for_new, turn_grown, turn_kept}

@@ -1,5 +1,5 @@
 use Rattle.std.proofs.Common.{◌∙◌, ℕ, List, subst, take_all}
-use Rattle.gadag_ears.specs.Marking.{AreSetAlong}
+use Rattle.gadag_ears.specs.steps.Marking.{AreSetAlong}
 use Rattle.gadag_ears.proofs.EarMarked.{set_out}
 use Rattle.gadag_ears.proofs.MarkedAlong.{along_more, in_at, link_there, over_some, over_there}
 use Rattle.gadag_ears.proofs.marking.mark_way.Goals as goal

@@ -1,5 +1,5 @@
 use Rattle.std.proofs.Common.{take}
-use Rattle.gadag_ears.specs.Marking.{AreSetAlong}
+use Rattle.gadag_ears.specs.steps.Marking.{AreSetAlong}
 use Rattle.gadag_ears.proofs.marking.mark_way.Given as goal
 
 abbrev pub invariant-loop-k : goal.invariant-loop-k

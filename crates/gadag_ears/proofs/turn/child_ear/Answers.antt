@@ -1,5 +1,5 @@
 use Rattle.std.proofs.Common.{◌∙◌, Bool, List, length, sym, ap, subst}
-use Rattle.gadag_ears.specs.Growing.{IsMarked}
+use Rattle.gadag_ears.specs.steps.Growing.{IsMarked}
 use Rattle.gadag_ears.proofs.EndsPassed.{child_starts, end_within}
 use Rattle.gadag_ears.proofs.turn.child_ear.Goals as goal
 

@@ -1,7 +1,7 @@
 use Rattle.std.proofs.Common.{◌≡◌, Some, length, refl, arith}
 use Rattle.std.proofs.lemmas.Option.{slice_get_read}
 use Rattle.lowpoint_dfs.specs.Subtree.{parent_of}
-use Rattle.gadag_ears.specs.Growing.{IsMarked}
+use Rattle.gadag_ears.specs.steps.Growing.{IsMarked}
 use Rattle.gadag_ears.proofs.EndsPassed.{at_end, children_marked, here_within, one_more_passed, turn_begun, turn_still}
 use Rattle.gadag_ears.proofs.turn.child_ears.Goals as goal
 

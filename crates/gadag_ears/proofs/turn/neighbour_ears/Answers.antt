@@ -1,6 +1,6 @@
 use Rattle.std.proofs.Common.{length, refl, arith}
 use Rattle.std.proofs.lemmas.Option.{slice_get_read, slice_get_within}
-use Rattle.gadag_ears.specs.Growing.{IsMarked}
+use Rattle.gadag_ears.specs.steps.Growing.{IsMarked}
 use Rattle.gadag_ears.proofs.EndsPassed.{at_end, here_within, one_more_passed, turn_begun, turn_still}
 use Rattle.gadag_ears.proofs.turn.neighbour_ears.Goals as goal
 

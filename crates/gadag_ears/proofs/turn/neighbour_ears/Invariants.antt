@@ -1,6 +1,6 @@
 use Rattle.std.proofs.Common.{◌≡◌, ℕ, Some}
 use Rattle.lowpoint_dfs.specs.Subtree.{parent_of}
-use Rattle.gadag_ears.specs.Growing.{IsMarked}
+use Rattle.gadag_ears.specs.steps.Growing.{IsMarked}
 use Rattle.gadag_ears.proofs.EndsPassed.{ArePassed, IsInTurn}
 use Rattle.gadag_ears.proofs.turn.neighbour_ears.Given as goal
 

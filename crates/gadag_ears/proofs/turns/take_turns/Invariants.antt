@@ -1,5 +1,5 @@
 use Rattle.std.proofs.Common.{◌-◌, length}
-use Rattle.gadag_ears.specs.Growing.{HasRoom, IsEarTurn}
+use Rattle.gadag_ears.specs.steps.Growing.{HasRoom, IsEarTurn}
 use Rattle.gadag_ears.proofs.turns.take_turns.Given as goal
 
 abbrev pub invariant-loop-next : goal.invariant-loop-next

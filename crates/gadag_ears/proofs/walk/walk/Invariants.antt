@@ -1,6 +1,6 @@
 use Rattle.std.proofs.Common.{◌≡◌, ◌++◌, ℕ, List, ◌∷◌, length, vec_capacity}
 use Rattle.gadag_ears.specs.Ear.{GoesOn}
-use Rattle.gadag_ears.specs.Growing.{AreListed, IsEarWay}
+use Rattle.gadag_ears.specs.steps.Growing.{AreListed, IsEarWay}
 use Rattle.gadag_ears.proofs.EarWalk.{IsWalking, rank}
 use Rattle.gadag_ears.proofs.walk.walk.Given as goal
 

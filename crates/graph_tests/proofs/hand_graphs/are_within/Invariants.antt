@@ -1,6 +1,6 @@
 use Rattle.std.proofs.Common.{◌<◌, ℕ, slice_index_or}
 use Rattle.mrt_graph.specs.declared.link.LinkIn.{LinkIn}
-use Rattle.mrt_graph.specs.EndRows.{IsWithin}
+use Rattle.mrt_graph.specs.steps.EndRows.{IsWithin}
 use Rattle.graph_tests.proofs.hand_graphs.are_within.Given as goal
 
 abbrev pub invariant-loop-link : goal.invariant-loop-link

@@ -4,8 +4,8 @@ use Rattle.std.specs.Prelude.{replicate}
 use Rattle.std.proofs.lemmas.List.{get_or-replicate, get_or_past, length-replicate}
 use Rattle.std.proofs.lemmas.Option.{slice_get_within}
 use Rattle.mrt_graph.proofs.ListPlaces.{set_elsewhere, set_there}
-use Rattle.inc_dec_spf.specs.Known.{AreLanes, OfAny, known_at, no_place, nothing}
-use Rattle.inc_dec_spf.specs.Offers.{IsFirstOffer}
+use Rattle.inc_dec_spf.specs.steps.Known.{AreLanes, OfAny, known_at, no_place, nothing}
+use Rattle.inc_dec_spf.specs.steps.Offers.{IsFirstOffer}
 use Rattle.inc_dec_spf.specs.Rest.{far}
 use Rattle.link_direction.proofs.TwoNodes.{place_says}
 use Rattle.inc_dec_spf.proofs.Offering.{none_yet, offered_all, offered_more}

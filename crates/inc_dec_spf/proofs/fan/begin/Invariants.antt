@@ -1,9 +1,9 @@
 use Rattle.std.proofs.Common.{◌+◌, ℕ}
 use Rattle.link_direction.specs.Directions.{Directions}
 use Rattle.inc_dec_spf.specs.HasDirections.{AreDirections}
-use Rattle.inc_dec_spf.specs.Known.{AreLanes, AreOffered, OfAny, known_at}
-use Rattle.inc_dec_spf.specs.Offers.{IsFirstOffer}
-use Rattle.inc_dec_spf.specs.Opening.{AreStops}
+use Rattle.inc_dec_spf.specs.steps.Known.{AreLanes, AreOffered, OfAny, known_at}
+use Rattle.inc_dec_spf.specs.steps.Offers.{IsFirstOffer}
+use Rattle.inc_dec_spf.specs.steps.Opening.{AreStops}
 use Rattle.inc_dec_spf.proofs.Offering.{OfFirst}
 use Rattle.inc_dec_spf.proofs.fan.begin.Given as goal
 

@@ -3,8 +3,8 @@ use Rattle.std.proofs.lemmas.Bool.{cases_eq, cases_lt}
 use Rattle.std.proofs.lemmas.List.{get_or-set_other, get_or-set_same}
 use Rattle.std.proofs.lemmas.Option.{same_Some, slice_get-get_or}
 use Rattle.inc_dec_spf.specs.declared.fan.Opening.{Opening}
-use Rattle.inc_dec_spf.specs.Known.{AreLanes, Known, known_at, no_place, nothing}
-use Rattle.inc_dec_spf.specs.Opening.{AreStops, Ends, GoOn, Goes, IsKeptOnward, Stop}
+use Rattle.inc_dec_spf.specs.steps.Known.{AreLanes, Known, known_at, no_place, nothing}
+use Rattle.inc_dec_spf.specs.steps.Opening.{AreStops, Ends, GoOn, Goes, IsKeptOnward, Stop}
 use Rattle.inc_dec_spf.specs.Rest.{far}
 use Rattle.inc_dec_spf.proofs.fan.keep_onward.Goals as goal
 use Rattle.inc_dec_spf.proofs.fan.keep_onward.Goals.{then-is_stop, else-is_stop}

@@ -1,6 +1,6 @@
 use Rattle.std.proofs.Common.{◌≡◌, ◌<◌, ◌≤◌, ℕ, length}
-use Rattle.inc_dec_spf.specs.Known.{AreLanes, known_at}
-use Rattle.inc_dec_spf.specs.Opening.{IsKeptOnward}
+use Rattle.inc_dec_spf.specs.steps.Known.{AreLanes, known_at}
+use Rattle.inc_dec_spf.specs.steps.Opening.{IsKeptOnward}
 use Rattle.inc_dec_spf.proofs.fan.keep_onward.Given as goal
 
 abbrev pub invariant-loop-j : goal.invariant-loop-j

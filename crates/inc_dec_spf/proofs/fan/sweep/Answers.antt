@@ -2,8 +2,8 @@ use Rattle.std.proofs.Common.{◌≡◌, ◌<◌, ◌≤◌, ◌+◌, ◌*◌, �
 use Rattle.std.proofs.lemmas.Bool.{cases_lt}
 use Rattle.std.proofs.lemmas.List.{get_or_past}
 use Rattle.inc_dec_spf.specs.declared.fan.Opening.{Opening}
-use Rattle.inc_dec_spf.specs.Known.{Known, known_at}
-use Rattle.inc_dec_spf.specs.Opening.{IsKeptOnward, IsOpening}
+use Rattle.inc_dec_spf.specs.steps.Known.{Known, known_at}
+use Rattle.inc_dec_spf.specs.steps.Opening.{IsKeptOnward, IsOpening}
 use Rattle.inc_dec_spf.specs.Rest.{far}
 use Rattle.inc_dec_spf.proofs.ByTurn.{turn_node}
 use Rattle.inc_dec_spf.proofs.LanesSwept.{lane, lane_begun, lane_idle, lane_low, lane_turned, place_reached}

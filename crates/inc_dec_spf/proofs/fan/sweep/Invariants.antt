@@ -1,7 +1,7 @@
 use Rattle.std.proofs.Common.{◌<◌, ◌+◌, ℕ, length}
 use Rattle.link_direction.specs.Directions.{Directions}
 use Rattle.inc_dec_spf.specs.HasDirections.{AreDirections}
-use Rattle.inc_dec_spf.specs.Known.{AreLanes, known_at}
+use Rattle.inc_dec_spf.specs.steps.Known.{AreLanes, known_at}
 use Rattle.inc_dec_spf.proofs.LanesSwept.{lane}
 use Rattle.inc_dec_spf.proofs.PathsSwept.{IsSwept}
 use Rattle.inc_dec_spf.proofs.fan.sweep.Given as goal

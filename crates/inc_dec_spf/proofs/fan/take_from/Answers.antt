@@ -2,7 +2,7 @@ use Rattle.std.proofs.Common.{◌≡◌, ◌<◌, ◌≤◌, ◌+◌, ◌*◌, �
 use Rattle.std.specs.List.{slice_range}
 use Rattle.std.proofs.lemmas.Bool.{cases_lt}
 use Rattle.std.proofs.lemmas.List.{get_or_past}
-use Rattle.inc_dec_spf.specs.Known.{AreLanes, known_at}
+use Rattle.inc_dec_spf.specs.steps.Known.{AreLanes, known_at}
 use Rattle.inc_dec_spf.proofs.SideBySide.{range_index, range_length}
 use Rattle.inc_dec_spf.proofs.fan.take_from.Goals as goal
 

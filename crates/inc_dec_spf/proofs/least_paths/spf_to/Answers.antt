@@ -19,7 +19,7 @@ use Rattle.inc_dec_spf.specs.HasDirections.{AreDirections, HasDirections}
 use Rattle.inc_dec_spf.specs.LeastPath.{IsHop}
 use Rattle.inc_dec_spf.specs.Rest.{far}
 use Rattle.inc_dec_spf.specs.Turns.{AreTurns}
-use Rattle.inc_dec_spf.specs.Ways.{AreLeast, AreReady, sought}
+use Rattle.inc_dec_spf.specs.steps.Ways.{AreLeast, AreReady, sought}
 use Rattle.link_direction.proofs.ClosedBlocks.{IsOrdered}
 use Rattle.inc_dec_spf.proofs.AllMarked.{all_marked}
 use Rattle.inc_dec_spf.proofs.OwnWays.{all_ready}

@@ -1,7 +1,7 @@
 use Rattle.std.proofs.Common.{◌≡◌, ◌+◌, ◌*◌, ◌∙◌, ℕ, length, inl, inr, refl, sym, ap, arith}
 use Rattle.std.proofs.lemmas.Option.{slice_get_read}
-use Rattle.inc_dec_spf.specs.Known.{IsOne, known, known_at}
-use Rattle.inc_dec_spf.specs.Offers.{IsFirstOffer}
+use Rattle.inc_dec_spf.specs.steps.Known.{IsOne, known, known_at}
+use Rattle.inc_dec_spf.specs.steps.Offers.{IsFirstOffer}
 use Rattle.inc_dec_spf.proofs.EndRead.{end_is}
 use Rattle.inc_dec_spf.proofs.EndsOffer.{first_back, first_is, first_not}
 use Rattle.inc_dec_spf.proofs.InBlocks.{step_early}

@@ -1,8 +1,8 @@
 use Rattle.std.proofs.Common.{◌≡◌, ◌*◌, ◌∙◌, ℕ, length, inl, inr, refl, sym, ap, arith}
 use Rattle.std.proofs.lemmas.Bool.{eqb-false, eqb-true}
 use Rattle.std.proofs.lemmas.Option.{slice_get_read}
-use Rattle.inc_dec_spf.specs.Known.{IsOver, known_at}
-use Rattle.inc_dec_spf.specs.Offers.{IsFurtherOffer}
+use Rattle.inc_dec_spf.specs.steps.Known.{IsOver, known_at}
+use Rattle.inc_dec_spf.specs.steps.Offers.{IsFurtherOffer}
 use Rattle.inc_dec_spf.proofs.EndRead.{end_is}
 use Rattle.inc_dec_spf.proofs.EndsOffer.{further_back, further_is, further_not}
 use Rattle.link_direction.proofs.TwoNodes.{place_says}

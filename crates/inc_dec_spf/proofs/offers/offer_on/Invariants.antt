@@ -1,8 +1,8 @@
 use Rattle.std.proofs.Common.{ℕ}
 use Rattle.link_direction.specs.Directions.{Directions}
 use Rattle.inc_dec_spf.specs.HasDirections.{AreDirections}
-use Rattle.inc_dec_spf.specs.Known.{AreLanes, AreOffered, known_at}
-use Rattle.inc_dec_spf.specs.Offers.{IsFurtherOffer}
+use Rattle.inc_dec_spf.specs.steps.Known.{AreLanes, AreOffered, known_at}
+use Rattle.inc_dec_spf.specs.steps.Offers.{IsFurtherOffer}
 use Rattle.inc_dec_spf.proofs.Offering.{OfFirst}
 use Rattle.inc_dec_spf.proofs.offers.offer_on.Given as goal
 

@@ -1,6 +1,6 @@
 use Rattle.std.proofs.Common.{◌+◌, get_or, inl, inr, ap, arith}
 use Rattle.std.proofs.lemmas.Bool.{cases_lt}
-use Rattle.inc_dec_spf.specs.Known.{IsOne, Known, known, known_at}
+use Rattle.inc_dec_spf.specs.steps.Known.{IsOne, Known, known, known_at}
 use Rattle.inc_dec_spf.specs.Rest.{far}
 use Rattle.inc_dec_spf.proofs.Offering.{LaneOffer, none_yet, offered_all, offered_more}
 use Rattle.inc_dec_spf.proofs.offers.offer_over.Goals as goal

@@ -1,4 +1,4 @@
-use Rattle.inc_dec_spf.specs.Known.{AreLanes, AreOffered, known_at}
+use Rattle.inc_dec_spf.specs.steps.Known.{AreLanes, AreOffered, known_at}
 use Rattle.inc_dec_spf.proofs.Offering.{LaneOffer, OfFirst}
 use Rattle.inc_dec_spf.proofs.offers.offer_over.Given as goal
 

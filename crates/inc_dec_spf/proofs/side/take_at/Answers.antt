@@ -1,7 +1,7 @@
 use Rattle.std.proofs.Common.{◌∙◌, ◌<◌, ℕ, get_or, length, ap, arith}
 use Rattle.std.proofs.lemmas.Grind.{get_or_default_zero}
 use Rattle.std.proofs.lemmas.List.{get_or-set_other, get_or-set_same}
-use Rattle.inc_dec_spf.specs.Side.{link_of_lesser}
+use Rattle.inc_dec_spf.specs.steps.Side.{link_of_lesser}
 use Rattle.inc_dec_spf.proofs.side.take_at.Goals as goal
 
 pub returns : goal.returns

@@ -1,6 +1,6 @@
 use Rattle.std.proofs.Common.{◌∙◌, slice_index, refl, arith}
 use Rattle.std.proofs.lemmas.Grind.{get_or_default_zero}
-use Rattle.inc_dec_spf.specs.Side.{cost_at}
+use Rattle.inc_dec_spf.specs.steps.Side.{cost_at}
 use Rattle.inc_dec_spf.proofs.SideBySide.{one_taken}
 use Rattle.inc_dec_spf.proofs.side.take_last.Goals as goal
 

@@ -1,5 +1,5 @@
 use Rattle.std.proofs.Common.{slice_index}
-use Rattle.inc_dec_spf.specs.Side.{cost_at}
+use Rattle.inc_dec_spf.specs.steps.Side.{cost_at}
 use Rattle.inc_dec_spf.proofs.SideBySide.{AreTakenTo}
 use Rattle.inc_dec_spf.proofs.side.take_last.Given as goal
 

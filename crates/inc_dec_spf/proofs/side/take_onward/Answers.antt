@@ -1,6 +1,6 @@
 use Rattle.std.proofs.Common.{◌∙◌, slice_index, refl, arith}
 use Rattle.std.proofs.lemmas.Grind.{get_or_default_zero}
-use Rattle.inc_dec_spf.specs.Side.{left_onward}
+use Rattle.inc_dec_spf.specs.steps.Side.{left_onward}
 use Rattle.inc_dec_spf.proofs.SideBySide.{one_taken}
 use Rattle.inc_dec_spf.proofs.side.take_onward.Goals as goal
 

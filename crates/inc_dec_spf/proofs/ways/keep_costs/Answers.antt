@@ -1,7 +1,7 @@
 use Rattle.std.proofs.Common.{◌≡◌, ◌⊎◌, ◌<◌, ◌≤◌, ◌+◌, ◌*◌, ◌==◌, ◌∙◌, ℕ, Bool, List, get_or, length, set, slice_index, if◌then◌else◌, inl, inr, sym, ap, arith}
 use Rattle.std.proofs.lemmas.Bool.{cases_eq}
 use Rattle.std.proofs.lemmas.List.{get_or-set_same, get_or-set_other, get_or_default}
-use Rattle.inc_dec_spf.specs.Side.{cost_from}
+use Rattle.inc_dec_spf.specs.steps.Side.{cost_from}
 use Rattle.inc_dec_spf.proofs.ways.keep_costs.Goals as goal
 
 -- one place more

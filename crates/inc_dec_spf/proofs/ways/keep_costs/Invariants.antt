@@ -1,5 +1,5 @@
 use Rattle.std.proofs.Common.{◌≡◌, ◌⊎◌, ◌<◌, ◌≤◌, ◌+◌, ℕ, slice_index}
-use Rattle.inc_dec_spf.specs.Side.{cost_from}
+use Rattle.inc_dec_spf.specs.steps.Side.{cost_from}
 use Rattle.inc_dec_spf.proofs.ways.keep_costs.Given as goal
 
 abbrev pub invariant-loop-j : goal.invariant-loop-j

@@ -2,7 +2,7 @@ use Rattle.std.proofs.Common.{◌≡◌, ◌≢◌, ◌∙◌, ◌<◌, ◌≤�
 use Rattle.std.specs.List.{slice_range}
 use Rattle.std.proofs.lemmas.Bool.{cases_lt, eq-eqb, eqb-false, eqb-true, ne_eqb}
 use Rattle.std.proofs.lemmas.List.{get_or_past}
-use Rattle.inc_dec_spf.specs.Side.{AreCosts, cost_at}
+use Rattle.inc_dec_spf.specs.steps.Side.{AreCosts, cost_at}
 use Rattle.link_direction.proofs.TwoNodes.{place_says}
 use Rattle.inc_dec_spf.proofs.SideBySide.{range_index, range_length, row_within, taken_by}
 use Rattle.inc_dec_spf.proofs.ways.take_leg.Goals as goal

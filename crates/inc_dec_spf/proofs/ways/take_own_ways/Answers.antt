@@ -7,8 +7,8 @@ use Rattle.inc_dec_spf.specs.declared.aiming.Aiming.{Aiming}
 use Rattle.inc_dec_spf.specs.Against.{against}
 use Rattle.inc_dec_spf.specs.Aiming.{IsAiming}
 use Rattle.inc_dec_spf.specs.BlockAims.{aim_at}
-use Rattle.inc_dec_spf.specs.Side.{IsRowPut, cost_from}
-use Rattle.inc_dec_spf.specs.Ways.{AreLeast, AreReady}
+use Rattle.inc_dec_spf.specs.steps.Side.{IsRowPut, cost_from}
+use Rattle.inc_dec_spf.specs.steps.Ways.{AreLeast, AreReady}
 use Rattle.inc_dec_spf.proofs.ByTurn.{turn_in, turn_node}
 use Rattle.link_direction.proofs.ClosedBlocks.{IsOrdered}
 use Rattle.link_direction.proofs.TwoNodes.{place_says}

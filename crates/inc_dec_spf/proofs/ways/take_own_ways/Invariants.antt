@@ -1,9 +1,9 @@
 use Rattle.std.proofs.Common.{◌<◌, ℕ, length}
 use Rattle.link_direction.specs.Directions.{Directions}
 use Rattle.inc_dec_spf.specs.Against.{against}
-use Rattle.inc_dec_spf.specs.Aiming.{HasOwnWays}
+use Rattle.inc_dec_spf.specs.steps.Aiming.{HasOwnWays}
 use Rattle.inc_dec_spf.specs.HasDirections.{AreDirections}
-use Rattle.inc_dec_spf.specs.Side.{AreCosts}
+use Rattle.inc_dec_spf.specs.steps.Side.{AreCosts}
 use Rattle.inc_dec_spf.specs.Turns.{turn_of}
 use Rattle.inc_dec_spf.proofs.ways.take_own_ways.Given as goal
 

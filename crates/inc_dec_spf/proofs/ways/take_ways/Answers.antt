@@ -8,11 +8,12 @@ use Rattle.mrt_graph.specs.DirectedLists.{DirectedLists}
 use Rattle.mrt_graph.specs.GraphInvariant.{IsTopology}
 use Rattle.mrt_graph.specs.Topology.{Topology}
 use Rattle.mrt_graph.proofs.EndsAt.{end_leads}
-use Rattle.inc_dec_spf.specs.Aiming.{AreRows, IsAiming}
+use Rattle.inc_dec_spf.specs.steps.Aiming.{AreRows}
+use Rattle.inc_dec_spf.specs.Aiming.{IsAiming}
 use Rattle.inc_dec_spf.specs.HasDirections.{HasDirections}
 use Rattle.inc_dec_spf.specs.Rest.{far}
-use Rattle.inc_dec_spf.specs.Side.{AreTaken}
-use Rattle.inc_dec_spf.specs.Ways.{AreLeast, left_at, sought}
+use Rattle.inc_dec_spf.specs.steps.Side.{AreTaken}
+use Rattle.inc_dec_spf.specs.steps.Ways.{AreLeast, left_at, sought}
 use Rattle.link_direction.proofs.ClosedBlocks.{IsOrdered, inside_of_link}
 use Rattle.link_direction.proofs.TwoNodes.{place_says}
 use Rattle.inc_dec_spf.proofs.EndRead.{end_is}

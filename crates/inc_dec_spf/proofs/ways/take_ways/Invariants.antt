@@ -1,8 +1,8 @@
 use Rattle.std.proofs.Common.{ℕ, length}
 use Rattle.link_direction.specs.Directions.{Directions}
 use Rattle.inc_dec_spf.specs.HasDirections.{AreDirections}
-use Rattle.inc_dec_spf.specs.Side.{AreCosts}
-use Rattle.inc_dec_spf.specs.Ways.{AreLeast, AreReady}
+use Rattle.inc_dec_spf.specs.steps.Side.{AreCosts}
+use Rattle.inc_dec_spf.specs.steps.Ways.{AreLeast, AreReady}
 use Rattle.inc_dec_spf.proofs.ways.take_ways.Given as goal
 
 abbrev pub invariant-loop-end : goal.invariant-loop-end

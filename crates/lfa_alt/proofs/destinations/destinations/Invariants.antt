@@ -1,6 +1,6 @@
 use Rattle.std.proofs.Common.{◌≡◌, ◌≤◌, ℕ, Option, Some, length, slice_get, vec_len, vec_capacity}
 use Rattle.lfa_alt.specs.declared.destination.Destination.{Destination}
-use Rattle.lfa_alt.specs.Choosing.{IsDestinationFor}
+use Rattle.lfa_alt.specs.steps.Choosing.{IsDestinationFor}
 use Rattle.lfa_alt.proofs.destinations.destinations.Given as goal
 
 abbrev pub invariant-loop-t : goal.invariant-loop-t

@@ -1,6 +1,6 @@
 use Rattle.std.proofs.Common.{◌≡◌, length}
 use Rattle.primary_alt.specs.DistancesFrom.{AreDistancesFrom}
-use Rattle.lfa_alt.specs.Choosing.{AreBest}
+use Rattle.lfa_alt.specs.steps.Choosing.{AreBest}
 use Rattle.lfa_alt.proofs.offering.best_of.Given as goal
 
 abbrev pub invariant-loop-number : goal.invariant-loop-number

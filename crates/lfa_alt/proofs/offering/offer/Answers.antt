@@ -3,7 +3,7 @@ use Rattle.std.proofs.lemmas.Bool.{cases_lt}
 use Rattle.std.proofs.lemmas.List.{length-set}
 use Rattle.std.proofs.lemmas.Option.{get_or_from_slice_get, slice_get_within}
 use Rattle.mrt_graph.proofs.ListPlaces.{set_elsewhere}
-use Rattle.lfa_alt.specs.Choosing.{Offers}
+use Rattle.lfa_alt.specs.steps.Choosing.{Offers}
 use Rattle.lfa_alt.proofs.Bettering.{better_there}
 use Rattle.lfa_alt.proofs.offering.offer.Goals as goal
 

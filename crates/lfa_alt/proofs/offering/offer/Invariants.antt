@@ -3,7 +3,7 @@ use Rattle.area_graph.specs.Parts.{AreaParts}
 use Rattle.primary_alt.specs.DistancesFrom.{AreDistancesFrom}
 use Rattle.lfa_alt.specs.declared.alternate.FreeCandidate.{FreeCandidate}
 use Rattle.lfa_alt.specs.declared.destination.Destination.{Destination}
-use Rattle.lfa_alt.specs.Choosing.{AreDestinations, IsBetterBy, Offers}
+use Rattle.lfa_alt.specs.steps.Choosing.{AreDestinations, IsBetterBy, Offers}
 use Rattle.lfa_alt.proofs.offering.offer.Given as goal
 
 abbrev pub invariant-loop-t : goal.invariant-loop-t

@@ -2,7 +2,7 @@ use Rattle.std.proofs.Common.{◌≡◌, ◌∙◌, inl, inr, sym}
 use Rattle.std.proofs.lemmas.Bool.{cases_eq}
 use Rattle.std.proofs.lemmas.Option.{get_or_from_slice_get, same_Some}
 use Rattle.mrt_graph.proofs.ListPlaces.{set_elsewhere}
-use Rattle.lfa_alt.specs.Choosing.{Offers}
+use Rattle.lfa_alt.specs.steps.Choosing.{Offers}
 use Rattle.lfa_alt.proofs.Bettering.{better_there, nothing_more}
 use Rattle.lfa_alt.proofs.NetworkWays.{nothing_else}
 use Rattle.lfa_alt.proofs.offering.offer_there.Goals as goal

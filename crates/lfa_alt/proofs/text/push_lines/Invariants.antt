@@ -1,5 +1,5 @@
 use Rattle.std.proofs.Common.{◌≡◌, length}
-use Rattle.text_parts.specs.Adds.{Adds}
+use Rattle.text_parts.specs.steps.Adds.{Adds}
 use Rattle.text_parts.specs.Parts.{AreParts}
 use Rattle.lfa_alt.specs.LfaText.{IsPartOn}
 use Rattle.lfa_alt.proofs.text.push_lines.Given as goal

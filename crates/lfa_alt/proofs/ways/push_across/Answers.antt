@@ -1,6 +1,6 @@
 use Rattle.std.proofs.Common.{◌∙◌, ℕ, Some, length, sym, ap, refl, true≢false}
 use Rattle.std.proofs.lemmas.Option.{slice_get_read}
-use Rattle.lfa_alt.specs.Ways.{way_across}
+use Rattle.lfa_alt.specs.steps.Ways.{way_across}
 use Rattle.lfa_alt.proofs.WaysFound.{across_again, across_all, across_left, across_more, across_none}
 use Rattle.lfa_alt.proofs.ways.push_across.Goals.{then-leads_on+then-not-is_again+in_ok-push, else-leads_on, else-leads_on-via-then-leads_on+else-not-is_again, else-leads_on-via-else-leads_on}
 use Rattle.lfa_alt.proofs.ways.push_across.Goals as goal

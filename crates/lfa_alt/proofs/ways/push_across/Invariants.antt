@@ -1,4 +1,4 @@
-use Rattle.lfa_alt.specs.Ways.{AddsAcross}
+use Rattle.lfa_alt.specs.steps.Ways.{AddsAcross}
 use Rattle.lfa_alt.proofs.ways.push_across.Given as goal
 
 abbrev pub invariant-loop-second : goal.invariant-loop-second

@@ -1,6 +1,6 @@
 use Rattle.std.proofs.Common.{ℕ, get_or, sym, ap, arith}
 use Rattle.std.proofs.lemmas.List.{get_or_read}
-use Rattle.link_direction.specs.Counting.{entered_by, enters}
+use Rattle.link_direction.specs.steps.Counting.{entered_by, enters}
 use Rattle.link_direction.proofs.Counts.{at_most}
 use Rattle.link_direction.proofs.EnteredBy.{enters_within}
 use Rattle.link_direction.proofs.counting.count.Goals as goal

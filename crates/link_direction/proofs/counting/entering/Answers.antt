@@ -1,6 +1,6 @@
 use Rattle.std.proofs.Common.{◌+◌, ◌∙◌, ℕ, List, get_or, length, subst, sym, ap, arith}
 use Rattle.std.proofs.lemmas.List.{get_or-replicate}
-use Rattle.link_direction.specs.Counting.{AreCounts, entered_by}
+use Rattle.link_direction.specs.steps.Counting.{AreCounts, entered_by}
 use Rattle.link_direction.proofs.counting.entering.Goals as goal
 
 pub loop-e-init : goal.loop-e-init

@@ -1,5 +1,5 @@
 use Rattle.std.proofs.Common.{length}
-use Rattle.link_direction.specs.Counting.{AreCounts, entered_by}
+use Rattle.link_direction.specs.steps.Counting.{AreCounts, entered_by}
 use Rattle.link_direction.proofs.counting.entering.Given as goal
 
 abbrev pub invariant-loop-e : goal.invariant-loop-e

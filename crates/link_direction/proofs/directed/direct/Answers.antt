@@ -1,10 +1,10 @@
 use Rattle.std.proofs.Common.{◌≡◌, ◌∙◌, ℕ, List, Some, length, slice_get, sym, ap, subst, arith}
 use Rattle.mrt_graph.specs.declared.gadag.Mark.{Mark}
 use Rattle.mrt_graph.specs.GadagLists.{GadagLists}
-use Rattle.link_direction.specs.Counting.{StandOnce}
+use Rattle.link_direction.specs.steps.Counting.{StandOnce}
 use Rattle.link_direction.specs.Directed.{AreNumbers}
 use Rattle.link_direction.specs.GadagOrder.{IsWholeOrder}
-use Rattle.link_direction.specs.Ways.{AreWaysGiven}
+use Rattle.link_direction.specs.steps.Ways.{AreWaysGiven}
 use Rattle.link_direction.proofs.Laws.{says_ordered}
 use Rattle.link_direction.proofs.DirectedMade.{directed_made}
 use Rattle.link_direction.proofs.directed.direct.Goals as goal

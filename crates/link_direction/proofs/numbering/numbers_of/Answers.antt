@@ -3,7 +3,7 @@ use Rattle.std.proofs.lemmas.Bool.{cases_eq}
 use Rattle.std.proofs.lemmas.List.{length-set}
 use Rattle.std.proofs.lemmas.Option.{same_Some, slice_get_read, slice_get_within}
 use Rattle.mrt_graph.proofs.ListPlaces.{set_elsewhere, set_there}
-use Rattle.link_direction.specs.Counting.{StandOnce}
+use Rattle.link_direction.specs.steps.Counting.{StandOnce}
 use Rattle.link_direction.proofs.numbering.numbers_of.Goals as goal
 
 -- one number more

@@ -1,7 +1,7 @@
 use Rattle.std.proofs.Common.{◌∙◌, ◌++◌, ℕ, List, [], ◌∷◌, length, refl, sym, ap, subst, arith}
 use Rattle.std.proofs.lemmas.Option.{slice_get_read}
 use Rattle.mrt_graph.proofs.ListPlaces.{contains_at}
-use Rattle.link_direction.specs.Counting.{IsUnderWay}
+use Rattle.link_direction.specs.steps.Counting.{IsUnderWay}
 use Rattle.link_direction.proofs.FromEarsFacts.{root_not_entered}
 use Rattle.link_direction.proofs.QueueEnds.{all_over, begins}
 use Rattle.link_direction.proofs.TakenOff.{few_listed}

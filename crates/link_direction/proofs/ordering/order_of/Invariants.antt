@@ -1,5 +1,5 @@
 use Rattle.std.proofs.Common.{◌≤◌, ◌-◌, length, vec_capacity}
-use Rattle.link_direction.specs.Counting.{IsUnderWay}
+use Rattle.link_direction.specs.steps.Counting.{IsUnderWay}
 use Rattle.link_direction.proofs.ordering.order_of.Given as goal
 
 abbrev pub invariant-loop-place : goal.invariant-loop-place

@@ -1,7 +1,7 @@
 use Rattle.std.proofs.Common.{◌≡◌, ◌∙◌, ℕ, length, refl, subst, arith}
 use Rattle.std.proofs.lemmas.Option.{slice_get_read}
 use Rattle.mrt_graph.proofs.ListPlaces.{contains_at}
-use Rattle.link_direction.specs.Counting.{IsEndOf, IsUnderWay}
+use Rattle.link_direction.specs.steps.Counting.{IsEndOf, IsUnderWay}
 use Rattle.link_direction.proofs.QueueEnds.{turn_over}
 use Rattle.link_direction.proofs.ordering.take_turn.Goals as goal
 

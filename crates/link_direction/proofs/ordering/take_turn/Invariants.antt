@@ -1,5 +1,5 @@
 use Rattle.std.proofs.Common.{◌≡◌, ℕ, Some, slice_get, vec_capacity}
-use Rattle.link_direction.specs.Counting.{IsTurn, IsUnderWay}
+use Rattle.link_direction.specs.steps.Counting.{IsTurn, IsUnderWay}
 use Rattle.link_direction.proofs.ordering.take_turn.Given as goal
 
 abbrev pub invariant-loop-end : goal.invariant-loop-end

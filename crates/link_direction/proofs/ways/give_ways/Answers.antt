@@ -8,7 +8,7 @@ use Rattle.mrt_graph.specs.declared.gadag.Way.{Way}
 use Rattle.mrt_graph.specs.declared.link.Link.{Link}
 use Rattle.mrt_graph.specs.Topology.{Topology}
 use Rattle.mrt_graph.proofs.ListPlaces.{set_elsewhere, set_there}
-use Rattle.link_direction.specs.Ways.{AreWaysGiven, mark_by}
+use Rattle.link_direction.specs.steps.Ways.{AreWaysGiven, mark_by}
 use Rattle.link_direction.proofs.ways.give_ways.Goals as goal
 
 -- one link more

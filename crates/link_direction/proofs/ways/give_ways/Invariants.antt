@@ -1,4 +1,4 @@
-use Rattle.link_direction.specs.Ways.{AreWaysGiven}
+use Rattle.link_direction.specs.steps.Ways.{AreWaysGiven}
 use Rattle.link_direction.proofs.ways.give_ways.Given as goal
 
 abbrev pub invariant-loop-e : goal.invariant-loop-e

@@ -1,5 +1,5 @@
 use Rattle.std.proofs.Common.{◌≤◌, length, vec_capacity}
-use Rattle.lowpoint_dfs.specs.Finding.{IsSearching, left_at}
+use Rattle.lowpoint_dfs.specs.steps.Finding.{IsSearching, left_at}
 use Rattle.lowpoint_dfs.proofs.finding.find_nodes.Given as goal
 
 abbrev pub invariant-loop-next : goal.invariant-loop-next

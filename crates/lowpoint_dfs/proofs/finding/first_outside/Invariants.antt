@@ -1,4 +1,4 @@
-use Rattle.lowpoint_dfs.specs.Finding.{LeadToFound}
+use Rattle.lowpoint_dfs.specs.steps.Finding.{LeadToFound}
 use Rattle.lowpoint_dfs.proofs.finding.first_outside.Given as goal
 
 abbrev pub invariant-loop-place : goal.invariant-loop-place

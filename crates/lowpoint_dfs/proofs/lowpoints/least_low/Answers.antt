@@ -3,7 +3,7 @@ use Rattle.std.specs.Option.{option_and_then, option_map_or}
 use Rattle.std.proofs.lemmas.Option.{slice_get_read}
 use Rattle.mrt_graph.specs.declared.tree.TreeNode.{TreeNode}
 use Rattle.lowpoint_dfs.specs.declared.lowpoints.Lowest.{Lowest}
-use Rattle.lowpoint_dfs.specs.Lowering.{IsLowest, Own, lowered}
+use Rattle.lowpoint_dfs.specs.steps.Lowering.{IsLowest, Own, lowered}
 use Rattle.lowpoint_dfs.proofs.LowestSoFar.{lowest_more}
 use Rattle.lowpoint_dfs.proofs.lowpoints.least_low.Goals as goal
 

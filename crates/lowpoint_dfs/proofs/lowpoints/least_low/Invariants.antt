@@ -1,4 +1,4 @@
-use Rattle.lowpoint_dfs.specs.Lowering.{IsLowest}
+use Rattle.lowpoint_dfs.specs.steps.Lowering.{IsLowest}
 use Rattle.lowpoint_dfs.proofs.lowpoints.least_low.Given as goal
 
 abbrev pub invariant-loop-end : goal.invariant-loop-end

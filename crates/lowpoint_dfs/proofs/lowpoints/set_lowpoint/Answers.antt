@@ -1,7 +1,7 @@
 use Rattle.std.proofs.Common.{◌≡◌, ◌∙◌, ℕ, List, length, get_or, refl, ap, subst}
 use Rattle.std.proofs.lemmas.Option.{slice_get_read}
 use Rattle.mrt_graph.specs.declared.tree.TreeNode.{TreeNode}
-use Rattle.lowpoint_dfs.specs.Lowering.{IsLowest}
+use Rattle.lowpoint_dfs.specs.steps.Lowering.{IsLowest}
 use Rattle.lowpoint_dfs.proofs.LowSet.{is_given}
 use Rattle.lowpoint_dfs.proofs.lowpoints.set_lowpoint.Goals as goal
 

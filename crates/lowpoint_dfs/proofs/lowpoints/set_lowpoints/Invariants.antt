@@ -1,5 +1,5 @@
 use Rattle.std.proofs.Common.{◌≡◌, ◌≤◌, ℕ, Some, length, slice_get}
-use Rattle.lowpoint_dfs.specs.Lowering.{AreAlike}
+use Rattle.lowpoint_dfs.specs.steps.Lowering.{AreAlike}
 use Rattle.lowpoint_dfs.specs.Lowpoint.{HasLowpoint}
 use Rattle.lowpoint_dfs.proofs.lowpoints.set_lowpoints.Given as goal
 

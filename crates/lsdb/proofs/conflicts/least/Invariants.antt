@@ -2,7 +2,7 @@ use Rattle.std.proofs.Common.{◌≡◌, length}
 use Rattle.std.specs.Iterator.Adapters.{zip_first, zip_second}
 use Rattle.std.specs.Slice.Iter.{iter_rest}
 use Rattle.lsdb.specs.Conflicts.{earlier, least_conflict}
-use Rattle.lsdb.specs.Store.{entries_of}
+use Rattle.lsdb.specs.steps.Store.{entries_of}
 use Rattle.lsdb.proofs.conflicts.least.Given as goal
 
 abbrev pub invariant-loop-lsa : goal.invariant-loop-lsa

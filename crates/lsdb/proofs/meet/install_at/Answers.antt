@@ -6,7 +6,7 @@ use Rattle.lsdb.specs.declared.change.Change.{Change}
 use Rattle.lsdb.specs.Entries.{Entry}
 use Rattle.lsdb.specs.Installing.{installed}
 use Rattle.lsdb.specs.Keys.{key_of}
-use Rattle.lsdb.specs.Store.{entries_of, front, IsStore}
+use Rattle.lsdb.specs.steps.Store.{entries_of, front, IsStore}
 use Rattle.lsdb.proofs.Fronts.{added_new, after_swap, change_told, entries_joined, keys_grown, keys_stay, met, met_key, store_added, store_turned}
 use Rattle.lsdb.proofs.meet.install_at.Goals as goal
 

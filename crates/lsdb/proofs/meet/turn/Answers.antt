@@ -4,7 +4,7 @@ use Rattle.std.proofs.lemmas.Option.{get_or_from_slice_get}
 use Rattle.ospf_lsa.specs.declared.lsa.Lsa.{Lsa}
 use Rattle.lsdb.specs.Installing.{noted, IsKept}
 use Rattle.lsdb.specs.Keys.{key_of}
-use Rattle.lsdb.specs.Store.{entries_of, front}
+use Rattle.lsdb.specs.steps.Store.{entries_of, front}
 use Rattle.lsdb.proofs.Fronts.{all_written, front_noted, front_set}
 use Rattle.lsdb.proofs.Stores.{entries_set, keys_set, noted_at, set_there}
 use Rattle.lsdb.proofs.meet.turn.Goals as goal

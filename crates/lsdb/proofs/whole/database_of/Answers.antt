@@ -5,7 +5,7 @@ use Rattle.ospf_lsa.specs.declared.lsa.Lsa.{Lsa}
 use Rattle.ospf_lsa.specs.AreaLsas.{is_area_lsa}
 use Rattle.lsdb.specs.Database.{entering}
 use Rattle.lsdb.specs.Entries.{entries_in}
-use Rattle.lsdb.specs.Store.{entries_of, front}
+use Rattle.lsdb.specs.steps.Store.{entries_of, front}
 use Rattle.lsdb.proofs.Entering.{at_place, installed_next, next_one, none_left, type_of, IsUnderWay}
 use Rattle.lsdb.proofs.Fronts.{store_first}
 use Rattle.lsdb.proofs.whole.database_of.Goals as goal

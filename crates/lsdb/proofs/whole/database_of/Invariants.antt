@@ -1,7 +1,7 @@
 use Rattle.std.proofs.Common.{◌≡◌, ◌≤◌, drop, length}
 use Rattle.lsdb.specs.Database.{entering}
 use Rattle.lsdb.specs.Entries.{entries_in}
-use Rattle.lsdb.specs.Store.{entries_of, front, IsStore}
+use Rattle.lsdb.specs.steps.Store.{entries_of, front, IsStore}
 use Rattle.lsdb.proofs.Entering.{IsUnderWay}
 use Rattle.lsdb.proofs.whole.database_of.Given as goal
 

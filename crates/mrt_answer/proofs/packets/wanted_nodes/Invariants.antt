@@ -1,7 +1,7 @@
 use Rattle.std.proofs.Common.{◌≡◌, ℕ, length, take}
 use Rattle.std.specs.Prelude.{◌↔◌}
 use Rattle.mrt_graph.specs.Search.{IsMarked}
-use Rattle.mrt_answer.specs.Made.{IsWanted}
+use Rattle.mrt_answer.specs.steps.Made.{IsWanted}
 use Rattle.mrt_answer.proofs.packets.wanted_nodes.Given as goal
 
 abbrev pub invariant-loop-spot : goal.invariant-loop-spot

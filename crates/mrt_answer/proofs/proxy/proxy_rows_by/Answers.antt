@@ -4,7 +4,8 @@ use Rattle.mrt_graph.specs.Topology.{Topology}
 use Rattle.mrt_rows.specs.declared.rooted.RootedColumns.{RootedColumns}
 use Rattle.proxy_rows.specs.declared.attachment.Attachment.{Attachment}
 use Rattle.proxy_rows.specs.Attachment.{IsAttachment}
-use Rattle.mrt_answer.specs.Made.{HasComputed, IsAttachedBy}
+use Rattle.mrt_answer.specs.Made.{HasComputed}
+use Rattle.mrt_answer.specs.steps.Made.{IsAttachedBy}
 use Rattle.mrt_answer.proofs.ComputedColumns.{as_many}
 use Rattle.mrt_answer.proofs.OneProxy.{accepted_for}
 use Rattle.mrt_answer.proofs.proxy.proxy_rows_by.Goals.{After-deref}

@@ -1,6 +1,7 @@
 use Rattle.std.proofs.Common.{Ok, subst, arith}
 use Rattle.mrt_answer.specs.Input.{Input}
-use Rattle.mrt_answer.specs.Surveyed.{IsSurveyed, made_input, summed_up_in}
+use Rattle.mrt_answer.specs.Surveyed.{IsSurveyed, made_input}
+use Rattle.mrt_answer.specs.steps.Surveyed.{summed_up_in}
 use Rattle.mrt_answer.proofs.MadeNetworks.{memory_of_survey}
 use Rattle.mrt_answer.proofs.TextSteps.{texts_of}
 use Rattle.mrt_answer.proofs.TextsHeld.{answer_has_also}

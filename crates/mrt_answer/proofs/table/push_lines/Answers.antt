@@ -1,7 +1,7 @@
 use Rattle.std.proofs.Common.{◌≡◌, ◌≢◌, ◌∙◌, ℕ, length, refl, sym, subst, arith}
 use Rattle.primary_alt.proofs.ColorsUse.{agree, differ}
-use Rattle.text_parts.specs.Adds.{Adds}
-use Rattle.mrt_report.specs.AddsLines.{AddsLines}
+use Rattle.text_parts.specs.steps.Adds.{Adds}
+use Rattle.mrt_report.specs.steps.AddsLines.{AddsLines}
 use Rattle.mrt_report.specs.ByColumn.{IsLineByColumn}
 use Rattle.mrt_rows.specs.CertOf.{IsCertOf}
 use Rattle.mrt_report.proofs.AddingLines.{no_lines, line_added, line_passed}

@@ -2,7 +2,7 @@ use Rattle.std.proofs.Common.{◌≡◌, ◌≤◌, List, length, take}
 use Rattle.std.specs.List.{AllZip}
 use Rattle.mrt_rows.specs.Rooted.{MakeColumns}
 use Rattle.mrt_calls.specs.Proxies.{IsPairRow}
-use Rattle.mrt_calls.specs.Putting.{IsHeldIn}
+use Rattle.mrt_calls.specs.steps.Putting.{IsHeldIn}
 use Rattle.mrt_calls.specs.declared.proxy.MrtProxyRow.{MrtProxyRow}
 use Rattle.mrt_calls.proofs.proxy.fill.Given as goal
 

@@ -1,7 +1,7 @@
 use Rattle.std.proofs.Common.{List, sym, subst}
 use Rattle.proxy_rows.specs.declared.proxy_row.ProxyRow.{ProxyRow}
 use Rattle.proxy_rows.specs.ProxyRows.{AreProxyRows}
-use Rattle.proxy_rows.specs.Touches.{AllTouch}
+use Rattle.proxy_rows.specs.steps.Touches.{AllTouch}
 use Rattle.proxy_rows.proofs.Touching.{all_touch}
 use Rattle.mrt_answer.proofs.OneProxy.{accepted_for}
 use Rattle.mrt_calls.proofs.proxy.hops_at.Goals as goal

@@ -4,7 +4,7 @@ use Rattle.std.proofs.lemmas.Bool.{not-false, not-true}
 use Rattle.std.proofs.lemmas.List.{get_or_read}
 use Rattle.std.proofs.lemmas.Option.{same_Some}
 use Rattle.mrt_graph.specs.Certificate.{certificate_of}
-use Rattle.mrt_graph.specs.FoldedRows.{near_row_of, no_row, way_of}
+use Rattle.mrt_graph.specs.steps.FoldedRows.{near_row_of, no_row, way_of}
 use Rattle.mrt_graph.specs.Related.{are_unrelated}
 use Rattle.mrt_graph.specs.RelatedPairs.{place_of_near}
 use Rattle.mrt_graph.specs.Tags.{carried}

@@ -2,7 +2,7 @@ use Rattle.std.proofs.Common.{◌≡◌, ◌∙◌, ◌+◌, ◌-◌, [], Some, 
 use Rattle.std.proofs.lemmas.Bool.{eqb-true, not-false, not-true}
 use Rattle.std.proofs.lemmas.Option.{same_Some}
 use Rattle.mrt_graph.specs.Certificate.{certificate_of}
-use Rattle.mrt_graph.specs.FoldedRows.{waypoint}
+use Rattle.mrt_graph.specs.steps.FoldedRows.{waypoint}
 use Rattle.mrt_graph.specs.Related.{are_unrelated}
 use Rattle.mrt_graph.proofs.Waypoints.{at_top, head_at, head_there, turn_on, turn_related}
 use Rattle.mrt_graph.proofs.unfolded.waypoint.Goals as goal

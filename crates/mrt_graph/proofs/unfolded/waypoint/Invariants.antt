@@ -1,6 +1,6 @@
 use Rattle.std.proofs.Common.{◌≡◌, ◌<◌, ◌+◌, ◌-◌, [], length}
 use Rattle.mrt_graph.specs.Certificate.{certificate_of}
-use Rattle.mrt_graph.specs.FoldedRows.{way_of, waypoint}
+use Rattle.mrt_graph.specs.steps.FoldedRows.{way_of, waypoint}
 use Rattle.mrt_graph.proofs.unfolded.waypoint.Given as goal
 
 abbrev pub invariant-loop : goal.invariant-loop

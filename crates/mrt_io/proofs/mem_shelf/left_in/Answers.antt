@@ -1,7 +1,7 @@
 use Rattle.std.proofs.Common.{◌≡◌, ◌≤◌, ◌-◌, ◌∙◌, ℕ, List, Some, length, drop, refl, sym, ap, arith}
 use Rattle.std.proofs.lemmas.List.{length-drop, take_all}
 use Rattle.mrt_io.specs.Named.{named}
-use Rattle.mrt_io.specs.Opened.{bytes_at}
+use Rattle.mrt_io.specs.steps.Opened.{bytes_at}
 use Rattle.mrt_io.proofs.Places.{bytes_at_place, place_within}
 use Rattle.mrt_io.proofs.mem_shelf.left_in.Goals.{After-deref}
 use Rattle.mrt_io.proofs.mem_shelf.left_in.Goals as goal

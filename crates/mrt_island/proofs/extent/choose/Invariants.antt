@@ -1,6 +1,6 @@
 use Rattle.std.proofs.Common.{◌≡◌, ◌≤◌, ◌++◌, length, drop, vec_len}
 use Rattle.std.specs.Prelude.{vec_capacity}
-use Rattle.mrt_island.specs.Searching.{chosen}
+use Rattle.mrt_island.specs.steps.Searching.{chosen}
 use Rattle.mrt_island.proofs.extent.choose.Given as goal
 
 abbrev pub invariant-loop-k : goal.invariant-loop-k

@@ -6,7 +6,8 @@ use Rattle.mrt_graph.specs.declared.node_id.NodeId.{NodeId}
 use Rattle.mrt_graph.specs.NewGraph.{AreGraphParts, IsGraphOf}
 use Rattle.mrt_graph.specs.NodeOrder.{node_id_cmp}
 use Rattle.mrt_island.specs.Numbering.{ids_of, is_link, links_of}
-use Rattle.mrt_island.specs.Rooting.{HasRouter, IsRoot}
+use Rattle.mrt_island.specs.steps.Rooting.{HasRouter}
+use Rattle.mrt_island.specs.Rooting.{IsRoot}
 use Rattle.mrt_island.proofs.Assembling.{ids_made, links_few, links_made, made_island, nodes_few, numbers_made}
 use Rattle.area_graph.proofs.FewBonds.{bonds_few}
 use Rattle.mrt_island.proofs.Counting.{ascend_flagged, length_flagged}

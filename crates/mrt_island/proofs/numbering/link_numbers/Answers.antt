@@ -1,6 +1,6 @@
 use Rattle.std.proofs.Common.{◌≡◌, ◌+◌, ◌<◌, ◌∙◌, ◌++◌, ◌∷◌, [], Bool, true, false, List, Option, None, Some, ℕ, length, get_or, drop, sym, ap, subst, arith, append_assoc}
 use Rattle.std.proofs.lemmas.List.{append-nil, at_drop_more, drop_all}
-use Rattle.mrt_island.specs.Numbering.{AreFlagNumbers}
+use Rattle.mrt_island.specs.steps.Numbering.{AreFlagNumbers}
 use Rattle.mrt_island.proofs.LinkNumbers.{flag_numbers, numbers_from}
 use Rattle.mrt_island.proofs.numbering.link_numbers.Goals as goal
 use Rattle.mrt_island.proofs.numbering.link_numbers.Goals.{then-flag, else-flag}

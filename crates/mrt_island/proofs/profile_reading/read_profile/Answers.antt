@@ -4,7 +4,7 @@ use Rattle.text_parts.proofs.WholeLists.{reading_tells}
 use Rattle.text_parts.specs.declared.line_error.LineError.{LineError}
 use Rattle.text_parts.specs.declared.line_error.LineError.TheVariants as lines
 use Rattle.mrt_island.specs.declared.profile_error.ProfileKind.{ProfileKind}
-use Rattle.mrt_island.specs.ProfileTaking.{error_of}
+use Rattle.mrt_island.specs.steps.ProfileTaking.{error_of}
 use Rattle.mrt_island.proofs.SettingsSaid.{profile_means}
 use Rattle.mrt_island.proofs.profile_reading.read_profile.Goals as goal
 

@@ -1,7 +1,7 @@
 use Rattle.std.proofs.Common.{◌≡◌, length}
 use Rattle.mrt_graph.specs.Search.{left_of}
 use Rattle.mrt_graph.proofs.Searching.{Searches}
-use Rattle.mrt_island.specs.Searching.{LeadsOver}
+use Rattle.mrt_island.specs.steps.Searching.{LeadsOver}
 use Rattle.mrt_island.proofs.settling.settle.Given as goal
 
 abbrev pub invariant-loop-at : goal.invariant-loop-at

@@ -2,7 +2,7 @@ use Rattle.std.proofs.Common.{◌∙◌, ◌↔◌, ℕ, List, Bool, length, ap,
 use Rattle.mrt_graph.specs.Reachable.{Reachable}
 use Rattle.mrt_graph.specs.Search.{Enters, IsBegun, IsMarked, SearchState}
 use Rattle.mrt_graph.proofs.Searching.{Searches, searches_begun, searches_ended, searches_onward}
-use Rattle.mrt_plain.specs.Without.{StepsWithout}
+use Rattle.mrt_plain.specs.steps.Without.{StepsWithout}
 use Rattle.mrt_plain.proofs.settling.settle.Goals as goal
 
 pub loop-at-init : goal.loop-at-init

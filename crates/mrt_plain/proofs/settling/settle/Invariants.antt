@@ -1,7 +1,7 @@
 use Rattle.std.proofs.Common.{◌≡◌, length}
 use Rattle.mrt_graph.specs.Search.{left_of}
 use Rattle.mrt_graph.proofs.Searching.{Searches}
-use Rattle.mrt_plain.specs.Without.{StepsWithout}
+use Rattle.mrt_plain.specs.steps.Without.{StepsWithout}
 use Rattle.mrt_plain.proofs.settling.settle.Given as goal
 
 abbrev pub invariant-loop-at : goal.invariant-loop-at

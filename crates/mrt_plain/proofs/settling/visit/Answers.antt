@@ -1,5 +1,5 @@
 use Rattle.std.proofs.Common.{arith}
-use Rattle.mrt_plain.specs.Without.{onward_without}
+use Rattle.mrt_plain.specs.steps.Without.{onward_without}
 use Rattle.mrt_plain.proofs.Avoiding.{onward_within}
 use Rattle.mrt_plain.proofs.Stepping.{all_ways, first_way, next_way}
 use Rattle.mrt_plain.proofs.settling.visit.Goals as goal

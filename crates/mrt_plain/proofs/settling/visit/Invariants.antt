@@ -1,6 +1,6 @@
 use Rattle.std.proofs.Common.{◌≡◌, ◌<◌, ℕ, Some}
 use Rattle.mrt_graph.specs.Search.{Enters}
-use Rattle.mrt_plain.specs.Without.{onward_without}
+use Rattle.mrt_plain.specs.steps.Without.{onward_without}
 use Rattle.mrt_plain.proofs.settling.visit.Given as goal
 
 abbrev pub invariant-loop-e : goal.invariant-loop-e

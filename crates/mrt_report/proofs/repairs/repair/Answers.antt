@@ -3,7 +3,7 @@ use Rattle.mrt_graph.specs.declared.cert.Color.TheVariants.{Blue}
 use Rattle.mrt_graph.specs.declared.link.Element.{Element}
 use Rattle.mrt_graph.specs.Alternate.{Outside}
 use Rattle.mrt_report.specs.Repairs.{IsRepair}
-use Rattle.mrt_report.specs.Viewed.{viewed}
+use Rattle.mrt_report.specs.steps.Viewed.{viewed}
 use Rattle.mrt_report.proofs.repairs.repair.Goals as goal
 
 pub returns-in-None : goal.returns-in-None

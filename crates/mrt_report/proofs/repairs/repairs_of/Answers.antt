@@ -1,8 +1,8 @@
 use Rattle.std.proofs.Common.{Bool, Option, subst}
 use Rattle.mrt_graph.specs.declared.cert.Color.TheVariants.{Red}
 use Rattle.mrt_graph.specs.declared.link.Element.{Element}
-use Rattle.mrt_report.specs.Uses.{TellsUse}
-use Rattle.mrt_report.specs.Viewed.{viewed}
+use Rattle.mrt_report.specs.steps.Uses.{TellsUse}
+use Rattle.mrt_report.specs.steps.Viewed.{viewed}
 use Rattle.mrt_report.proofs.SecondRepairs.{second_repairs}
 use Rattle.mrt_report.proofs.repairs.repairs_of.Goals as goal
 

@@ -1,6 +1,6 @@
 use Rattle.std.proofs.Common.{◌∙◌, arith, sym}
 use Rattle.primary_alt.proofs.ColorsUse.{agree, differ}
-use Rattle.mrt_report.specs.Viewed.{viewed}
+use Rattle.mrt_report.specs.steps.Viewed.{viewed}
 use Rattle.mrt_report.proofs.Telling.{IsStepOn, both_begin, both_end, both_go_on, both_settled, both_stop}
 use Rattle.mrt_report.proofs.uses.uses_of.Goals as goal
 

@@ -1,5 +1,5 @@
 use Rattle.std.proofs.Common.{◌<◌, length}
-use Rattle.mrt_report.specs.Viewed.{viewed}
+use Rattle.mrt_report.specs.steps.Viewed.{viewed}
 use Rattle.mrt_report.proofs.Telling.{TellSoFar}
 use Rattle.mrt_report.proofs.uses.uses_of.Given as goal
 

@@ -3,9 +3,10 @@ use Rattle.std.proofs.lemmas.Bool.{cases_eq}
 use Rattle.std.proofs.lemmas.List.{with_items_is}
 use Rattle.std.proofs.lemmas.Nat.{mul-le}
 use Rattle.mrt_graph.specs.declared.cert.Row.{Row}
-use Rattle.mrt_rows.specs.ColumnOf.{IsColumnOf, IsRowIn}
-use Rattle.mrt_rows.specs.RowsOf.{row_among}
-use Rattle.mrt_rows.specs.Said.{words_of}
+use Rattle.mrt_rows.specs.ColumnOf.{IsColumnOf}
+use Rattle.mrt_rows.specs.steps.ColumnOf.{IsRowIn}
+use Rattle.mrt_rows.specs.steps.RowsOf.{row_among}
+use Rattle.mrt_rows.specs.steps.Said.{words_of}
 use Rattle.mrt_rows.proofs.Rooting.{og_of}
 use Rattle.mrt_rows.proofs.RowsOfColumns.{all_of_columns, row_in_column}
 use Rattle.mrt_rows.proofs.certificate.all_rows.Goals as goal

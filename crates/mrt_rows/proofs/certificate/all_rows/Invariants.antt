@@ -1,8 +1,8 @@
 use Rattle.std.proofs.Common.{◌≡◌, ◌≢◌, ◌<◌, ◌-◌, ◌*◌, ℕ, length}
-use Rattle.mrt_rows.specs.ColumnOf.{IsRowIn}
+use Rattle.mrt_rows.specs.steps.ColumnOf.{IsRowIn}
 use Rattle.mrt_rows.specs.Held.{AreHeld}
-use Rattle.mrt_rows.specs.RowsOf.{row_among}
-use Rattle.mrt_rows.specs.Said.{IsNode, words_of}
+use Rattle.mrt_rows.specs.steps.RowsOf.{row_among}
+use Rattle.mrt_rows.specs.steps.Said.{IsNode, words_of}
 use Rattle.mrt_rows.proofs.certificate.all_rows.Given as goal
 
 abbrev pub invariant-loop-n : goal.invariant-loop-n

@@ -4,7 +4,7 @@ use Rattle.std.proofs.lemmas.List.{length-set}
 use Rattle.std.proofs.lemmas.Option.{none-some, same_Some}
 use Rattle.mrt_graph.specs.declared.cert.Row.{Row}
 use Rattle.mrt_graph.specs.RowPlace.{place_of_row}
-use Rattle.mrt_rows.specs.RowsOf.{row_among}
+use Rattle.mrt_rows.specs.steps.RowsOf.{row_among}
 use Rattle.mrt_rows.proofs.RowsPut.{put_elsewhere, put_there}
 use Rattle.mrt_rows.proofs.certificate.put_column.Goals as goal
 use Rattle.mrt_rows.proofs.certificate.put_column.Goals.{in-Some, in_default}

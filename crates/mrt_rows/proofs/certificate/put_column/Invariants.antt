@@ -1,6 +1,6 @@
 use Rattle.std.proofs.Common.{◌≡◌, ◌≢◌, ◌<◌, ℕ, Some, length, slice_get}
 use Rattle.mrt_graph.specs.declared.cert.Row.{Row}
-use Rattle.mrt_rows.specs.RowsOf.{row_among}
+use Rattle.mrt_rows.specs.steps.RowsOf.{row_among}
 use Rattle.mrt_rows.proofs.certificate.put_column.Given as goal
 
 abbrev pub invariant-loop-n : goal.invariant-loop-n

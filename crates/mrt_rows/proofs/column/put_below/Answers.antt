@@ -1,7 +1,7 @@
 use Rattle.std.proofs.Common.{rules, ◌≡◌, ◌∙◌, ◌<◌, ℕ, List, Option, Some, None, length, set, sym, ap, subst, arith}
 use Rattle.std.specs.Prelude.{replicate}
 use Rattle.std.proofs.lemmas.List.{length-replicate, length-set}
-use Rattle.mrt_rows.specs.Said.{words_of}
+use Rattle.mrt_rows.specs.steps.Said.{words_of}
 use Rattle.mrt_rows.proofs.Climbing.{IsClimbed, all_climbed, begun, one_climbed}
 use Rattle.mrt_rows.proofs.NearFound.{differ_by, same_by}
 use Rattle.mrt_rows.proofs.Rooting.{og_of}

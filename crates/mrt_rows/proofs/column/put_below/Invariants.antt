@@ -1,5 +1,5 @@
 use Rattle.std.proofs.Common.{◌≡◌, length}
-use Rattle.mrt_rows.specs.Said.{IsNode, words_of}
+use Rattle.mrt_rows.specs.steps.Said.{IsNode, words_of}
 use Rattle.mrt_rows.proofs.Climbing.{IsClimbed}
 use Rattle.mrt_rows.proofs.column.put_below.Given as goal
 

@@ -1,6 +1,6 @@
 use Rattle.std.proofs.Common.{◌≡◌, ◌≢◌, ◌<◌, ℕ, true, Some, length, slice_get}
 use Rattle.inc_dec_spf.specs.BlockAims.{aim_at}
-use Rattle.mrt_rows.specs.Said.{IsNode, words_of}
+use Rattle.mrt_rows.specs.steps.Said.{IsNode, words_of}
 use Rattle.mrt_rows.proofs.WayAims.{IsGone}
 use Rattle.mrt_rows.proofs.column.put_way.Given as goal
 

@@ -3,7 +3,7 @@ use Rattle.std.proofs.lemmas.Bool.{cases_eq}
 use Rattle.std.proofs.lemmas.Option.{same_Some, slice_get_read, slice_get_within}
 use Rattle.inc_dec_spf.specs.BlockAims.{aim_at}
 use Rattle.mrt_rows.specs.Chain.{AreWayAims}
-use Rattle.mrt_rows.specs.Said.{words_of}
+use Rattle.mrt_rows.specs.steps.Said.{words_of}
 use Rattle.mrt_rows.proofs.Rooting.{are_directions, has_directions}
 use Rattle.mrt_rows.proofs.WayAims.{way_aims_too}
 use Rattle.mrt_rows.proofs.column.put_ways.Goals as goal

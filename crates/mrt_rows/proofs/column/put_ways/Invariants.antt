@@ -1,7 +1,7 @@
 use Rattle.std.proofs.Common.{◌≡◌, ◌<◌, ◌≤◌, ℕ, Some, length, slice_get}
 use Rattle.inc_dec_spf.specs.BlockAims.{aim_at}
 use Rattle.mrt_rows.specs.Chain.{AreWayAims}
-use Rattle.mrt_rows.specs.Said.{IsNode, words_of}
+use Rattle.mrt_rows.specs.steps.Said.{IsNode, words_of}
 use Rattle.mrt_rows.proofs.column.put_ways.Given as goal
 
 abbrev pub invariant-loop-at : goal.invariant-loop-at

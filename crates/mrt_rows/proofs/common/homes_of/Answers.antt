@@ -2,7 +2,7 @@ use Rattle.std.proofs.Common.{◌∙◌, ◌*◌, ℕ, Bool, true, List, length,
 use Rattle.std.proofs.lemmas.List.{length-replicate, with_items_is}
 use Rattle.inc_dec_spf.specs.BlockAims.{aim_at}
 use Rattle.inc_dec_spf.proofs.AllMarked.{all_marked}
-use Rattle.mrt_rows.specs.Said.{words_of}
+use Rattle.mrt_rows.specs.steps.Said.{words_of}
 use Rattle.mrt_rows.proofs.AimsOfRows.{common_within, home_aim}
 use Rattle.mrt_rows.proofs.Rooting.{are_directions, has_directions, og_of}
 use Rattle.mrt_rows.proofs.TileLinks.{tile_links}

@@ -4,7 +4,7 @@ use Rattle.std.proofs.lemmas.Option.{same_Some, slice_get_read, slice_get_within
 use Rattle.mrt_graph.specs.declared.link.End.{End}
 use Rattle.mrt_graph.proofs.EndsAt.{end_leads}
 use Rattle.mrt_rows.specs.NearOf.{IsSoleOf}
-use Rattle.mrt_rows.specs.Said.{words_of}
+use Rattle.mrt_rows.specs.steps.Said.{words_of}
 use Rattle.mrt_rows.proofs.OrderedGraphs.{within}
 use Rattle.mrt_rows.proofs.Rooting.{og_of}
 use Rattle.mrt_rows.proofs.SoleRows.{block_says, mark_says, none_is, sole_is}

@@ -5,9 +5,9 @@ use Rattle.std.specs.Option.{option_map}
 use Rattle.mrt_graph.specs.declared.cert.Row.{Row}
 use Rattle.mrt_graph.specs.Tags.{carried}
 use Rattle.mrt_graph.proofs.ListPlaces.{set_there}
-use Rattle.mrt_rows.specs.Making.{IsOpenFor}
-use Rattle.mrt_rows.specs.NearOf.{IsNearRow}
-use Rattle.mrt_rows.specs.Said.{words_of}
+use Rattle.mrt_rows.specs.steps.Making.{IsOpenFor}
+use Rattle.mrt_rows.specs.steps.NearOf.{IsNearRow}
+use Rattle.mrt_rows.specs.steps.Said.{words_of}
 use Rattle.mrt_rows.proofs.Filling.{filled, filling_home, filling_on, filling_past}
 use Rattle.mrt_rows.proofs.NearFound.{differ_by, same_by}
 use Rattle.mrt_rows.proofs.Rooting.{og_of}

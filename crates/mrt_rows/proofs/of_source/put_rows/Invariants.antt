@@ -1,5 +1,5 @@
 use Rattle.std.proofs.Common.{◌≡◌, length}
-use Rattle.mrt_rows.specs.Said.{IsNode, IsRooted}
+use Rattle.mrt_rows.specs.steps.Said.{IsNode, IsRooted}
 use Rattle.mrt_rows.proofs.Filling.{IsFilling}
 use Rattle.mrt_rows.proofs.Rooting.{og_of}
 use Rattle.mrt_rows.proofs.of_source.put_rows.Given as goal

@@ -1,6 +1,6 @@
 use Rattle.std.proofs.Common.{◌≡◌, ◌≤◌}
 use Rattle.std.specs.Prelude.{IsSome}
-use Rattle.mrt_words.specs.Pieces.{IsFedSoFar}
+use Rattle.mrt_words.specs.steps.Pieces.{IsFedSoFar}
 use Rattle.mrt_words.proofs.certificate_file.read_in_pieces.Given as goal
 
 -- The bytes so far were fed to the reader, without a fault where the shelf is healthy.

@@ -1,5 +1,5 @@
 use Rattle.std.proofs.Common.{arith}
-use Rattle.order_repair.specs.Blocks.{blocks_of}
+use Rattle.order_repair.specs.steps.Blocks.{blocks_of}
 use Rattle.order_repair.proofs.Listed.{one_more}
 use Rattle.order_repair.proofs.block_lists.blocks_of.Goals as goal
 

@@ -1,5 +1,5 @@
 use Rattle.std.proofs.Common.{◌≡◌, ◌≤◌, take, vec_capacity, vec_len}
-use Rattle.order_repair.specs.Blocks.{blocks_of, count_of}
+use Rattle.order_repair.specs.steps.Blocks.{blocks_of, count_of}
 use Rattle.order_repair.proofs.block_lists.blocks_of.Given as goal
 
 abbrev pub invariant-loop-number : goal.invariant-loop-number

@@ -1,9 +1,9 @@
 use Rattle.std.proofs.Common.{◌≡◌, ◌<◌, ℕ, length, refl, sym, subst, arith}
 use Rattle.std.specs.Prelude.{IfOk}
 use Rattle.mrt_graph.specs.declared.link.Element.{Element}
-use Rattle.text_parts.specs.Adds.{Adds}
+use Rattle.text_parts.specs.steps.Adds.{Adds}
 use Rattle.text_parts.proofs.Adding.{nothing, one_part_more}
-use Rattle.order_repair.specs.Blocks.{Letter, Letters, blocks_of, count_of}
+use Rattle.order_repair.specs.steps.Blocks.{Letter, Letters, blocks_of, count_of}
 use Rattle.order_repair.specs.Failed.{IsWithin, LiesIn}
 use Rattle.order_repair.specs.OrderText.{IsLetter}
 use Rattle.order_repair.proofs.Chained.{after}

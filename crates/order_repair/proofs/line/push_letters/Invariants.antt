@@ -1,9 +1,9 @@
 use Rattle.std.proofs.Common.{◌≡◌, ◌-◌, ℕ}
 use Rattle.link_direction.specs.Directions.{Directions}
-use Rattle.text_parts.specs.Adds.{Adds}
-use Rattle.order_repair.specs.Blocks.{IsNext, Letters, blocks_of, count_of}
-use Rattle.order_repair.specs.Source.{AreHopsIn}
-use Rattle.order_repair.specs.Tagging.{IsPair}
+use Rattle.text_parts.specs.steps.Adds.{Adds}
+use Rattle.order_repair.specs.steps.Blocks.{IsNext, Letters, blocks_of, count_of}
+use Rattle.order_repair.specs.steps.Source.{AreHopsIn}
+use Rattle.order_repair.specs.steps.Tagging.{IsPair}
 use Rattle.order_repair.proofs.line.push_letters.Given as goal
 
 abbrev pub invariant-loop-next : goal.invariant-loop-next

@@ -1,6 +1,6 @@
 use Rattle.std.proofs.Common.{ℕ, refl, sym, subst}
 use Rattle.text_parts.proofs.Adding.{joined}
-use Rattle.order_repair.specs.Tagging.{IsPair}
+use Rattle.order_repair.specs.steps.Tagging.{IsPair}
 use Rattle.order_repair.proofs.line.push_line.Goals as goal
 
 pub returns : goal.returns

@@ -1,5 +1,5 @@
 use Rattle.std.proofs.Common.{ℕ, subst}
-use Rattle.text_parts.specs.Adds.{Adds}
+use Rattle.text_parts.specs.steps.Adds.{Adds}
 use Rattle.order_repair.specs.OrderText.{IsPartOn}
 use Rattle.text_parts.proofs.Adding.{one_part_more}
 use Rattle.order_repair.proofs.text.push_lines.Goals as goal

@@ -1,7 +1,7 @@
 use Rattle.std.proofs.Common.{◌≡◌, ℕ, length}
 use Rattle.link_direction.specs.Directions.{Directions}
-use Rattle.order_repair.specs.Source.{AreHopsIn}
-use Rattle.text_parts.specs.Adds.{Adds}
+use Rattle.order_repair.specs.steps.Source.{AreHopsIn}
+use Rattle.text_parts.specs.steps.Adds.{Adds}
 use Rattle.text_parts.specs.Parts.{AreParts}
 use Rattle.order_repair.specs.OrderText.{IsPartOn}
 use Rattle.order_repair.proofs.text.push_lines.Given as goal

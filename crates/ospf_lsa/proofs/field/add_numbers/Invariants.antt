@@ -1,6 +1,6 @@
 use Rattle.std.proofs.Common.{◌≡◌, ◌≤◌, ◌++◌, ◌+◌, ◌-◌, ◌*◌, drop, vec_len}
 use Rattle.std.specs.Prelude.{vec_capacity}
-use Rattle.ospf_lsa.specs.Reading.{numbers_in}
+use Rattle.ospf_lsa.specs.steps.Reading.{numbers_in}
 use Rattle.ospf_lsa.proofs.field.add_numbers.Given as goal
 
 abbrev pub invariant-loop-i : goal.invariant-loop-i

@@ -3,7 +3,7 @@ use Rattle.std.specs.Prelude.{IfSome}
 use Rattle.std.specs.Option.{option_map}
 use Rattle.std.proofs.lemmas.List.{length-drop}
 use Rattle.ospf_lsa.specs.declared.lsa.RouterLink.{RouterLink}
-use Rattle.ospf_lsa.specs.Reading.{Links, numbers_in, first_link, link_length, links_in}
+use Rattle.ospf_lsa.specs.steps.Reading.{Links, numbers_in, first_link, link_length, links_in}
 use Rattle.ospf_lsa.proofs.Links.{after, links_first, links_cut, links_next}
 use Rattle.ospf_lsa.proofs.link.links.Goals as goal
 

@@ -1,7 +1,7 @@
 use Rattle.std.proofs.Common.{◌≡◌, ◌≤◌, ◌+◌, ◌-◌, ◌*◌, length, vec_len}
 use Rattle.std.specs.Prelude.{◌/◌, min, vec_capacity}
 use Rattle.std.specs.Option.{option_map}
-use Rattle.ospf_lsa.specs.Reading.{links_in}
+use Rattle.ospf_lsa.specs.steps.Reading.{links_in}
 use Rattle.ospf_lsa.proofs.Links.{after}
 use Rattle.ospf_lsa.proofs.link.links.Given as goal
 

@@ -3,7 +3,7 @@ use Rattle.std.specs.Int.{w8}
 use Rattle.std.proofs.Math.Facts.{Fits-lt-pow}
 use Rattle.std.proofs.lemmas.List.{length-drop}
 use Rattle.std.proofs.lemmas.Result.{err_from_is_err_and}
-use Rattle.ospf_lsa.specs.Reading.{record_in}
+use Rattle.ospf_lsa.specs.steps.Reading.{record_in}
 use Rattle.ospf_lsa.proofs.Files.{read_none, read_more, none_read, all_read, told_first, first_told}
 use Rattle.ospf_lsa.proofs.OneReading.{never_both, one_list}
 use Rattle.ospf_lsa.proofs.reading.read_lsas.Goals as goal

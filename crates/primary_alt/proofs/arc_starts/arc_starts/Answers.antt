@@ -3,7 +3,7 @@ use Rattle.std.specs.Prelude.{nat_lt}
 use Rattle.std.specs.List.{filter}
 use Rattle.std.proofs.lemmas.List.Sums.{count_by-le-length}
 use Rattle.area_graph.specs.declared.area_types.Arc.{Arc}
-use Rattle.area_graph.specs.Starts.{below, starts_to}
+use Rattle.area_graph.specs.steps.Starts.{below, starts_to}
 use Rattle.area_graph.proofs.Slices.{are_starts}
 use Rattle.primary_alt.proofs.ArcStarts.{starts_at_zero, starts_on}
 use Rattle.primary_alt.proofs.arc_starts.arc_starts.Goals as goal

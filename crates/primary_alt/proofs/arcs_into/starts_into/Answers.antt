@@ -1,6 +1,6 @@
 use Rattle.std.proofs.Common.{◌<◌, ◌+◌, ◌∙◌, ◌∷◌, [], ℕ, List, get_or, length, sym, ap, subst, arith}
 use Rattle.std.proofs.lemmas.List.{length-append}
-use Rattle.primary_alt.specs.ArcsInto.{IsStartInto}
+use Rattle.primary_alt.specs.steps.ArcsInto.{IsStartInto}
 use Rattle.primary_alt.proofs.RowsInto.{start_pushed}
 use Rattle.primary_alt.proofs.arcs_into.starts_into.Goals as goal
 

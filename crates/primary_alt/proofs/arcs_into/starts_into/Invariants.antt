@@ -1,5 +1,5 @@
 use Rattle.std.proofs.Common.{◌≡◌, ◌≤◌, ◌+◌, ◌<◌, ℕ, get_or, length, vec_capacity, vec_len}
-use Rattle.primary_alt.specs.ArcsInto.{IsStartInto}
+use Rattle.primary_alt.specs.steps.ArcsInto.{IsStartInto}
 use Rattle.primary_alt.proofs.arcs_into.starts_into.Given as goal
 
 abbrev pub invariant-loop-v : goal.invariant-loop-v

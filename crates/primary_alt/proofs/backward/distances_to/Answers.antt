@@ -3,7 +3,7 @@ use Rattle.std.specs.BinaryHeap.{heap_items}
 use Rattle.std.specs.declared.cmp.Reverse.{Reverse}
 use Rattle.mrt_graph.proofs.Members.{contains_first, contains_none}
 use Rattle.primary_alt.specs.declared.backward.Offer.{Offer}
-use Rattle.primary_alt.specs.BackwardSearch.{AreSmall, IsSearching, Waits}
+use Rattle.primary_alt.specs.steps.BackwardSearch.{AreSmall, IsSearching, Waits}
 use Rattle.primary_alt.specs.Distances.{HasDistance}
 use Rattle.primary_alt.proofs.BackwardSteps.{held, search_begins, search_ends, searching_moved}
 use Rattle.primary_alt.proofs.backward.distances_to.Goals as goal

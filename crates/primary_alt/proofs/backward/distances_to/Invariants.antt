@@ -1,6 +1,6 @@
 use Rattle.std.proofs.Common.{◌≡◌, length}
 use Rattle.std.specs.BinaryHeap.{heap_items, heap_len}
-use Rattle.primary_alt.specs.BackwardSearch.{AreSmall, IsSearching, left}
+use Rattle.primary_alt.specs.steps.BackwardSearch.{AreSmall, IsSearching, left}
 use Rattle.primary_alt.proofs.backward.distances_to.Given as goal
 
 abbrev pub invariant-loop-nearest : goal.invariant-loop-nearest

@@ -2,7 +2,7 @@ use Rattle.std.proofs.Common.{◌≡◌, ◌∙◌, ◌<◌, ℕ, List, Option, 
 use Rattle.std.specs.BinaryHeap.{heap_items}
 use Rattle.std.proofs.lemmas.Bool.{cases_lt}
 use Rattle.std.proofs.lemmas.Option.{slice_get_read}
-use Rattle.primary_alt.specs.BackwardSearch.{room_of}
+use Rattle.primary_alt.specs.steps.BackwardSearch.{room_of}
 use Rattle.primary_alt.proofs.OfferMade.{offer_left, offer_taken}
 use Rattle.primary_alt.proofs.backward.offer_to.Goals as goal
 

@@ -1,6 +1,6 @@
 use Rattle.std.proofs.Common.{◌≤◌}
 use Rattle.std.specs.BinaryHeap.{heap_items, heap_len}
-use Rattle.primary_alt.specs.BackwardSearch.{IsRelaxed, left}
+use Rattle.primary_alt.specs.steps.BackwardSearch.{IsRelaxed, left}
 use Rattle.primary_alt.proofs.backward.relax.Given as goal
 
 abbrev pub invariant-loop-arc : goal.invariant-loop-arc

@@ -2,8 +2,8 @@ use Rattle.std.proofs.Common.{◌≡◌, ◌≢◌, ◌<◌, ◌∙◌, ℕ, Lis
 use Rattle.std.proofs.lemmas.Option.{same_Some}
 use Rattle.area_graph.specs.declared.area_types.Arc.{Arc}
 use Rattle.primary_alt.specs.declared.beginnings.Beginning.{Beginning}
-use Rattle.primary_alt.specs.Beginnings.{HasBeginning}
-use Rattle.primary_alt.specs.LeastBeginnings.{GoesOn, Later, Own, Second}
+use Rattle.primary_alt.specs.steps.Beginnings.{HasBeginning}
+use Rattle.primary_alt.specs.steps.LeastBeginnings.{GoesOn, Later, Own, Second}
 use Rattle.primary_alt.proofs.Beginning.{apart_by, at_own, equal_by, standing}
 use Rattle.primary_alt.proofs.BeginningsPassed.{later_alone, none_goes_on, own_alone, second_alone}
 use Rattle.primary_alt.proofs.beginnings.begin_over.Goals as goal

@@ -3,8 +3,8 @@ use Rattle.std.proofs.lemmas.List.{get_or-replicate, length-replicate}
 use Rattle.std.proofs.lemmas.Option.{get_or_from_slice_get, slice_get_read, slice_get_within}
 use Rattle.mrt_graph.proofs.ListPlaces.{contains_at}
 use Rattle.primary_alt.specs.declared.beginnings.Beginning.{Beginning}
-use Rattle.primary_alt.specs.Attaining.{AreBetween}
-use Rattle.primary_alt.specs.Beginnings.{HasBeginning}
+use Rattle.primary_alt.specs.steps.Attaining.{AreBetween}
+use Rattle.primary_alt.specs.steps.Beginnings.{HasBeginning}
 use Rattle.primary_alt.proofs.BeginningsPassed.{all_passed, one_passed}
 use Rattle.primary_alt.proofs.beginnings.least_beginnings.Goals as goal
 

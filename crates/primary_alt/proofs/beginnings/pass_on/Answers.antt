@@ -4,8 +4,8 @@ use Rattle.std.proofs.lemmas.Option.{same_Some, slice_get_read, slice_get_within
 use Rattle.area_graph.specs.declared.area_types.Arc.{Arc}
 use Rattle.mrt_graph.proofs.ListPlaces.{set_elsewhere, set_there}
 use Rattle.primary_alt.specs.declared.beginnings.Beginning.{Beginning}
-use Rattle.primary_alt.specs.Beginnings.{HasBeginning}
-use Rattle.primary_alt.specs.LeastBeginnings.{GoesOn, HasUpTo, IsAtMost, IsPassedOn, IsUpTo}
+use Rattle.primary_alt.specs.steps.Beginnings.{HasBeginning}
+use Rattle.primary_alt.specs.steps.LeastBeginnings.{GoesOn, HasUpTo, IsAtMost, IsPassedOn, IsUpTo}
 use Rattle.primary_alt.proofs.beginnings.pass_on.Goals as goal
 
 itself : (begins : List (Option Beginning)) (v : ℕ) (begin : Beginning) → HasBeginning begins v begin → HasUpTo begins v begin

@@ -1,7 +1,7 @@
 use Rattle.std.proofs.Common.{◌≡◌, ◌+◌, ◌-◌, ◌≤◌, ℕ, List, Option, eqb, eq-eqb, leb-true, sym, subst, arith, true≢false}
 use Rattle.std.specs.Prelude.{IsTrue}
 use Rattle.area_graph.specs.declared.area_types.Arc.{Arc}
-use Rattle.primary_alt.specs.Attaining.{Attains}
+use Rattle.primary_alt.specs.steps.Attaining.{Attains}
 use Rattle.primary_alt.specs.Distances.{HasDistance}
 use Rattle.primary_alt.proofs.Beginning.{equal_by}
 use Rattle.primary_alt.proofs.NumbersRead.{number_read, one_number, read_of}

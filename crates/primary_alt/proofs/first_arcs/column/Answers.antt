@@ -3,7 +3,7 @@ use Rattle.std.specs.Prelude.{nat_lt}
 use Rattle.std.proofs.lemmas.List.{length-append}
 use Rattle.std.proofs.lemmas.List.Sums.{count_by-le-length}
 use Rattle.area_graph.specs.declared.area_types.Arc.{Arc}
-use Rattle.primary_alt.specs.Attaining.{AreFirstToAttain}
+use Rattle.primary_alt.specs.steps.Attaining.{AreFirstToAttain}
 use Rattle.primary_alt.proofs.FirstColumns.{AreFirstsTo, firsts_more}
 use Rattle.primary_alt.proofs.first_arcs.column.Goals as goal
 

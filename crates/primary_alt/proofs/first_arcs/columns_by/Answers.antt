@@ -4,10 +4,10 @@ use Rattle.std.proofs.lemmas.List.{take_more}
 use Rattle.std.proofs.lemmas.Option.{slice_get_read}
 use Rattle.area_graph.specs.declared.area_types.Arc.{Arc}
 use Rattle.area_graph.specs.Parts.{AreaParts}
-use Rattle.area_graph.specs.Starts.{AreStarts}
+use Rattle.area_graph.specs.steps.Starts.{AreStarts}
 use Rattle.mrt_graph.proofs.ListPlaces.{contains_at}
-use Rattle.primary_alt.specs.Attaining.{AreBetween, AreFirstToAttain}
-use Rattle.primary_alt.specs.FirstArcs.{AreColumnsFor}
+use Rattle.primary_alt.specs.steps.Attaining.{AreBetween, AreFirstToAttain}
+use Rattle.primary_alt.specs.steps.FirstArcs.{AreColumnsFor}
 use Rattle.primary_alt.proofs.AreaArcs.{arcs_between, from_below}
 use Rattle.primary_alt.proofs.FirstColumns.{column_by_test, column_is, columns_again, columns_more, columns_none}
 use Rattle.primary_alt.proofs.FirstsByDistances.{distances_moved}

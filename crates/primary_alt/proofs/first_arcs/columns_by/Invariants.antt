@@ -1,5 +1,5 @@
 use Rattle.std.proofs.Common.{◌≡◌, length, take}
-use Rattle.primary_alt.specs.FirstArcs.{AreColumnsFor}
+use Rattle.primary_alt.specs.steps.FirstArcs.{AreColumnsFor}
 use Rattle.primary_alt.proofs.first_arcs.columns_by.Given as goal
 
 abbrev pub invariant-loop-t : goal.invariant-loop-t

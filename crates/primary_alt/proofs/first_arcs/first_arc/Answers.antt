@@ -2,7 +2,7 @@ use Rattle.std.proofs.Common.{◌≡◌, ◌<◌, ◌≤◌, ◌+◌, ◌∙◌,
 use Rattle.std.proofs.lemmas.Bool.{cases_lt}
 use Rattle.std.proofs.lemmas.Option.{same_Some, slice_get_read}
 use Rattle.area_graph.specs.declared.area_types.Arc.{Arc}
-use Rattle.primary_alt.specs.Attaining.{Attains, Does, IsFirstToAttain, NoneDoes}
+use Rattle.primary_alt.specs.steps.Attaining.{Attains, Does, IsFirstToAttain, NoneDoes}
 use Rattle.primary_alt.proofs.first_arcs.first_arc.Goals as goal
 
 -- one arc more that does not

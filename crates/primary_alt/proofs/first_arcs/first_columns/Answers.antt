@@ -1,7 +1,7 @@
 use Rattle.std.proofs.Common.{◌∙◌, ℕ, List, length, sym, subst, arith}
 use Rattle.std.specs.Prelude.{IsPermutation}
 use Rattle.area_graph.specs.declared.area_types.Arc.{Arc}
-use Rattle.area_graph.specs.Starts.{AreStarts}
+use Rattle.area_graph.specs.steps.Starts.{AreStarts}
 use Rattle.primary_alt.proofs.first_arcs.first_columns.Goals as goal
 
 pub columns_by-requires-clause-starts : goal.columns_by-requires-clause-starts

@@ -3,10 +3,10 @@ use Rattle.area_graph.specs.declared.area_types.Arc.{Arc}
 use Rattle.area_graph.specs.AreaInvariant.{IsArea}
 use Rattle.area_graph.specs.Parts.{AreaParts}
 use Rattle.primary_alt.specs.declared.beginnings.Beginning.{Beginning}
-use Rattle.primary_alt.specs.Attaining.{AreBetween}
-use Rattle.primary_alt.specs.Beginnings.{AreBeginnings}
-use Rattle.primary_alt.specs.LeastBeginnings.{AreLeast}
-use Rattle.primary_alt.specs.Onward.{CostInRow}
+use Rattle.primary_alt.specs.steps.Attaining.{AreBetween}
+use Rattle.primary_alt.specs.steps.Beginnings.{AreBeginnings}
+use Rattle.primary_alt.specs.steps.LeastBeginnings.{AreLeast}
+use Rattle.primary_alt.specs.steps.Onward.{CostInRow}
 use Rattle.primary_alt.proofs.AreaArcs.{arcs_between}
 use Rattle.primary_alt.proofs.BeginningsFound.{at_source, beginnings, cost_in_row}
 use Rattle.primary_alt.proofs.RouterFacts.{router_from}

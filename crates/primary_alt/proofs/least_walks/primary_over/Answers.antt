@@ -1,7 +1,7 @@
 use Rattle.std.proofs.Common.{◌≡◌, ◌∙◌, ℕ, List, Some, get_or, length, slice_get, sym, ap, subst, arith, true≢false}
 use Rattle.area_graph.specs.declared.area_types.Arc.{Arc}
 use Rattle.area_graph.specs.Parts.{AreaParts}
-use Rattle.primary_alt.specs.Beginnings.{IsFirst}
+use Rattle.primary_alt.specs.steps.Beginnings.{IsFirst}
 use Rattle.primary_alt.specs.Primaries.{IsPrimary}
 use Rattle.primary_alt.proofs.AreaArcs.{arcs_between}
 use Rattle.primary_alt.proofs.Beginning.{at_own, first_within, over_one, over_two, same_arc}

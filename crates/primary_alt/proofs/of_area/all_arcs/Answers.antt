@@ -2,7 +2,7 @@ use Rattle.std.proofs.Common.{◌≡◌, ◌==◌, ◌++◌, ◌∙◌, ℕ, Lis
 use Rattle.std.specs.List.{filter}
 use Rattle.std.proofs.Math.Seq.{take-length}
 use Rattle.area_graph.specs.declared.area_types.Arc.{Arc}
-use Rattle.area_graph.specs.Starts.{below}
+use Rattle.area_graph.specs.steps.Starts.{below}
 use Rattle.primary_alt.proofs.AreaArcs.{all_arcs_below, arcs_more}
 use Rattle.primary_alt.proofs.ArcStarts.{starts_at_zero}
 use Rattle.primary_alt.proofs.of_area.all_arcs.Goals as goal

@@ -1,5 +1,5 @@
 use Rattle.std.proofs.Common.{◌≡◌, length, take}
-use Rattle.area_graph.specs.Starts.{below}
+use Rattle.area_graph.specs.steps.Starts.{below}
 use Rattle.primary_alt.proofs.of_area.all_arcs.Given as goal
 
 abbrev pub invariant-loop-s : goal.invariant-loop-s

@@ -3,7 +3,7 @@ use Rattle.std.proofs.lemmas.Option.{slice_get_read}
 use Rattle.area_graph.specs.declared.area_types.Arc.{Arc}
 use Rattle.mrt_graph.proofs.Members.{contains_none}
 use Rattle.primary_alt.specs.declared.onward.Onward.{Onward}
-use Rattle.primary_alt.specs.Onward.{AreOnward}
+use Rattle.primary_alt.specs.steps.Onward.{AreOnward}
 use Rattle.primary_alt.proofs.OnwardFound.{one_left, one_onward, onward_all}
 use Rattle.primary_alt.proofs.onward.found.Goals as goal
 use Rattle.primary_alt.proofs.onward.found.Goals.{in-Some, in_default}

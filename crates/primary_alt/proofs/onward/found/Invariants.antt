@@ -1,5 +1,5 @@
 use Rattle.std.proofs.Common.{◌≤◌, length, vec_capacity, vec_len}
-use Rattle.primary_alt.specs.Onward.{AreOnward}
+use Rattle.primary_alt.specs.steps.Onward.{AreOnward}
 use Rattle.primary_alt.proofs.onward.found.Given as goal
 
 abbrev pub invariant-loop-number : goal.invariant-loop-number

@@ -2,7 +2,7 @@ use Rattle.std.proofs.Common.{◌≡◌, ◌≢◌, ◌+◌, ◌∙◌, ℕ, Lis
 use Rattle.std.proofs.lemmas.Option.{same_Some}
 use Rattle.area_graph.specs.declared.area_types.Arc.{Arc}
 use Rattle.primary_alt.specs.Distances.{HasDistance}
-use Rattle.primary_alt.specs.Onward.{IsOnward}
+use Rattle.primary_alt.specs.steps.Onward.{IsOnward}
 use Rattle.primary_alt.proofs.NumbersRead.{number_read, one_number, read_of}
 use Rattle.primary_alt.proofs.onward.sum_over.Goals as goal
 

@@ -2,7 +2,7 @@ use Rattle.std.proofs.Common.{◌≡◌, ◌<◌, ◌==◌, ◌∙◌, not, true
 use Rattle.std.specs.Prelude.{◌||◌}
 use Rattle.std.proofs.lemmas.List.{get_or_default}
 use Rattle.std.proofs.lemmas.Option.{slice_get_read}
-use Rattle.primary_alt.specs.FirstArcs.{IsFirstColumn, primary_over}
+use Rattle.primary_alt.specs.steps.FirstArcs.{IsFirstColumn, primary_over}
 use Rattle.primary_alt.specs.declared.shortest.Primary.{Primary}
 use Rattle.primary_alt.proofs.ColumnsRead.{stands}
 use Rattle.primary_alt.proofs.routes.primary_over.Goals as goal

@@ -3,7 +3,7 @@ use Rattle.std.proofs.lemmas.Result.{IfOk-weaker}
 use Rattle.mrt_graph.specs.Certificate.{Certificate}
 use Rattle.proxy_rows.specs.declared.words.Words.{Words}
 use Rattle.proxy_rows.specs.ProxyRows.{AreProxyRows, AreRowsOf}
-use Rattle.proxy_rows.specs.Words.{with_rows}
+use Rattle.proxy_rows.specs.steps.Words.{with_rows}
 use Rattle.proxy_rows.proofs.AnyRows.{read_with, whole}
 use Rattle.proxy_rows.proofs.rows.proxy_rows_at.Goals as goal
 

@@ -1,5 +1,5 @@
 use Rattle.std.proofs.Common.{◌≡◌, ℕ, length, refl, subst, arith}
-use Rattle.text_parts.specs.Adds.{Adds}
+use Rattle.text_parts.specs.steps.Adds.{Adds}
 use Rattle.text_parts.specs.Parts.{AreParts}
 use Rattle.text_parts.proofs.Adding.{nothing, one_part_more}
 use Rattle.proxy_rows.specs.ProxyText.{IsLine}

@@ -1,4 +1,4 @@
-use Rattle.text_parts.specs.Adds.{Adds}
+use Rattle.text_parts.specs.steps.Adds.{Adds}
 use Rattle.text_parts.specs.Parts.{AreParts}
 use Rattle.proxy_rows.specs.ProxyText.{IsLine}
 use Rattle.proxy_rows.proofs.text.push_lines.Given as goal

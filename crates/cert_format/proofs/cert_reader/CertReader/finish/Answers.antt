@@ -1,5 +1,5 @@
 use Rattle.std.proofs.Common.{subst}
-use Rattle.cert_format.specs.Steps.{Finishes}
+use Rattle.cert_format.specs.steps.Steps.{Finishes}
 use Rattle.cert_format.specs.Stream.{Progress}
 use Rattle.cert_format.proofs.Finished.{first_is_answered, spelled_is_read}
 use Rattle.cert_format.proofs.cert_reader.CertReader.finish.Goals as goal

@@ -5,7 +5,8 @@ use Rattle.mrt_graph.specs.declared.cert.CertLink.{CertLink}
 use Rattle.mrt_graph.specs.declared.cert.Row.{Row}
 use Rattle.mrt_graph.specs.declared.cert.CertFile.{CertFile}
 use Rattle.cert_format.specs.CertText.{cert_text}
-use Rattle.cert_format.specs.Putting.{Writer, begun, parts_text}
+use Rattle.cert_format.specs.Putting.{Writer}
+use Rattle.cert_format.specs.steps.Putting.{begun, parts_text}
 use Rattle.cert_format.proofs.Puttings.{all_size, wrote, wrote_failed}
 use Rattle.cert_format.proofs.SpellingLength.{longest_spelling}
 use Rattle.cert_format.proofs.cert_writer.CertWriter.put_file.Goals as goal

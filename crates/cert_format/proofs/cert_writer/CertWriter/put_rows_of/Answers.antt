@@ -5,7 +5,8 @@ use Rattle.std.proofs.lemmas.Option.{get_or_from_slice_get, slice_get_within}
 use Rattle.std.proofs.lemmas.Result.{err_from_is_err_and}
 use Rattle.std.specs.Prelude.{Some, slice_get}
 use Rattle.mrt_graph.specs.declared.cert.Row.{Row}
-use Rattle.cert_format.specs.CertText.{row_text, row_text_in}
+use Rattle.cert_format.specs.CertText.{row_text}
+use Rattle.cert_format.specs.steps.CertText.{row_text_in}
 use Rattle.cert_format.specs.Putting.{Puts, Writer}
 use Rattle.cert_format.proofs.FileRows.{near_same, rows_put, short_row}
 use Rattle.cert_format.proofs.Lists.{texts_next}

@@ -1,6 +1,6 @@
 use Rattle.std.proofs.Common.{refl}
 use Rattle.mrt_graph.specs.Certificate.{certificate_of}
-use Rattle.cert_format.specs.Steps.{parts_of}
+use Rattle.cert_format.specs.steps.Steps.{parts_of}
 use Rattle.cert_format.proofs.Finished.{file_one, file_two, none_one, one_certificate, parts_folded, some_two, whole_for}
 use Rattle.cert_format.proofs.kept.Kept.into_file.Goals as goal
 

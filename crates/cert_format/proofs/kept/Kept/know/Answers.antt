@@ -6,7 +6,7 @@ use Rattle.mrt_graph.specs.Kin.{Kin, kin_of}
 use Rattle.mrt_graph.specs.declared.cert.CertNode.{CertNode}
 use Rattle.mrt_graph.proofs.Members.{all_weaker}
 use Rattle.cert_format.specs.Folded.{head_fault}
-use Rattle.cert_format.specs.Reading.{IsNode}
+use Rattle.cert_format.specs.steps.Reading.{IsNode}
 use Rattle.cert_format.proofs.Files.{few_most_nodes}
 use Rattle.cert_format.proofs.kept.Kept.know.Goals as goal
 

@@ -1,6 +1,6 @@
 use Rattle.std.proofs.Common.{arith}
 use Rattle.std.proofs.lemmas.Result.{err_from_is_err_and}
-use Rattle.cert_format.specs.Steps.{parts_of}
+use Rattle.cert_format.specs.steps.Steps.{parts_of}
 use Rattle.cert_format.proofs.Files.{few_most_links}
 use Rattle.cert_format.proofs.GoesOn.{few_bytes, under}
 use Rattle.cert_format.proofs.Taking.{links_done, links_stop, place_then, reads_then, with_links}

@@ -1,7 +1,7 @@
 use Rattle.std.proofs.lemmas.Result.{err_from_is_err_and}
 use Rattle.std.proofs.Common.{◌<◌, Err, length, sym, ap, subst, ◌∙◌, arith}
-use Rattle.cert_format.specs.Reading.{IsNode}
-use Rattle.cert_format.specs.Steps.{AreParts, Parts, ReadsOn, TookParts, parts_of}
+use Rattle.cert_format.specs.steps.Reading.{IsNode}
+use Rattle.cert_format.specs.steps.Steps.{AreParts, Parts, ReadsOn, TookParts, parts_of}
 use Rattle.cert_format.proofs.Files.{few_most_nodes}
 use Rattle.cert_format.proofs.GoesOn.{few_bytes, under}
 use Rattle.cert_format.proofs.Taking.{first_more, heads_stop, nodes_done, nodes_stop, place_then, reads_then}

@@ -1,6 +1,6 @@
 use Rattle.std.proofs.Common.{refl}
 use Rattle.std.proofs.lemmas.Result.{err_from_is_err_and}
-use Rattle.cert_format.specs.Steps.{parts_of}
+use Rattle.cert_format.specs.steps.Steps.{parts_of}
 use Rattle.cert_format.proofs.Taking.{header_stops, header_took, place_then, reads_then, with_header}
 use Rattle.cert_format.proofs.kept.Kept.read_on.Goals as goal
 

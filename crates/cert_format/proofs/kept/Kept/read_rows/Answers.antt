@@ -3,8 +3,8 @@ use Rattle.std.proofs.lemmas.Result.{err_from_is_err_and}
 use Rattle.cert_format.specs.declared.error.CertError.TheVariants as errors
 use Rattle.cert_format.specs.CertText.{row_text}
 use Rattle.cert_format.specs.Layout.{row_form}
-use Rattle.cert_format.specs.Reading.{IsFileRow, ReadsList}
-use Rattle.cert_format.specs.Steps.{parts_of}
+use Rattle.cert_format.specs.steps.Reading.{IsFileRow, ReadsList}
+use Rattle.cert_format.specs.steps.Steps.{parts_of}
 use Rattle.cert_format.specs.Versions.{tag_count}
 use Rattle.cert_format.proofs.GoesOn.{few_bytes, few_in_file, under}
 use Rattle.cert_format.proofs.Taking.{end_stops, place_then, reads_then, rows_done, rows_stop, whole_read, with_rows}

@@ -1,7 +1,7 @@
 use Rattle.std.proofs.Common.{[], sym}
 use Rattle.std.proofs.lemmas.Bool.{ne_eqb}
 use Rattle.mrt_graph.specs.Certificate.{certificate_of}
-use Rattle.cert_format.specs.Steps.{parts_of}
+use Rattle.cert_format.specs.steps.Steps.{parts_of}
 use Rattle.cert_format.proofs.Finished.{none_one, some_two}
 use Rattle.cert_format.proofs.GoesOn.{under}
 use Rattle.cert_format.proofs.kept.Kept.row_count.Goals as goal

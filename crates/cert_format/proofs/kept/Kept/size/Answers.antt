@@ -1,5 +1,5 @@
 use Rattle.std.proofs.Common.{◌∙◌, arith}
-use Rattle.cert_format.specs.Steps.{parts_of}
+use Rattle.cert_format.specs.steps.Steps.{parts_of}
 use Rattle.cert_format.proofs.GoesOn.{are_few, parts_length}
 use Rattle.cert_format.proofs.kept.Kept.size.Goals as goal
 

@@ -2,7 +2,7 @@ use Rattle.std.proofs.Common.{length, subst, arith}
 use Rattle.mrt_graph.specs.declared.cert.CertFile.{CertFile}
 use Rattle.cert_format.specs.CertText.{cert_text}
 use Rattle.cert_format.specs.Limits.{IsCertFile}
-use Rattle.cert_format.specs.Putting.{Wrote}
+use Rattle.cert_format.specs.steps.Putting.{Wrote}
 use Rattle.cert_format.proofs.putting.WritableCert.put.Goals as goal
 
 pub returns : goal.returns

@@ -1,6 +1,6 @@
 use Rattle.std.proofs.Common.{◌≡◌, ℕ, List, [], Some, Ok, refl, sym, subst}
 use Rattle.cert_format.specs.declared.error.CertKind.TheVariants.{Truncated}
-use Rattle.cert_format.specs.Steps.{AreReading, Parts, no_parts, progress_by}
+use Rattle.cert_format.specs.steps.Steps.{AreReading, Parts, no_parts, progress_by}
 use Rattle.cert_format.proofs.Streams.{at_front}
 use Rattle.cert_format.proofs.state.State.new.Goals as goal
 

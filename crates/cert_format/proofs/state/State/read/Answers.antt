@@ -1,5 +1,5 @@
 use Rattle.std.proofs.Common.{◌∙◌, ◌++◌, List, ℕ, Ok, ap}
-use Rattle.cert_format.specs.Steps.{parts_of, text_of}
+use Rattle.cert_format.specs.steps.Steps.{parts_of, text_of}
 use Rattle.cert_format.proofs.Streams.{whole_seen}
 use Rattle.cert_format.proofs.state.State.read.Goals as goal
 

@@ -1,5 +1,5 @@
 use Rattle.std.proofs.Common.{◌∙◌, ◌++◌, ◌∷◌, [], List, ℕ, ap}
-use Rattle.cert_format.specs.Steps.{parts_of, progress_of, text_of}
+use Rattle.cert_format.specs.steps.Steps.{parts_of, progress_of, text_of}
 use Rattle.cert_format.specs.Stream.{seen}
 use Rattle.cert_format.proofs.Streams.{if_ok, more_parts, more_progress, read_at_once}
 use Rattle.cert_format.proofs.state.State.read_byte.Goals as goal

@@ -1,6 +1,6 @@
 use Rattle.std.proofs.Common.{◌∙◌, refl, ap, sym}
 use Rattle.std.proofs.lemmas.List.{nil_from_length}
-use Rattle.cert_format.specs.Steps.{parts_of, progress_of, text_of}
+use Rattle.cert_format.specs.steps.Steps.{parts_of, progress_of, text_of}
 use Rattle.cert_format.specs.Stream.{fed}
 use Rattle.cert_format.proofs.Streams.{byte_then, failed_stays, if_ok, more_parts, more_progress, read_empty, stays}
 use Rattle.cert_format.proofs.Taking.{grew_none, grew_then}

@@ -1,5 +1,5 @@
 use Rattle.std.proofs.Common.{◌≡◌, length}
-use Rattle.cert_format.specs.Steps.{Grew, IsReading, parts_of, progress_of}
+use Rattle.cert_format.specs.steps.Steps.{Grew, IsReading, parts_of, progress_of}
 use Rattle.cert_format.specs.Stream.{fed}
 use Rattle.cert_format.proofs.state.State.read_on.Given as goal
 

@@ -1,8 +1,8 @@
 use Rattle.std.proofs.Common.{◌≡◌, ◌∙◌, ◌-◌, ◌++◌, ℕ, List, drop, length, take, sym, ap}
 use Rattle.std.proofs.lemmas.List.{take_rest}
 use Rattle.std.proofs.lemmas.Bool.{both_ways}
-use Rattle.cert_format.specs.Reading.{rest_of}
-use Rattle.cert_format.specs.Steps.{parts_of}
+use Rattle.cert_format.specs.steps.Reading.{rest_of}
+use Rattle.cert_format.specs.steps.Steps.{parts_of}
 use Rattle.cert_format.specs.Stream.{is_cut}
 use Rattle.cert_format.proofs.Streams.{cut_seen, failed_told, left_is}
 use Rattle.cert_format.proofs.state.State.stop.Goals as goal

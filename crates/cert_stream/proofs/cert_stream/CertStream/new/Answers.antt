@@ -11,7 +11,7 @@ use Rattle.mrt_rows.specs.CertOf.{IsCertOf}
 use Rattle.cert_format.specs.CertText.{header_text}
 use Rattle.cert_format.specs.Limits.{HasNumber, IsCertFile}
 use Rattle.cert_format.specs.Putting.{Writer}
-use Rattle.cert_stream.specs.Stream.{AreOfFile}
+use Rattle.cert_stream.specs.steps.Stream.{AreOfFile}
 use Rattle.cert_stream.proofs.Whole.{file_within}
 use Rattle.cert_stream.proofs.cert_stream.CertStream.new.Goals as goal
 

@@ -3,7 +3,8 @@ use Rattle.std.proofs.lemmas.Option.{get_or_from_slice_get}
 use Rattle.fabric.specs.Answers.{Answered, HasEnded, NoPacket}
 use Rattle.fabric.specs.OutcomeText.{IsTellable}
 use Rattle.fabric.specs.Served.{IsServedBy}
-use Rattle.fabric.specs.Viewed.{FabricSeen, viewed}
+use Rattle.fabric.specs.Viewed.{FabricSeen}
+use Rattle.fabric.specs.steps.Viewed.{viewed}
 use Rattle.fabric.proofs.Destinations.{each_handled}
 use Rattle.fabric.proofs.KeptStates.{kept_handled}
 use Rattle.fabric.proofs.PacketChains.{outcome_tellable}

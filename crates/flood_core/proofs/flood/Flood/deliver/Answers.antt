@@ -12,7 +12,7 @@ use Rattle.flood_core.specs.declared.update.Update.{Update}
 use Rattle.flood_core.specs.FloodState.{FloodState}
 use Rattle.flood_core.specs.Routers.{Router}
 use Rattle.flood_core.specs.FloodStep.{answer_of, delivered, reached}
-use Rattle.flood_core.specs.Numbers.{flood_in, router_in, update_in}
+use Rattle.flood_core.specs.steps.Numbers.{flood_in, router_in, update_in}
 use Rattle.flood_core.proofs.NumberedDelivery.{HasReceived, answer_on, deliverable, few_new, flood_on, not_refused, received_of, sent_of_new, state_on}
 use Rattle.flood_core.proofs.flood.Flood.deliver.Goals.{In_ok-news, Then-as_slice-from, Then-as_slice-packet}
 use Rattle.flood_core.proofs.flood.Flood.deliver.Goals as goal

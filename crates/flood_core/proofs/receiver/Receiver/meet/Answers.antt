@@ -1,7 +1,7 @@
 use Rattle.std.proofs.Common.{◌<◌, ◌∷◌, [], ◌∙◌, ℕ, length, sym, ap, subst}
 use Rattle.std.proofs.lemmas.List.{map-append}
 use Rattle.mrt_graph.proofs.Members.{all_append}
-use Rattle.flood_core.specs.Numbers.{lsa_in, lsas_by, router_in, AreNumbers}
+use Rattle.flood_core.specs.steps.Numbers.{lsa_in, lsas_by, router_in, AreNumbers}
 use Rattle.flood_core.proofs.InTurn.{arrived_one, kept_one, no_news, passed_over, some_news}
 use Rattle.flood_core.proofs.receiver.Receiver.meet.Goals as goal
 

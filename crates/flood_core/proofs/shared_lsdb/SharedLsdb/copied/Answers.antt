@@ -2,7 +2,7 @@ use Rattle.std.proofs.Common.{◌≡◌, ◌∙◌, [], ap, subst}
 use Rattle.lsdb.specs.Entries.{Database}
 use Rattle.lsdb.specs.Installs.{all_installed}
 use Rattle.flood_core.specs.Runs.{numbered}
-use Rattle.flood_core.specs.SharedStore.{IsSharedStore, lsas_in}
+use Rattle.flood_core.specs.steps.SharedStore.{IsSharedStore, lsas_in}
 use Rattle.flood_core.proofs.Copies.{copied_lsas, copied_of_the_same, copied_placeless, copied_settled}
 use Rattle.flood_core.proofs.shared_lsdb.SharedLsdb.copied.Goals as goal
 

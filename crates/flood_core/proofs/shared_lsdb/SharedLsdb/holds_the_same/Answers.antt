@@ -1,8 +1,8 @@
 use Rattle.std.proofs.Common.{◌∙◌, sym, ap, subst, map}
 use Rattle.lsdb.specs.Entries.{Database, Entry}
 use Rattle.lsdb.specs.Orders.{without_place}
-use Rattle.flood_core.specs.Numbers.{entries_by}
-use Rattle.flood_core.specs.SharedStore.{IsSharedStore}
+use Rattle.flood_core.specs.steps.Numbers.{entries_by}
+use Rattle.flood_core.specs.steps.SharedStore.{IsSharedStore}
 use Rattle.flood_core.proofs.Copies.{of_the_same, placeless_in}
 use Rattle.flood_core.proofs.shared_lsdb.SharedLsdb.holds_the_same.Goals as goal
 

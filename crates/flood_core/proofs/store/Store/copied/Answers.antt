@@ -4,7 +4,7 @@ use Rattle.ospf_lsa.specs.declared.lsa.Lsa.{Lsa}
 use Rattle.lsdb.specs.Installing.{IsBehind}
 use Rattle.flood_core.specs.declared.held.Held.{Held}
 use Rattle.flood_core.specs.Runs.{last_number}
-use Rattle.flood_core.specs.Numbers.{entries_by, entry_in}
+use Rattle.flood_core.specs.steps.Numbers.{entries_by, entry_in}
 use Rattle.flood_core.proofs.Copies.{behind_last, copied_all, copied_more, kept_copy}
 use Rattle.flood_core.proofs.Numbered.{all_at, entry_read}
 use Rattle.flood_core.proofs.store.Store.copied.Goals as goal

@@ -1,4 +1,4 @@
-use Rattle.flood_core.specs.Numbers.{entries_by}
+use Rattle.flood_core.specs.steps.Numbers.{entries_by}
 use Rattle.flood_core.proofs.Copies.{AreCopied}
 use Rattle.flood_core.proofs.store.Store.copied.Given as goal
 

@@ -4,8 +4,8 @@ use Rattle.mrt_graph.proofs.Members.{all_append}
 use Rattle.lsdb.specs.Entries.{Database, Entry}
 use Rattle.lsdb.specs.Keys.{key_of}
 use Rattle.flood_core.specs.declared.held.Held.{Held}
-use Rattle.flood_core.specs.Numbers.{entries_by}
-use Rattle.flood_core.specs.SharedStore.{IsSharedStore}
+use Rattle.flood_core.specs.steps.Numbers.{entries_by}
+use Rattle.flood_core.specs.steps.SharedStore.{IsSharedStore}
 use Rattle.flood_core.proofs.Numbered.{all_at, lsa_read}
 use Rattle.flood_core.proofs.OneDelivery.{all_set}
 use Rattle.flood_core.proofs.Stored.{met_by, new_by, there_by}

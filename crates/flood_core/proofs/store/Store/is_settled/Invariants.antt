@@ -1,7 +1,7 @@
 use Rattle.std.proofs.Common.{◌≡◌, List, drop}
 use Rattle.ospf_lsa.specs.declared.lsa.Lsa.{Lsa}
 use Rattle.lsdb.specs.Conflicts.{least_conflict}
-use Rattle.flood_core.specs.Numbers.{entries_by}
+use Rattle.flood_core.specs.steps.Numbers.{entries_by}
 use Rattle.flood_core.proofs.store.Store.is_settled.Given as goal
 
 abbrev pub invariant-loop-held : goal.invariant-loop-held

@@ -1,5 +1,5 @@
 use Rattle.std.proofs.Common.{inr, subst}
-use Rattle.flood_verdict.specs.Found.{IsFound}
+use Rattle.flood_verdict.specs.steps.Found.{IsFound}
 use Rattle.flood_verdict.proofs.Comparing.{same_told, told}
 use Rattle.flood_verdict.proofs.by_island.ByIslandCompare.compare.Goals as goal
 

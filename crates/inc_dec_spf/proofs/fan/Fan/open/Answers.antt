@@ -3,8 +3,9 @@ use Rattle.std.specs.Vec.{with_items}
 use Rattle.std.proofs.lemmas.List.{with_items_is}
 use Rattle.inc_dec_spf.specs.declared.fan.Opening.{Opening}
 use Rattle.inc_dec_spf.specs.Fan.{IsOpen}
-use Rattle.inc_dec_spf.specs.FanEntries.{FanEntries, fan_entries}
-use Rattle.inc_dec_spf.specs.Opening.{AreFirstOffered, AreStops}
+use Rattle.inc_dec_spf.specs.FanEntries.{FanEntries}
+use Rattle.inc_dec_spf.specs.steps.FanEntries.{fan_entries}
+use Rattle.inc_dec_spf.specs.steps.Opening.{AreFirstOffered, AreStops}
 use Rattle.inc_dec_spf.proofs.fan.Fan.open.Goals as goal
 
 pub begin-requires-clause-costs : goal.begin-requires-clause-costs

@@ -4,11 +4,12 @@ use Rattle.std.proofs.lemmas.Bool.{cases_Bool, cases_eq, false≢true}
 use Rattle.std.proofs.lemmas.List.{with_items_is}
 use Rattle.std.proofs.lemmas.Option.{same_Some, slice_get-get_or}
 use Rattle.mrt_graph.proofs.EndsAt.{list_of_ends}
-use Rattle.inc_dec_spf.specs.Aiming.{HaveOwnWays, IsAiming}
+use Rattle.inc_dec_spf.specs.steps.Aiming.{HaveOwnWays}
+use Rattle.inc_dec_spf.specs.Aiming.{IsAiming}
 use Rattle.inc_dec_spf.specs.FirstLink.{HasLinksAt}
-use Rattle.inc_dec_spf.specs.Side.{AreCosts, IsRowPut}
+use Rattle.inc_dec_spf.specs.steps.Side.{AreCosts, IsRowPut}
 use Rattle.inc_dec_spf.specs.TileEntries.{TileEntries}
-use Rattle.inc_dec_spf.specs.Ways.{AreLeast, AreReady}
+use Rattle.inc_dec_spf.specs.steps.Ways.{AreLeast, AreReady}
 use Rattle.link_direction.proofs.ClosedBlocks.{IsOrdered}
 use Rattle.inc_dec_spf.proofs.FirstLinks.{links_kept, links_stay}
 use Rattle.inc_dec_spf.proofs.OwnWays.{all_ready}

@@ -1,9 +1,9 @@
 use Rattle.std.proofs.Common.{◌≡◌, ◌⊎◌, ◌<◌, ℕ, true, Some, length, slice_get}
 use Rattle.link_direction.specs.Directions.{Directions}
-use Rattle.inc_dec_spf.specs.Aiming.{HaveOwnWays}
+use Rattle.inc_dec_spf.specs.steps.Aiming.{HaveOwnWays}
 use Rattle.inc_dec_spf.specs.FirstLink.{HasLinksAt, LiesInOneBlock}
 use Rattle.inc_dec_spf.specs.HasDirections.{AreDirections}
-use Rattle.inc_dec_spf.specs.TileEntries.{AreTileEntries}
+use Rattle.inc_dec_spf.specs.steps.TileEntries.{AreTileEntries}
 use Rattle.inc_dec_spf.proofs.tile.Tile.aim.Given as goal
 
 abbrev pub invariant-loop-n : goal.invariant-loop-n

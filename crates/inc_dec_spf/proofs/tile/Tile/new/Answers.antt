@@ -1,5 +1,5 @@
 use Rattle.std.proofs.Common.{◌≡◌, ◌*◌, ◌∙◌, ℕ, length, sym, ap, subst}
-use Rattle.inc_dec_spf.specs.Side.{AreCosts}
+use Rattle.inc_dec_spf.specs.steps.Side.{AreCosts}
 use Rattle.inc_dec_spf.proofs.SideBySide.{far_costs}
 use Rattle.inc_dec_spf.proofs.tile.Tile.new.Goals as goal
 

@@ -2,7 +2,7 @@ use Rattle.std.proofs.Common.{◌≡◌, ◌∙◌, ℕ, List, ap, arith, length
 use Rattle.ospf_lsa.specs.declared.lsa.Lsa.{Lsa}
 use Rattle.lsdb.specs.Entries.{Database}
 use Rattle.lsdb.specs.Installing.{installed}
-use Rattle.lsdb.specs.Store.{entries_of}
+use Rattle.lsdb.specs.steps.Store.{entries_of}
 use Rattle.lsdb.proofs.Fronts.{cut_back, one_more}
 use Rattle.lsdb.proofs.lsdb.Lsdb.install.Goals as goal
 

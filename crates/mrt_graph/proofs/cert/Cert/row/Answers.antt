@@ -2,7 +2,7 @@ use Rattle.std.proofs.Common.{◌≡◌, ◌<◌, ◌∙◌, [], List, length, s
 use Rattle.mrt_graph.specs.declared.cert.CertNode.{CertNode}
 use Rattle.mrt_graph.specs.declared.cert.Row.{Row}
 use Rattle.mrt_graph.specs.Certificate.{Certificate, certificate_of}
-use Rattle.mrt_graph.specs.FoldedRows.{unfolded_row}
+use Rattle.mrt_graph.specs.steps.FoldedRows.{unfolded_row}
 use Rattle.mrt_graph.proofs.HeldRows.{folded_row, kept, nodes_held, row_kept}
 use Rattle.mrt_graph.proofs.cert.Cert.row.Goals as goal
 

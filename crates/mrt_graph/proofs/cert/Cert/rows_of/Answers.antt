@@ -1,7 +1,7 @@
 use Rattle.std.proofs.Common.{None, List, Option, Some, sym, subst}
 use Rattle.mrt_graph.specs.declared.cert.Row.{Row}
 use Rattle.mrt_graph.specs.Kin.{Kin}
-use Rattle.mrt_graph.specs.NodeRows.{AreHeldRows}
+use Rattle.mrt_graph.specs.steps.NodeRows.{AreHeldRows}
 use Rattle.mrt_graph.proofs.HeldRows.{held_of}
 use Rattle.mrt_graph.proofs.cert.Cert.rows_of.Goals as goal
 

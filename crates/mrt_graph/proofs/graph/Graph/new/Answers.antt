@@ -2,7 +2,7 @@ use Rattle.std.proofs.Common.{◌≡◌, ◌∙◌, ◌≤◌, ◌↔◌, ℕ, L
 use Rattle.mrt_graph.specs.declared.graph_error.GraphError.{GraphError}
 use Rattle.mrt_graph.specs.declared.link.LinkIn.{LinkIn}
 use Rattle.mrt_graph.specs.EndsOfLinks.{pair_of}
-use Rattle.mrt_graph.specs.GraphInvariant.{lists_of}
+use Rattle.mrt_graph.specs.steps.GraphInvariant.{lists_of}
 use Rattle.mrt_graph.specs.NewGraph.{IsTooLarge, too_large}
 use Rattle.mrt_graph.proofs.graph.Graph.new.Goals as goal
 use Rattle.mrt_graph.proofs.MadeGraph.{made_keeps, within_of}

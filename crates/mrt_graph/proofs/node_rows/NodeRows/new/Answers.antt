@@ -4,7 +4,7 @@ use Rattle.mrt_graph.specs.declared.cert.CertNode.{CertNode}
 use Rattle.mrt_graph.specs.declared.cert.Row.{Row}
 use Rattle.mrt_graph.specs.Certificate.{Certificate}
 use Rattle.mrt_graph.specs.Kin.{Kin}
-use Rattle.mrt_graph.specs.NodeRows.{AreHeldRows}
+use Rattle.mrt_graph.specs.steps.NodeRows.{AreHeldRows}
 use Rattle.mrt_graph.proofs.HeldRows.{index_is}
 use Rattle.mrt_graph.proofs.KinOf.{blocks_count}
 use Rattle.mrt_graph.proofs.node_rows.NodeRows.new.Goals as goal

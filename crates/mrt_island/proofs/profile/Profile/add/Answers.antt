@@ -7,7 +7,7 @@ use Rattle.indexmap.proofs.CallerLemmas.{insert_entry-new}
 use Rattle.mrt_island.proofs.Stores.{same, kept_same, kept_more}
 use Rattle.mrt_island.specs.declared.setting.Setting.{Setting}
 use Rattle.mrt_island.specs.declared.setting.Subject.{Subject}
-use Rattle.mrt_island.specs.ProfileStore.{settings_kept}
+use Rattle.mrt_island.specs.steps.ProfileStore.{settings_kept}
 use Rattle.mrt_island.specs.Settings.{same_subject}
 use Rattle.mrt_island.proofs.profile.Profile.add.Goals as goal
 

@@ -1,7 +1,7 @@
 use Rattle.std.proofs.Common.{◌∙◌, ℕ, List, Option, length, sym, ap, subst}
 use Rattle.std.proofs.lemmas.List.{with_items_is}
 use Rattle.mrt_rows.specs.Chain.{AreBelow}
-use Rattle.mrt_rows.specs.Said.{words_of}
+use Rattle.mrt_rows.specs.steps.Said.{words_of}
 use Rattle.mrt_rows.proofs.HeldColumns.{climbed}
 use Rattle.mrt_rows.proofs.column.Columns.aim.Goals as goal
 

@@ -5,7 +5,7 @@ use Rattle.inc_dec_spf.specs.declared.reach.Dir.TheVariants.{Down, Up}
 use Rattle.inc_dec_spf.specs.Turns.{AreTurns}
 use Rattle.mrt_rows.specs.NearOf.{AreSoles}
 use Rattle.mrt_rows.specs.Put.{AreHeadsMarked}
-use Rattle.mrt_rows.specs.Said.{words_of}
+use Rattle.mrt_rows.specs.steps.Said.{words_of}
 use Rattle.mrt_rows.proofs.HeldColumns.{aims_moved, shared_moved}
 use Rattle.mrt_rows.proofs.column.Columns.aim_tiles.Goals as goal
 

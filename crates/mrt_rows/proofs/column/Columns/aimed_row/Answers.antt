@@ -1,8 +1,8 @@
 use Rattle.std.proofs.Common.{◌≡◌, ◌≢◌, ◌∙◌, ℕ, Some, sym, ap, subst}
 use Rattle.std.proofs.lemmas.Bool.{eqb-false, eqb-true}
-use Rattle.mrt_rows.specs.NearOf.{IsNearRow}
+use Rattle.mrt_rows.specs.steps.NearOf.{IsNearRow}
 use Rattle.mrt_rows.specs.Put.{AreFirstLinks}
-use Rattle.mrt_rows.specs.Said.{words_of}
+use Rattle.mrt_rows.specs.steps.Said.{words_of}
 use Rattle.mrt_rows.proofs.ChainAims.{aim_apart, aim_within}
 use Rattle.mrt_rows.proofs.Rooting.{og_of}
 use Rattle.mrt_rows.proofs.column.Columns.aimed_row.Goals as goal

@@ -1,9 +1,9 @@
 use Rattle.std.proofs.Common.{◌≢◌, ◌∙◌, Option, Some, sym, subst}
 use Rattle.std.proofs.lemmas.Bool.{eqb-false, eqb-true}
 use Rattle.mrt_graph.specs.declared.cert.Row.{Row}
-use Rattle.mrt_rows.specs.ColumnOf.{IsRowIn}
-use Rattle.mrt_rows.specs.NearOf.{IsNearRow}
-use Rattle.mrt_rows.specs.Said.{words_of}
+use Rattle.mrt_rows.specs.steps.ColumnOf.{IsRowIn}
+use Rattle.mrt_rows.specs.steps.NearOf.{IsNearRow}
+use Rattle.mrt_rows.specs.steps.Said.{words_of}
 use Rattle.mrt_rows.proofs.ChainAims.{aim_apart}
 use Rattle.mrt_rows.proofs.ColumnRows.{row_at_aim, row_from_aim, some_near}
 use Rattle.mrt_rows.proofs.Rooting.{og_of}

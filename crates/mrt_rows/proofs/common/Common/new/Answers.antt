@@ -4,7 +4,7 @@ use Rattle.inc_dec_spf.specs.declared.reach.Dir.TheVariants.{Down, Up}
 use Rattle.inc_dec_spf.specs.Turns.{AreTurns}
 use Rattle.mrt_rows.specs.NearOf.{AreSoles}
 use Rattle.mrt_rows.specs.Put.{AreHeadsMarked}
-use Rattle.mrt_rows.specs.Said.{words_of}
+use Rattle.mrt_rows.specs.steps.Said.{words_of}
 use Rattle.mrt_rows.proofs.Rooting.{are_directions, has_directions}
 use Rattle.mrt_rows.proofs.common.Common.new.Goals as goal
 

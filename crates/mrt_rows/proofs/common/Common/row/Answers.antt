@@ -1,7 +1,7 @@
 use Rattle.std.proofs.Common.{ℕ, Some, subst, arith}
 use Rattle.link_direction.proofs.TwoNodes.{Relates}
-use Rattle.mrt_rows.specs.NearOf.{Apart, IsNearRow}
-use Rattle.mrt_rows.specs.Said.{words_of}
+use Rattle.mrt_rows.specs.steps.NearOf.{Apart, IsNearRow}
+use Rattle.mrt_rows.specs.steps.Said.{words_of}
 use Rattle.mrt_rows.proofs.LinesHold.{has_head}
 use Rattle.mrt_rows.proofs.Rooting.{og_of}
 use Rattle.mrt_rows.proofs.RowOver.{over_peers, over_top, relates_by}

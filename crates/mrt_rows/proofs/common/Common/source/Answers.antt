@@ -1,5 +1,5 @@
 use Rattle.std.proofs.Common.{arith}
-use Rattle.mrt_rows.specs.Said.{words_of}
+use Rattle.mrt_rows.specs.steps.Said.{words_of}
 use Rattle.mrt_rows.proofs.SoleRows.{sole_at}
 use Rattle.mrt_rows.proofs.TileLinks.{have_place}
 use Rattle.mrt_rows.proofs.common.Common.source.Goals as goal

@@ -1,6 +1,6 @@
 use Rattle.std.proofs.Common.{arith}
 use Rattle.link_direction.proofs.TwoNodes.{place_says}
-use Rattle.mrt_rows.specs.Said.{words_of}
+use Rattle.mrt_rows.specs.steps.Said.{words_of}
 use Rattle.mrt_rows.proofs.directed.Rooted.place.Goals as goal
 
 pub place-requires : goal.place-requires

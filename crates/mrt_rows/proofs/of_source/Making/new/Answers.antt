@@ -4,7 +4,7 @@ use Rattle.inc_dec_spf.specs.Fan.{IsOpen}
 use Rattle.inc_dec_spf.specs.FanEntries.{FanEntries}
 use Rattle.link_direction.specs.Directions.{Directions}
 use Rattle.mrt_graph.specs.Topology.{Topology}
-use Rattle.mrt_rows.specs.Said.{words_of}
+use Rattle.mrt_rows.specs.steps.Said.{words_of}
 use Rattle.mrt_rows.proofs.of_source.Making.new.Goals as goal
 
 -- a fan is open from no node

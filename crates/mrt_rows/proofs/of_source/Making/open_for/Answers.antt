@@ -3,7 +3,7 @@ use Rattle.std.proofs.Math.Nat.{mod-lt}
 use Rattle.inc_dec_spf.specs.declared.reach.Dir.TheVariants.{Down, Up}
 use Rattle.inc_dec_spf.specs.Fan.{IsOpen}
 use Rattle.inc_dec_spf.specs.Turns.{AreTurns}
-use Rattle.mrt_rows.specs.Said.{words_of}
+use Rattle.mrt_rows.specs.steps.Said.{words_of}
 use Rattle.mrt_rows.proofs.Rooting.{are_directions, has_directions, turns_too}
 use Rattle.mrt_rows.proofs.of_source.Making.open_for.Goals.{then-is_open_from-via-then-is_open_from, then-is_open_from-via-else-is_open_from+then-not-is_among_more}
 use Rattle.mrt_rows.proofs.of_source.Making.open_for.Goals as goal

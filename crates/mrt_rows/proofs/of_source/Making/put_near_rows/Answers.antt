@@ -1,8 +1,8 @@
 use Rattle.std.proofs.Common.{◌≡◌, ◌≢◌, ◌∙◌, ◌<◌, ◌+◌, ℕ, Option, length, length-set, set, take, sym, subst, arith}
 use Rattle.mrt_graph.specs.declared.cert.Row.{Row}
-use Rattle.mrt_rows.specs.Making.{IsOpenFor}
-use Rattle.mrt_rows.specs.NearOf.{IsNearRow, near_first}
-use Rattle.mrt_rows.specs.Said.{words_of}
+use Rattle.mrt_rows.specs.steps.Making.{IsOpenFor}
+use Rattle.mrt_rows.specs.steps.NearOf.{IsNearRow, near_first}
+use Rattle.mrt_rows.specs.steps.Said.{words_of}
 use Rattle.mrt_rows.proofs.NearFound.{differ_by, none_found, own_found, same_by, some_found}
 use Rattle.mrt_rows.proofs.Rooting.{og_of}
 use Rattle.mrt_rows.proofs.of_source.Making.put_near_rows.Goals as goal

@@ -1,8 +1,8 @@
 use Rattle.std.proofs.Common.{◌≡◌, ◌≢◌, ◌<◌, ◌≤◌, ℕ, Option, None, length, take}
 use Rattle.mrt_graph.specs.declared.cert.Row.{Row}
-use Rattle.mrt_rows.specs.NearOf.{near_first}
+use Rattle.mrt_rows.specs.steps.NearOf.{near_first}
 use Rattle.mrt_rows.specs.RowsOf.{HasRow}
-use Rattle.mrt_rows.specs.Said.{words_of}
+use Rattle.mrt_rows.specs.steps.Said.{words_of}
 use Rattle.mrt_rows.proofs.of_source.Making.put_near_rows.Given as goal
 
 abbrev pub invariant-loop-n : goal.invariant-loop-n

@@ -1,6 +1,6 @@
 use Rattle.std.proofs.Common.{◌∙◌, sym}
-use Rattle.mrt_rows.specs.NearOf.{Apart}
-use Rattle.mrt_rows.specs.Said.{words_of}
+use Rattle.mrt_rows.specs.steps.NearOf.{Apart}
+use Rattle.mrt_rows.specs.steps.Said.{words_of}
 use Rattle.mrt_rows.proofs.RowOver.{apart_by, relates_by}
 use Rattle.mrt_rows.proofs.of_source.Making.row.Goals as goal
 

@@ -4,7 +4,7 @@ use Rattle.mrt_graph.specs.declared.cert.Row.{Row}
 use Rattle.mrt_graph.specs.Certificate.{row_of}
 use Rattle.mrt_rows.specs.CertOf.{IsCertOf}
 use Rattle.mrt_rows.specs.Making.{MakeRows}
-use Rattle.mrt_rows.specs.NearOf.{near_first}
+use Rattle.mrt_rows.specs.steps.NearOf.{near_first}
 use Rattle.mrt_rows.specs.RowsFound.{RowsFound}
 use Rattle.mrt_rows.proofs.NearSection.{all_near, none_for_itself}
 use Rattle.mrt_rows.proofs.SourceCert.{told_by}

@@ -5,7 +5,7 @@ use Rattle.inc_dec_spf.specs.declared.reach.Dir.{Dir}
 use Rattle.inc_dec_spf.specs.declared.reach.Dir.TheVariants.{Down, Up}
 use Rattle.inc_dec_spf.specs.Tile.{IsAimed}
 use Rattle.inc_dec_spf.specs.TileEntries.{TileEntries}
-use Rattle.mrt_rows.specs.Said.{words_of}
+use Rattle.mrt_rows.specs.steps.Said.{words_of}
 use Rattle.mrt_rows.proofs.Rooting.{are_directions, has_directions, og_of, turns_too}
 use Rattle.mrt_rows.proofs.Sharing.{others_in_one_block}
 use Rattle.mrt_rows.proofs.tiles.Tiles.aim.Goals as goal

@@ -1,6 +1,6 @@
 use Rattle.std.proofs.Common.{rules, ◌≡◌, ◌∙◌, ℕ, List, length, replicate, ap, sym, subst, arith}
 use Rattle.std.proofs.lemmas.List.{length-replicate}
-use Rattle.order_repair.specs.Blocks.{AreChains}
+use Rattle.order_repair.specs.steps.Blocks.{AreChains}
 use Rattle.order_repair.proofs.Chained.{no_chain}
 use Rattle.order_repair.proofs.chains.Chains.new.Goals as goal
 

@@ -1,5 +1,5 @@
 use Rattle.std.proofs.Common.{◌≡◌, ◌≤◌, length}
-use Rattle.order_repair.specs.Blocks.{AreChains}
+use Rattle.order_repair.specs.steps.Blocks.{AreChains}
 use Rattle.order_repair.proofs.chains.Chains.new.Given as goal
 
 abbrev pub invariant-loop-at : goal.invariant-loop-at

@@ -1,6 +1,6 @@
 use Rattle.std.proofs.Common.{◌+◌, ◌-◌, ℕ, List, ap, drop, length, subst, sym, take, arith}
 use Rattle.area_graph.specs.declared.area_types.Arc.{Arc}
-use Rattle.primary_alt.specs.ArcsInto.{AreInto}
+use Rattle.primary_alt.specs.steps.ArcsInto.{AreInto}
 use Rattle.primary_alt.proofs.RowsInto.{row_into, start_read, starts_climb}
 use Rattle.primary_alt.proofs.arcs_into.ArcsInto.row.Goals as goal
 

@@ -3,7 +3,7 @@ use Rattle.std.specs.Prelude.{unwrap_or}
 use Rattle.std.specs.Option.{option_and_then}
 use Rattle.std.proofs.lemmas.Option.{get_or_from_slice_get, slice_get_read}
 use Rattle.primary_alt.specs.declared.shortest.Primary.{Primary}
-use Rattle.primary_alt.specs.FirstArcs.{IsFirstColumn, IsTable, columns_of, primary_by}
+use Rattle.primary_alt.specs.steps.FirstArcs.{IsFirstColumn, IsTable, columns_of, primary_by}
 use Rattle.primary_alt.specs.RouteLists.{RouteLists, primary_at}
 use Rattle.primary_alt.proofs.ColumnsRead.{many_columns, primary_seen}
 use Rattle.primary_alt.proofs.RoutesGiven.{none_exactly}

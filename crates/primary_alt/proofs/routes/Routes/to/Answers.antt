@@ -1,5 +1,5 @@
 use Rattle.std.proofs.Common.{◌≡◌, ◌∙◌, ℕ, Bool, List, Option, refl, sym, ap, subst}
-use Rattle.primary_alt.specs.FirstArcs.{IsTable}
+use Rattle.primary_alt.specs.steps.FirstArcs.{IsTable}
 use Rattle.primary_alt.specs.RoutesMade.{AreAreaNodes}
 use Rattle.primary_alt.proofs.ColumnsGive.{has_columns, is_table, leads_of, made, networks_of}
 use Rattle.primary_alt.proofs.routes.Routes.to.Goals as goal

@@ -1,0 +1,9 @@
+pub mod Listed
+pub mod NumberedArcs
+pub mod NumberedArea
+pub mod NumberedBonds
+pub mod NumberedEntries
+pub mod Pairing
+pub mod Speaking
+pub mod Starts
+pub mod Ways

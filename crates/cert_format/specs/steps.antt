@@ -1,0 +1,5 @@
+pub mod CertText
+pub mod Folded
+pub mod Putting
+pub mod Reading
+pub mod Steps

@@ -1,0 +1,3 @@
+pub mod KeptState
+pub mod Served
+pub mod Viewed

@@ -1,0 +1,5 @@
+pub mod FloodState
+pub mod Noting
+pub mod Numbers
+pub mod Reading
+pub mod SharedStore

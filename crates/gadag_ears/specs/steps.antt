@@ -1,0 +1,4 @@
+pub mod Blocks
+pub mod Ear
+pub mod Growing
+pub mod Marking

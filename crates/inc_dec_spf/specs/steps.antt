@@ -1,0 +1,10 @@
+pub mod Aiming
+pub mod Fan
+pub mod FanEntries
+pub mod Known
+pub mod Offers
+pub mod Opening
+pub mod Rest
+pub mod Side
+pub mod TileEntries
+pub mod Ways

@@ -1,0 +1,10 @@
+pub mod EndRows
+pub mod FoldedRows
+pub mod GraphInvariant
+pub mod Groups
+pub mod Kin
+pub mod NodeRows
+pub mod RelatedPairs
+pub mod RowRules
+pub mod Search
+pub mod TwoBytes

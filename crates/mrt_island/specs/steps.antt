@@ -1,0 +1,5 @@
+pub mod Numbering
+pub mod ProfileStore
+pub mod ProfileTaking
+pub mod Rooting
+pub mod Searching

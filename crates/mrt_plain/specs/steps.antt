@@ -1,0 +1,3 @@
+pub mod NextHop
+pub mod PairWithin
+pub mod Without

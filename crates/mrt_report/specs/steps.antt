@@ -1,0 +1,4 @@
+pub mod AddsLines
+pub mod LineParts
+pub mod Uses
+pub mod Viewed

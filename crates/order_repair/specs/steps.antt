@@ -1,0 +1,4 @@
+pub mod Arrow
+pub mod Blocks
+pub mod Source
+pub mod Tagging

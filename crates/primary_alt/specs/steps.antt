@@ -1,0 +1,11 @@
+pub mod ArcsInto
+pub mod Attaining
+pub mod BackwardSearch
+pub mod Beginnings
+pub mod Distances
+pub mod DistancesFrom
+pub mod FirstArcs
+pub mod LeastBeginnings
+pub mod NoArc
+pub mod Onward
+pub mod Turned
