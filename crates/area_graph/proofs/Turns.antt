@@ -10,10 +10,10 @@ use Rattle.mrt_graph.proofs.Tallies.{one_if}
 use Rattle.area_graph.specs.declared.entry.NumberedEntry.{NumberedEntry as Entry}
 use Rattle.area_graph.specs.steps.NumberedBonds.{same_way, same_entry, turn_of, partner}
 use Rattle.area_graph.specs.steps.Pairing.{AreOrdered}
-use Rattle.area_graph.specs.steps.Ways.{is_before_way, IsFirstOf}
+use Rattle.area_graph.specs.steps.EntryOrder.{is_before_ends, IsFirstOf}
 use Rattle.area_graph.proofs.Apart.{once_from_apart, same_from, same_itself, same_parts}
 use Rattle.area_graph.proofs.Partners.{from_one_way, one_more, one_way, only_partner, partner_is}
-use Rattle.area_graph.proofs.Ways.{below_from_true, squeezed, upto_from_false, ways_climb}
+use Rattle.area_graph.proofs.EntriesInOrder.{below_from_true, squeezed, upto_from_false, ways_climb}
 
 -- the first that passes among some, where none before it does, stands after those of them before it
 place_in : {X : Type 0} (w p : X → Bool) (xs : List X) (i : ℕ) (d : X) → i < length xs → w (get_or xs i d) ≡ true → p (get_or xs i d) ≡ true
@@ -50,7 +50,7 @@ counted_between p (x ∷ xs) (suc first) (suc last) le within below between abov
     omega (arith, none, rest, sum_by-cons (λ y. one_if (p y)) x xs)
 
 -- a place that is before a way is not of it
-pub not_of_way : (tail far : ℕ) (e : Entry) → is_before_way tail far e ≡ true → e.tail ≡ tail → e.far ≡ far → ⊥
+pub not_of_way : (tail far : ℕ) (e : Entry) → is_before_ends tail far e ≡ true → e.tail ≡ tail → e.far ≡ far → ⊥
 not_of_way tail far e before at_tail at_far =
     elim (below_from_true tail far e before) [ inl lower ↦ omega (arith, lower, at_tail) | inr same ↦ omega (arith, same.1, at_far) ]
 

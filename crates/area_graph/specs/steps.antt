@@ -1,3 +1,4 @@
+pub mod EntryOrder
 pub mod Listed
 pub mod NumberedArcs
 pub mod NumberedArea
@@ -6,4 +7,3 @@ pub mod NumberedEntries
 pub mod Pairing
 pub mod Speaking
 pub mod Starts
-pub mod Ways

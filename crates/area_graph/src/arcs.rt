@@ -5,7 +5,7 @@ ghost use Rattle.std.specs.{List.filter, List.Sorted.IsSorted};
 ghost use Rattle.area_graph.specs.steps.NumberedArcs.{arcs_among, is_arc, pairing_cmp};
 ghost use Rattle.mrt_graph.specs.InOrder.{in_order};
 ghost use Rattle.area_graph.specs.steps.Listed.{AreApart};
-ghost use Rattle.area_graph.specs.steps.Ways.{IsFirstOf};
+ghost use Rattle.area_graph.specs.steps.EntryOrder.{IsFirstOf};
 ghost use Rattle.area_graph.specs.AreaSize.{IsTooLarge, TellsTooLarge};
 
 use crate::area_error::AreaError;
@@ -15,7 +15,7 @@ use std::alloc::Global;
 
 /// The entries that are arcs, ordered by tail, far node, link data and place, where with so many nodes they are no more
 /// than an area may have. They are counted before there is a list of them.
-pub fn arcs_by_way(
+pub fn arcs_by_ends(
     alloc: Global,
     nodes: usize,
     mut entries: Vec<NumberedEntry>,
@@ -26,14 +26,14 @@ pub fn arcs_by_way(
     ensures refused { IfErr result (λ error. (error ≡ AreaError.NoMemory)
         ⊎ TellsTooLarge nodes (length (arcs_among entries.items)) error) }
 {
-    sort_by_way(&mut entries);
+    sort_by_ends(&mut entries);
     let count = arc_count(entries.as_slice());
     check_size(nodes, count)?;
     answered(alloc, entries.as_slice(), count)
 }
 
 /// Orders entries by tail, far node, link data and place.
-fn sort_by_way(entries: &mut Vec<NumberedEntry>)
+fn sort_by_ends(entries: &mut Vec<NumberedEntry>)
     requires { AreApart entries.old.items }
     ensures { entries.new.items ≡ in_order pairing_cmp entries.old.items }
 {

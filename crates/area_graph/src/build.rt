@@ -9,7 +9,7 @@ ghost use Rattle.area_graph.specs.AreaInvariant.{IsArea};
 ghost use Rattle.area_graph.specs.steps.Pairing.{AreOrdered, IsBetween};
 ghost use Rattle.area_graph.specs.AreaSize.{IsTooLarge, TellsTooLarge};
 
-use crate::arcs::arcs_by_way;
+use crate::arcs::arcs_by_ends;
 use crate::area::Area;
 use crate::area_error::AreaError;
 use crate::entry::{Listing, NumberedEntry};
@@ -65,7 +65,7 @@ pub fn build_area(alloc: Global, database: &Lsdb) -> Result<Area, AreaError>
         ⊎ TellsTooLarge (length area.ids) (length area.arcs) error) }
 {
     let Listing { ids, entries } = listing(alloc, database.newest())?;
-    let by_way = arcs_by_way(alloc, ids.len(), entries)?;
+    let by_way = arcs_by_ends(alloc, ids.len(), entries)?;
     area_of_arcs(alloc, ids, &by_way)
 }
 

@@ -18,15 +18,15 @@ pub fn check_size(nodes: usize, arcs: usize) -> Result<(), AreaError>
 {
     if nodes > MAX_NODES || arcs > MAX_ARCS {
         return Err(AreaError::TooLarge {
-            nodes: told(nodes),
-            arcs: told(arcs),
+            nodes: saturated(nodes),
+            arcs: saturated(arcs),
         });
     }
     Ok(())
 }
 
 /// A count as a number of 32 bits, the greatest one where it is greater.
-fn told(count: usize) -> u32
+fn saturated(count: usize) -> u32
     ensures { result ≡ min count (2 ^ 32 - 1) }
 {
     count.min(u32::MAX as usize) as u32

@@ -8,7 +8,7 @@ use Rattle.mrt_graph.specs.declared.cert.Tag.{Tag}
 use Rattle.mrt_graph.specs.declared.cert.Tag.TheVariants.{Sole, Head, Top, Below, Above, Unordered, Carried}
 use Rattle.mrt_graph.specs.BothThere.{are_equal, both, is_less}
 use Rattle.mrt_graph.specs.Certificate.{Certificate, are_two, row_of}
-use Rattle.mrt_graph.specs.CertWords.{order_of, head_of, block_of, has_role, link_block, tagged}
+use Rattle.mrt_graph.specs.CertFields.{order_of, head_of, block_of, has_role, link_block, tagged}
 use Rattle.mrt_graph.specs.HeadsAndBlocks.{HeadsHold, link_placed}
 use Rattle.mrt_graph.specs.Leads.{leads}
 use Rattle.mrt_graph.specs.Places.{Each, EachPair}

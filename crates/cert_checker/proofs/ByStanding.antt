@@ -10,7 +10,7 @@ use Rattle.mrt_graph.specs.declared.cert.CertNode.{CertNode}
 use Rattle.mrt_graph.specs.declared.cert.Role.{Role}
 use Rattle.mrt_graph.specs.declared.cert.Role.TheVariants.{Plain, Sole, Closing}
 use Rattle.mrt_graph.specs.Certificate.{Certificate}
-use Rattle.mrt_graph.specs.CertWords.{links_of, members}
+use Rattle.mrt_graph.specs.CertFields.{links_of, members}
 use Rattle.mrt_graph.specs.HeadsAndBlocks.{HeadsHold, closed_unless_one_link, closings, is_greatest_of, joins_greatest, lone_if_one_link}
 use Rattle.mrt_graph.specs.Roles.{is_closing, is_plain, is_sole}
 use Rattle.mrt_graph.proofs.ListTests.{one_passes}

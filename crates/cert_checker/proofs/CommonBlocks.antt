@@ -11,7 +11,7 @@ use Rattle.mrt_graph.specs.declared.cert.CertNode.{CertNode}
 use Rattle.mrt_graph.specs.declared.link.Link.{Link}
 use Rattle.mrt_graph.specs.BothThere.{are_different, are_equal, is_less}
 use Rattle.mrt_graph.specs.Certificate.{Certificate}
-use Rattle.mrt_graph.specs.CertWords.{order_of, head_of, block_of, link_block}
+use Rattle.mrt_graph.specs.CertFields.{order_of, head_of, block_of, link_block}
 use Rattle.mrt_graph.specs.HeadsAndBlocks.{HeadsHold, link_placed}
 use Rattle.mrt_graph.specs.Leads.{far_node, leads}
 use Rattle.mrt_graph.specs.Places.{Each}

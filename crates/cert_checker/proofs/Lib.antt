@@ -1,7 +1,7 @@
 pub mod BlockRuleHolds
 pub mod ByStanding
 pub mod CommonBlocks
-pub mod Kept
+pub mod FirstSoFar
 pub mod RelatedRows
 pub mod RowJudged
 pub mod Verdicts

@@ -6,9 +6,9 @@ use Rattle.std.proofs.lemmas.Bool.{cases_Bool, cases_eq, eq-eqb, eqb-true, false
 use Rattle.std.proofs.lemmas.List.{take_more}
 use Rattle.std.proofs.lemmas.Option.{get_or_from_slice_get, slice_get_within}
 use Rattle.cert_checker.specs.declared.fault.Fault.{Fault}
-use Rattle.cert_checker.specs.steps.RowFaults.{AndSome, Before, IsAfter, Kept, row_test}
+use Rattle.cert_checker.specs.steps.RowFaults.{AndSome, Before, IsAfter, IsFirstSoFar, row_test}
 use Rattle.mrt_graph.specs.Certificate.{Certificate, row_of}
-use Rattle.mrt_graph.specs.CertWords.{head_of}
+use Rattle.mrt_graph.specs.CertFields.{head_of}
 use Rattle.mrt_graph.specs.Foldable.{IsFoldable}
 use Rattle.mrt_graph.specs.Groups.{with_key}
 use Rattle.mrt_graph.specs.Kin.{IsUpper, Kin, is_upper, kin_of}
@@ -21,7 +21,7 @@ use Rattle.mrt_graph.proofs.FarRows.{far_rows}
 use Rattle.mrt_graph.proofs.KinOf.{heads_count, listed}
 use Rattle.mrt_graph.proofs.ListPlaces.{at_left, contains_at, place_of, pushed_at}
 use Rattle.mrt_graph.proofs.Pairs.{at_right}
-use Rattle.cert_checker.proofs.Kept.{judged_more, widened}
+use Rattle.cert_checker.proofs.FirstSoFar.{judged_more, widened}
 
 -- ---- in lists put together
 
@@ -43,10 +43,10 @@ none_listed y has = omega (arith, has.1)
 
 module _ (test : Rule → ℕ → ℕ → Bool) (c : Certificate) (s : ℕ) (s_in : s < length c.nodes) where
   abbrev Known : (ℕ → Type 0) → Option Fault → Type 0
-  Known some kept = Kept test (length c.nodes) (AndSome c s some) kept
+  Known some kept = IsFirstSoFar test (length c.nodes) (AndSome c s some) kept
 
   -- before the first
-  pub starts : (some : ℕ → Type 0) → ((y : ℕ) → some y → ⊥) → (kept : Option Fault) → Kept test (length c.nodes) (Before c s) kept → Known some kept
+  pub starts : (some : ℕ → Type 0) → ((y : ℕ) → some y → ⊥) → (kept : Option Fault) → IsFirstSoFar test (length c.nodes) (Before c s) kept → Known some kept
   starts some never = widened test (length c.nodes) (Before c s) (AndSome c s some) (λ x y has. elim has [ inl old ↦ inl old | inr own ↦ absurd (never y own.1) ])
 
   -- with one more
@@ -69,7 +69,7 @@ module _ (test : Rule → ℕ → ℕ → Bool) (c : Certificate) (s : ℕ) (s_i
 
   -- after the last, where what is left keeps each rule
   pub ends : (some : ℕ → Type 0) → ((y : ℕ) → y < length c.nodes → some y ⊎ ((rule : Rule) → test rule s y ≡ true)) → (kept : Option Fault) → Known some kept
-      → Kept test (length c.nodes) (Before c (s + 1)) kept
+      → IsFirstSoFar test (length c.nodes) (Before c (s + 1)) kept
   ends some rest = widened test (length c.nodes) (AndSome c s some) (Before c (s + 1)) (λ x y has. elim (cases_eq x s) [
     | inl same ↦ elim (rest y has.1) [ inl own ↦ inl (inr (same, own)) | inr each ↦ inr (rw same each) ]
     | inr other ↦ inl (inl (omega (arith, has.0, other), has.1))

@@ -6,7 +6,7 @@ ghost use Rattle.mrt_graph.specs.HeadsAndBlocks.{HeadFails, HeadFault, HeadHolds
 ghost use Rattle.mrt_graph.specs.{Places.EachPair, Related.is_common_block};
 
 use crate::fault_at::FaultAt;
-use crate::told::{KEYS, tell, tells};
+use crate::key_table::{KEYS, has_number, set_number};
 use mrt_graph::{Cert, LinkNo, NodeNo};
 
 /// The least node that is not placed, and 0; or the least in whose block there is a node of another head, and the least
@@ -32,11 +32,11 @@ fn each_has_told_head(c: &Cert) -> bool
 {
     let mut heads = [0; KEYS];
     for node in c.nodes() {
-        tell(&mut heads, node.block.get(), node.head.get());
+        set_number(&mut heads, node.block.get(), node.head.get());
     }
     for a in 0..c.node_count() {
         let node = c.node(NodeNo::new(a));
-        if !tells(&heads, node.block.get(), node.head.get()) {
+        if !has_number(&heads, node.block.get(), node.head.get()) {
             return false;
         }
     }

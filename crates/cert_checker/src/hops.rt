@@ -7,7 +7,7 @@ ghost use Rattle.cert_checker.specs.steps.KnownNode.{IsHop};
 ghost use Rattle.mrt_graph.specs.{Leads.leads, SameGraph.SameCounts};
 
 use crate::known_node::{KnownNode, known_node};
-use crate::row_words::far_end;
+use crate::row_facts::far_end;
 use mrt_graph::{Cert, Graph, LinkNo, NodeNo};
 
 /// A link that leads from a source, and the node to which it leads.

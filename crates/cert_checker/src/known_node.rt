@@ -2,9 +2,10 @@
 
 ghost use Rattle.std.specs.Prelude.{◌≡◌, ◌≢◌, ◌<◌, Some, length};
 ghost use Rattle.cert_checker.specs.steps.KnownNode.{IsKnown};
-ghost use Rattle.mrt_graph.specs.{CertWords.tagged, Certificate.IsCertRow, Certificate.row_of};
+ghost use Rattle.mrt_graph.specs.CertFields.{tagged};
+ghost use Rattle.mrt_graph.specs.Certificate.{IsCertRow, row_of};
 
-use crate::row_words::number_of;
+use crate::row_facts::number_of;
 use mrt_graph::{Cert, CertNode, NodeNo, NodeRows, Row, Tag};
 
 /// A node's number, the certificate's words on it, and its rows.

@@ -8,15 +8,15 @@ mod fault_at;
 mod heads;
 mod hops;
 mod judge;
+mod key_table;
 mod known_node;
 mod near_rows;
 mod orders;
+mod row_facts;
 mod row_rules;
-mod row_words;
 mod rows;
 mod same_graph;
 mod standing;
-mod told;
 mod verdict;
 
 pub use judge::check;

@@ -7,7 +7,7 @@ ghost use Rattle.mrt_graph.specs.steps.RowRules.{above_row, below_row, head_row,
 ghost use Rattle.mrt_graph.specs.RowRules.{closing_to_head, higher_beside, higher_tagged, lower_beside, lower_tagged, plain_to_head};
 
 use crate::known_node::{KnownNode, has_tag};
-use crate::row_words::{is_closing_link, is_plain_link, is_sole_link};
+use crate::row_facts::{is_closing_link, is_plain_link, is_sole_link};
 use mrt_graph::{Cert, LinkNo, NodeNo, Row, Tag};
 
 /// Whether the links of a row of `s` for `t` lead where its tag asks, to `blue` and `red`.

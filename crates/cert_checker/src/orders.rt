@@ -7,7 +7,7 @@ ghost use Rattle.mrt_graph.specs.RootAndOrders.{RootAndOrders, OrderFault, root_
 ghost use Rattle.mrt_graph.specs.SameGraph.{SameCounts};
 
 use crate::fault_at::FaultAt;
-use crate::told::{KEYS, tell, tells};
+use crate::key_table::{KEYS, has_number, set_number};
 use mrt_graph::{Cert, CertFile, Graph, NodeNo};
 
 /// The root and the root; or the least node that has an equal above it, and the least of those.
@@ -53,10 +53,10 @@ fn each_is_last(c: &Cert) -> bool
 {
     let mut last = [0; KEYS];
     for v in 0..c.node_count() {
-        tell(&mut last, c.node(NodeNo::new(v)).order, v);
+        set_number(&mut last, c.node(NodeNo::new(v)).order, v);
     }
     for a in 0..c.node_count() {
-        if !tells(&last, c.node(NodeNo::new(a)).order, a) {
+        if !has_number(&last, c.node(NodeNo::new(a)).order, a) {
             return false;
         }
     }

@@ -11,7 +11,7 @@ ghost use Rattle.mrt_graph.specs.RowRules.{same_links};
 use crate::hops::{Hop, Hops};
 use crate::known_node::{KnownNode, row_for};
 use crate::near_rows::keeps_near_rule;
-use crate::row_words::number_of;
+use crate::row_facts::number_of;
 use mrt_graph::{Cert, NodeNo, Row, Tag, are_unrelated, carrier};
 
 /// Whether the row of `s` for `t` keeps what its tag asks. Its links have these hops.

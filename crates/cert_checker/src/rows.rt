@@ -4,13 +4,17 @@ ghost use Rattle.std.specs.Prelude.{◌≡◌, ◌<◌, ◌+◌, ◌++◌, Conta
 ghost use Rattle.std.specs.{List.All, Option.option_map, Option.option_to_list};
 ghost use Rattle.cert_checker.specs.steps.KnownNode.{AreHops, IsKnown};
 ghost use Rattle.cert_checker.specs.steps.RowFaults.{AndSome, Before, IsAfter, KeptRows, first_of, is_before, row_test, targets_of};
-ghost use Rattle.mrt_graph.specs.{CertWords.head_of, Foldable.IsFoldable, HeadsAndBlocks.HeadsHold, Kin.kin_of, SameGraph.SameCounts};
+ghost use Rattle.mrt_graph.specs.CertFields.{head_of};
+ghost use Rattle.mrt_graph.specs.Foldable.{IsFoldable};
+ghost use Rattle.mrt_graph.specs.HeadsAndBlocks.{HeadsHold};
+ghost use Rattle.mrt_graph.specs.Kin.{kin_of};
+ghost use Rattle.mrt_graph.specs.SameGraph.{SameCounts};
 
 use crate::fault::Fault;
 use crate::hops::{Hops, turn_to};
 use crate::known_node::{KnownNode, known_node, row_for};
+use crate::row_facts::number_of;
 use crate::row_rules::keeps_rule;
-use crate::row_words::number_of;
 use mrt_graph::{Cert, Graph, NodeNo, Relatives};
 
 /// What is kept of the rows that were read: their first fault, if there is one, and the hops that serve the next row.

@@ -6,8 +6,8 @@ ghost use Rattle.cert_checker.specs.steps.Standing.{BlocksHold};
 ghost use Rattle.cert_checker.specs.steps.Standing.{FitsRole, HasOpen, IsOver, NodeFits, across, link_fits, standing};
 ghost use Rattle.mrt_graph.specs.{HeadsAndBlocks.HeadsHold, SameGraph.SameCounts};
 
+use crate::key_table::{KEYS, has_number, set_number};
 use crate::known_node::{KnownNode, known_node};
-use crate::told::{KEYS, tell, tells};
 use mrt_graph::{Cert, CertLink, Graph, LinkNo, NodeNo, Role};
 
 /// Whether both rules are found to hold. They may hold where they are not, if another rule fails.
@@ -24,7 +24,7 @@ pub(crate) fn blocks_hold(g: &Graph, c: &Cert, root: NodeNo) -> bool
     for m in 0..c.link_count() {
         let link = c.link(LinkNo::new(m));
         if !matches!(link.role, Role::Plain) {
-            tell(&mut table, link.block.get(), m);
+            set_number(&mut table, link.block.get(), m);
         }
     }
     for e in 0..c.link_count() {
@@ -57,7 +57,7 @@ fn link_fits(c: &Cert, table: &[u16], e: LinkNo) -> bool
     ensures { IsTrue result → link_fits c.now table.now e ≡ true }
 {
     let link = c.link(e);
-    if tells(table, link.block.get(), e.get()) {
+    if has_number(table, link.block.get(), e.get()) {
         return true;
     }
     match standing(c, table, link.block) {

@@ -6,7 +6,7 @@ use Rattle.std.specs.List.{AllByRecursion}
 use Rattle.std.specs.Prelude.{if◌then◌else◌}
 use Rattle.std.specs.Option.{option_and_then, option_map, option_map_or}
 use Rattle.mrt_graph.specs.Certificate.{Certificate, IsCertNode, certificate_of}
-use Rattle.mrt_graph.specs.CertWords.{head_of}
+use Rattle.mrt_graph.specs.CertFields.{head_of}
 use Rattle.mrt_graph.specs.Foldable.{IsLeastOwnHead, comes_to, in_chain, is_own_head}
 use Rattle.mrt_graph.specs.Places.{Each}
 use Rattle.mrt_graph.specs.declared.cert.CertNode.{CertNode}

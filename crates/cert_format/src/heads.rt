@@ -2,7 +2,9 @@
 
 ghost use Rattle.std.specs.Prelude.{◌≡◌, ◌==◌, ◌<◌, ◌≤◌, ◌/◌, [], Some, IfOk, length, not, if◌then◌else◌};
 ghost use Rattle.std.specs.List.{AllByRecursion, slice_index_or};
-ghost use Rattle.mrt_graph.specs.{Certificate.IsCertNode, Certificate.certificate_of, CertWords.head_of, Foldable.is_own_head};
+ghost use Rattle.mrt_graph.specs.Certificate.{IsCertNode, certificate_of};
+ghost use Rattle.mrt_graph.specs.CertFields.{head_of};
+ghost use Rattle.mrt_graph.specs.Foldable.{is_own_head};
 ghost use Rattle.cert_format.specs.steps.Folded.{AreEnds};
 ghost use Rattle.cert_format.specs.Folded.{head_fault, least};
 

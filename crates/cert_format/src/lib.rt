@@ -7,15 +7,15 @@
 
 mod cert_reader;
 mod cert_writer;
+mod cut_part;
 mod error;
 mod field;
 mod header;
 mod heads;
-mod held;
-mod kept;
 mod limits;
 mod list;
 mod part;
+mod parts_read;
 mod putting;
 mod reading;
 mod rest;

@@ -5,9 +5,9 @@ ghost use Rattle.cert_format.specs.steps.Steps.{AreParts, Finishes, Grew, IsRead
 ghost use Rattle.cert_format.specs.steps.Reading.{rest_of};
 ghost use Rattle.cert_format.specs.Stream.{fed, is_cut, seen};
 
+use crate::cut_part::CutPart;
 use crate::error::{CertError, CertFault, CertKind};
-use crate::held::Held;
-use crate::kept::Kept;
+use crate::parts_read::PartsRead;
 use crate::rest::Rest;
 use mrt_graph::{CertFile, NoMemory};
 use std::alloc::Global;
@@ -16,8 +16,8 @@ use std::alloc::Global;
 /// a stream that is at fault, however it goes on, that fault.
 #[derive(Drop)]
 pub struct State {
-    pub kept: Kept,
-    pub held: Held,
+    pub kept: PartsRead,
+    pub held: CutPart,
     pub fault: Option<CertFault>,
 }
 
@@ -28,8 +28,8 @@ impl State {
         ensures front { progress_of result ≡ Ok [] }
     {
         State {
-            kept: Kept::new(alloc),
-            held: Held::new(),
+            kept: PartsRead::new(alloc),
+            held: CutPart::new(),
             fault: Some(CertFault {
                 at: 0,
                 kind: CertKind::Truncated,
@@ -104,7 +104,7 @@ impl State {
         let place = self.kept.size();
         match self.kept.read_on(Rest::new(place, bytes)) {
             Ok(()) => {
-                self.held = Held::new();
+                self.held = CutPart::new();
                 self.fault = None;
                 Ok(())
             }
@@ -128,7 +128,7 @@ impl State {
             → progress_of self.new ≡ seen (text_of old ++ bytes.now) }
     {
         self.fault = Some(fault);
-        self.held = Held::new();
+        self.held = CutPart::new();
         if self.has_failed() {
             return;
         }

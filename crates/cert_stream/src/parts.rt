@@ -2,7 +2,8 @@
 
 ghost use Rattle.std.specs.Prelude.{◌≡◌, ◌<◌, ◌+◌, ◌^◌, ◌++◌, length};
 ghost use Rattle.mrt_graph.specs.declared.cert.CertFile.{CertFile};
-ghost use Rattle.mrt_rows.specs.{CertOf.IsCertOf, Making.MakeRows};
+ghost use Rattle.mrt_rows.specs.CertOf.{IsCertOf};
+ghost use Rattle.mrt_rows.specs.RowMaker.{MakeRows};
 ghost use Rattle.cert_format.specs.Putting.{Puts};
 ghost use Rattle.cert_format.specs.steps.Putting.{parts_text};
 

@@ -2,7 +2,9 @@
 
 ghost use Rattle.std.specs.Prelude.{◌≡◌, ◌<◌, ◌↔◌, ℕ, IsTrue, length, slice_get};
 ghost use Rattle.mrt_graph.specs.declared.cert.CertFile.{CertFile};
-ghost use Rattle.mrt_rows.specs.{CertOf.IsCertOf, Making.MakeRows, NearOf.near_rows_of};
+ghost use Rattle.mrt_rows.specs.CertOf.{IsCertOf};
+ghost use Rattle.mrt_rows.specs.RowMaker.{MakeRows};
+ghost use Rattle.mrt_rows.specs.NearOf.{near_rows_of};
 ghost use Rattle.cert_stream.specs.steps.Same.{HaveSameRows};
 
 use mrt_graph::{CertLink, CertNode, End, Graph, LinkNo, NodeNo, Row};

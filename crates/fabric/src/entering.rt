@@ -7,7 +7,7 @@ ghost use Rattle.fabric.specs.FabricState.{entering, mode_of};
 ghost use Rattle.fabric.specs.steps.Viewed.{AreRouted, viewed};
 
 use crate::event::Failure;
-use crate::island::{is_at_network, node_of};
+use crate::in_island::{is_at_network, node_of};
 use crate::packet::{Mode, Packet, State};
 use crate::parts::Parts;
 use area_graph::Spot;

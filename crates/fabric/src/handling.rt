@@ -15,7 +15,7 @@ ghost use Rattle.mrt_graph.specs.declared.cert.Color.{Color};
 
 use crate::event::{Failure, Outcome};
 use crate::hops::next_hop;
-use crate::island::{element_of, node_of};
+use crate::in_island::{element_of, node_of};
 use crate::next_hop::{NextHop, cuts, has_failed};
 use crate::packet::{Loss, Mode, Packet};
 use crate::parts::Parts;

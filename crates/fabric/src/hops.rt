@@ -12,7 +12,7 @@ ghost use Rattle.fabric.specs.declared.packet.Mode.TheVariants as modes;
 ghost use Rattle.fabric.specs.declared.packet.State.TheVariants as states;
 ghost use Rattle.mrt_graph.specs.GraphInvariant.{IsNetwork};
 
-use crate::island::{crossing_of, is_at_network, node_of};
+use crate::in_island::{crossing_of, is_at_network, node_of};
 use crate::next_hop::{Crossing, NextHop};
 use crate::packet::{Mode, Packet};
 use crate::parts::Parts;

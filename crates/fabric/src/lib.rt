@@ -7,7 +7,7 @@ mod event;
 mod fabric;
 mod handling;
 mod hops;
-mod island;
+mod in_island;
 mod lines;
 mod loss_law;
 mod next_hop;

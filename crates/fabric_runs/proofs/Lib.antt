@@ -7,5 +7,5 @@ pub mod Placed
 pub mod RunsOn
 pub mod ServedEvents
 pub mod SomeText
-pub mod StepsTold
-pub mod TraceTold
+pub mod StepsPrinted
+pub mod TracePrinted

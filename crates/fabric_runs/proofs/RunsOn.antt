@@ -13,7 +13,7 @@ use Rattle.fabric.specs.FabricParts.{FabricParts}
 use Rattle.fabric.specs.FabricState.{Answer, FabricState}
 use Rattle.fabric.specs.Runs.{FabricStep, IsRun}
 use Rattle.fabric.specs.OutcomeText.{answer_line, run_text}
-use Rattle.fabric_runs.specs.steps.Told.{HasLines, IsTold}
+use Rattle.fabric_runs.specs.steps.Printed.{HasLines, IsPrinted}
 
 -- one run after another
 pub run_on : (parts : FabricParts) (old mid new : FabricState) (events more : List Event) (answers others : List Answer)
@@ -32,37 +32,37 @@ lines_on parts [] others before mid after one two = subst (λ (t : List ℕ). Ha
 lines_on parts (answer ∷ answers) others before mid after one two = (one.0, one.1, lines_on parts answers others one.0 mid after one.2 two)
 
 pub told_on : (parts : FabricParts) (old mid new : FabricState) (events more : List Event) (before between after : List ℕ)
-    → IsTold parts old events mid before between → IsTold parts mid more new between after
-    → IsTold parts old (events ++ more) new before after
+    → IsPrinted parts old events mid before between → IsPrinted parts mid more new between after
+    → IsPrinted parts old (events ++ more) new before after
 told_on parts old mid new events more before between after one two = record {
   answers = one.answers ++ two.answers;
   run = run_on parts old mid new events more one.answers two.answers one.run two.run;
   lines = lines_on parts one.answers two.answers before between after one.lines two.lines;
 }
 
-pub told_none : (parts : FabricParts) (state : FabricState) (text : List ℕ) → IsTold parts state [] state text text
+pub told_none : (parts : FabricParts) (state : FabricState) (text : List ℕ) → IsPrinted parts state [] state text text
 told_none parts state text = record { answers = []; run = refl; lines = refl }
 
 pub told_one : {T E : Type 0} (result : Result T E) (parts : FabricParts) (old new : FabricState) (event : Event) (answer : Answer) (before after : List ℕ)
     → FabricStep parts old event answer new → IfOk result (λ _. option_map (λ line. before ++ line) (answer_line parts.area.ids answer) ≡ Some after)
-    → IfOk result (λ _. IsTold parts old (event ∷ []) new before after)
+    → IfOk result (λ _. IsPrinted parts old (event ∷ []) new before after)
 told_one (Ok done) parts old new event answer before after step line = record { answers = answer ∷ []; run = (new, step, refl); lines = (after, line, refl) }
 told_one (Err error) parts old new event answer before after step line = tt
 
 -- the first events of a list, and one more
 pub one_more_told : {X : Type 0} (parts : FabricParts) (old mid new : FabricState) (f : X → Event) (xs : List X) (d : X) (i : ℕ) (before between after : List ℕ) → i < length xs
-    → IsTold parts old (map f (take i xs)) mid before between → IsTold parts mid (f (get_or xs i d) ∷ []) new between after
-    → IsTold parts old (map f (take (i + 1) xs)) new before after
+    → IsPrinted parts old (map f (take i xs)) mid before between → IsPrinted parts mid (f (get_or xs i d) ∷ []) new between after
+    → IsPrinted parts old (map f (take (i + 1) xs)) new before after
 one_more_told parts old mid new f xs d i before between after inside so_far one =
     rw (take_more xs i d inside, map-append f (take i xs) (get_or xs i d ∷ []))
     (told_on parts old mid new (map f (take i xs)) (f (get_or xs i d) ∷ []) before between after so_far one)
 
 -- all of them
 pub all_told : {X : Type 0} (parts : FabricParts) (old new : FabricState) (f : X → Event) (xs : List X) (i : ℕ)
-    (before after : List ℕ) → length xs ≤ i → IsTold parts old (map f (take i xs)) new before after
-    → IsTold parts old (map f xs) new before after
+    (before after : List ℕ) → length xs ≤ i → IsPrinted parts old (map f (take i xs)) new before after
+    → IsPrinted parts old (map f xs) new before after
 all_told parts old new f xs i before after past told =
-    subst (λ (front : List _). IsTold parts old (map f front) new before after) (take_all i xs past) told
+    subst (λ (front : List _). IsPrinted parts old (map f front) new before after) (take_all i xs past) told
 
 -- of a text that was empty
 lines_of : (parts : FabricParts) (answers : List Answer) (before after : List ℕ) → HasLines parts answers before after

@@ -19,11 +19,11 @@ use Rattle.fabric_script.specs.declared.script.Script.{Script}
 use Rattle.fabric_script.specs.declared.trace.Trace.{Trace}
 use Rattle.fabric_runs.specs.NamedEvents.{event_of, spot_of}
 use Rattle.fabric_runs.specs.RunTexts.{IsScriptText, IsTraceText}
-use Rattle.fabric_runs.specs.steps.Told.{IsSteppedOn, IsTold}
+use Rattle.fabric_runs.specs.steps.Printed.{IsSteppedOn, IsPrinted}
 use Rattle.fabric_runs.specs.Trace.{HasEnded, beginning}
 use Rattle.fabric_runs.proofs.RunsOn.{run_on, told_none, told_on, whole_text}
-use Rattle.fabric_runs.proofs.StepsTold.{GoingLaw, HasStepped, ended_at_last, no_steps, one_more, stepped}
-use Rattle.fabric_runs.proofs.TraceTold.{trace_told, unstepped}
+use Rattle.fabric_runs.proofs.StepsPrinted.{GoingLaw, HasStepped, ended_at_last, no_steps, one_more, stepped}
+use Rattle.fabric_runs.proofs.TracePrinted.{trace_told, unstepped}
 use Rattle.mrt_graph.specs.Spelling.{node_text}
 use Rattle.mrt_graph.specs.declared.node_id.NodeId.{NodeId}
 use Rattle.mrt_graph.proofs.ListTests.{there}
@@ -77,7 +77,7 @@ module _ (laws : SomeLaws) (parts : FabricParts) (kept : ArePartsKept parts) (ro
 
   -- where a run has led, an event is told
   event_told : (room : ℕ) (events : List Event) (answers : List Answer) (end : FabricState) → IsRun parts (start room) events answers end
-      → (event : Event) (before : List ℕ) → (new : FabricState) × (after : List ℕ) × IsTold parts end (event ∷ []) new before after
+      → (event : Event) (before : List ℕ) → (new : FabricState) × (after : List ℕ) × IsPrinted parts end (event ∷ []) new before after
   event_told room events answers end run event before =
       let answer = laws.some parts kept room events answers end (on events) run event in
       let line = line_there parts.area.ids answer.0 (laws.told parts kept room events answers end (on events) run event answer.0 answer.1) in
@@ -93,7 +93,7 @@ module _ (laws : SomeLaws) (parts : FabricParts) (kept : ArePartsKept parts) (ro
 
   -- and so are events, one after another
   events_told : (room : ℕ) (events : List Event) (answers : List Answer) (end : FabricState) → IsRun parts (start room) events answers end
-      → (more : List Event) (before : List ℕ) → (new : FabricState) × (after : List ℕ) × IsTold parts end more new before after
+      → (more : List Event) (before : List ℕ) → (new : FabricState) × (after : List ℕ) × IsPrinted parts end more new before after
   events_told room events answers end run [] before = (end, before, told_none parts end before)
   events_told room events answers end run (event ∷ more) before =
       let one = event_told room events answers end run event before in

@@ -2,7 +2,7 @@
 
 ghost use Rattle.std.specs.Prelude.{◌≡◌, ◌↔◌, IfOk, IsTrue};
 ghost use Rattle.fabric.specs.{FabricParts.ArePartsKept, Viewed.parts_of};
-ghost use Rattle.fabric_runs.specs.steps.Told.{IsSteppedOn};
+ghost use Rattle.fabric_runs.specs.steps.Printed.{IsSteppedOn};
 ghost use Rattle.fabric_runs.specs.Trace.{HasEnded};
 ghost use Rattle.fabric_runs.specs.steps.Unstepped.{IsUnstepped};
 

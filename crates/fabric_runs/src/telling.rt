@@ -4,7 +4,7 @@ ghost use Rattle.std.specs.Prelude.{◌≡◌, ◌∷◌, [], IfOk, map};
 ghost use Rattle.fabric.specs.{Served.IsEventServed, Served.IsServedBy, Viewed.parts_of};
 ghost use Rattle.fabric_runs.specs.Destinations.{AreServed};
 ghost use Rattle.fabric_runs.specs.NamedEvents.{event_of, spot_of};
-ghost use Rattle.fabric_runs.specs.steps.Told.{IsTold};
+ghost use Rattle.fabric_runs.specs.steps.Printed.{IsPrinted};
 ghost use Rattle.fabric_runs.specs.Trace.{beginning, failures_of};
 
 use crate::of_area::event_of;
@@ -23,7 +23,7 @@ pub fn tell_all<R: RowsOf>(
 ) -> Result<(), NoMemory>
     requires area { fabric.old.tables.area ≡ area.now }
     requires served { AreServed (parts_of R.rows fabric.old.tables) fabric.old.tables.routes events.now }
-    ensures told { IfOk result (λ _. IsTold (parts_of R.rows fabric.old.tables) fabric.old.state
+    ensures told { IfOk result (λ _. IsPrinted (parts_of R.rows fabric.old.tables) fabric.old.state
         (map (event_of area.now) events.now) fabric.new.state text.old.items text.new.items) }
     ensures tables { fabric.new.tables ≡ fabric.old.tables }
 {
@@ -44,7 +44,7 @@ pub fn tell_beginning<R: RowsOf>(
     requires area { fabric.old.tables.area ≡ area.now }
     requires served { IsServedBy (parts_of R.rows fabric.old.tables) fabric.old.tables.routes
         (spot_of area.now trace.now.to) }
-    ensures told { IfOk result (λ _. IsTold (parts_of R.rows fabric.old.tables) fabric.old.state
+    ensures told { IfOk result (λ _. IsPrinted (parts_of R.rows fabric.old.tables) fabric.old.state
         (beginning area.now trace.now) fabric.new.state text.old.items text.new.items) }
     ensures tables { fabric.new.tables ≡ fabric.old.tables }
 {
@@ -60,7 +60,7 @@ fn tell_failure<R: RowsOf>(
     text: &mut Vec<u8>,
 ) -> Result<(), NoMemory>
     requires area { fabric.old.tables.area ≡ area.now }
-    ensures told { IfOk result (λ _. IsTold (parts_of R.rows fabric.old.tables) fabric.old.state
+    ensures told { IfOk result (λ _. IsPrinted (parts_of R.rows fabric.old.tables) fabric.old.state
         (failures_of area.now failed.now) fabric.new.state text.old.items text.new.items) }
     ensures tables { fabric.new.tables ≡ fabric.old.tables }
 {
@@ -91,7 +91,7 @@ pub fn tell_one<R: RowsOf>(
     requires area { fabric.old.tables.area ≡ area.now }
     requires served { IsEventServed (parts_of R.rows fabric.old.tables) fabric.old.tables.routes
         (event_of area.now event) }
-    ensures told { IfOk result (λ _. IsTold (parts_of R.rows fabric.old.tables) fabric.old.state
+    ensures told { IfOk result (λ _. IsPrinted (parts_of R.rows fabric.old.tables) fabric.old.state
         (event_of area.now event ∷ []) fabric.new.state text.old.items text.new.items) }
     ensures tables { fabric.new.tables ≡ fabric.old.tables }
 {
@@ -109,7 +109,7 @@ fn tell<R: RowsOf>(
 ) -> Result<(), NoMemory>
     requires area { fabric.old.tables.area ≡ area.now }
     requires served { IsEventServed (parts_of R.rows fabric.old.tables) fabric.old.tables.routes event }
-    ensures told { IfOk result (λ _. IsTold (parts_of R.rows fabric.old.tables) fabric.old.state (event ∷ [])
+    ensures told { IfOk result (λ _. IsPrinted (parts_of R.rows fabric.old.tables) fabric.old.state (event ∷ [])
         fabric.new.state text.old.items text.new.items) }
     ensures tables { fabric.new.tables ≡ fabric.old.tables }
 {

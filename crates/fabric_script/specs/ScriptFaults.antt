@@ -1,6 +1,6 @@
 -- The script that lines are, and the first line that is not as it should be.
 use Rattle.std.specs.Prelude.{◌≡◌, ◌⊎◌, ℕ, List, ◌∷◌, Some, map, Result, Err}
-use Rattle.text_parts.specs.LinesTold.{IsFirstWrong, told}
+use Rattle.text_parts.specs.LinesRead.{IsFirstWrong, lines_read}
 use Rattle.fabric_script.specs.declared.script.Script.{Script}
 use Rattle.fabric_script.specs.declared.script_error.ScriptError.{ScriptError}
 use Rattle.fabric_script.specs.declared.script_error.ScriptError.TheVariants.{NoMemory}
@@ -10,7 +10,7 @@ use Rattle.fabric_script.specs.ScriptLines.{event_in, start_in}
 pub record IsScript (lines : List (List ℕ)) (script : Script) : Type 0 where
   pub first : List ℕ
   pub others : List (List ℕ)
-  pub told_are : told lines ≡ first ∷ others
+  pub told_are : lines_read lines ≡ first ∷ others
   pub start : start_in first ≡ Some (record { router = script.router; room = script.room })
   pub events : map event_in others ≡ map (λ event. Some event) script.events
 

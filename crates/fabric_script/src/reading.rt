@@ -39,11 +39,11 @@ pub fn read_script(alloc: Global, bytes: &[u8]) -> Result<Script, ScriptError>
     ensures fault { (line : ℕ) → result ≡ Err (ScriptError.Fault line) → IsFirstScriptFault (text_lines bytes.now) line }
     ensures faulty { (line : ℕ) → IsFirstScriptFault (text_lines bytes.now) line → OrNoMemory result (Err (ScriptError.Fault line)) }
 {
-    told(text_of(bytes, Taken::none(alloc)))
+    script_or_fault(text_of(bytes, Taken::none(alloc)))
 }
 
 /// What was read, with the error of scripts.
-fn told(read: Result<Script, LineError<()>>) -> Result<Script, ScriptError>
+fn script_or_fault(read: Result<Script, LineError<()>>) -> Result<Script, ScriptError>
     ensures { result ≡ result_map_both (λ script. script) error_of read }
 {
     match read {

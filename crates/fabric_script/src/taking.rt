@@ -1,7 +1,7 @@
 //! The lines of a script, taken in one after another.
 
 ghost use Rattle.std.specs.Prelude.{◌≡◌};
-ghost use Rattle.fabric_script.specs.steps.Taking.{nothing_said};
+ghost use Rattle.fabric_script.specs.steps.Taking.{no_lines_taken};
 
 use crate::event::ScriptEvent;
 use crate::line::{Start, read_event, read_start};
@@ -19,17 +19,17 @@ pub(crate) struct Taken {
 }
 
 impl Model for Taken {
-    ghost use Rattle.fabric_script.specs.steps.Taking.{Said, said};
+    ghost use Rattle.fabric_script.specs.steps.Taking.{TakenLines, taken_lines};
 
-    ghost Value = { Said };
+    ghost Value = { TakenLines };
 
-    ghost view = { λ taken. said taken.start taken.events.items };
+    ghost view = { λ taken. taken_lines taken.start taken.events.items };
 }
 
 impl Taken {
     /// Of no lines.
     pub(crate) fn none(alloc: Global) -> Taken
-        ensures { result ≡ nothing_said }
+        ensures { result ≡ no_lines_taken }
     {
         Taken {
             start: None,

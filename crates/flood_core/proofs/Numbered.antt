@@ -12,7 +12,7 @@ use Rattle.lsdb.specs.Installing.{change_by, change_of}
 use Rattle.lsdb.specs.Rank.{rank_cmp}
 use Rattle.lsdb.proofs.Alike.{alike_equiv}
 use Rattle.lsdb.proofs.Ranks.{ranks_total}
-use Rattle.flood_core.specs.declared.held.Held.{Held}
+use Rattle.flood_core.specs.declared.database_copy.DatabaseCopy.{DatabaseCopy}
 use Rattle.flood_core.specs.declared.numbered_update.NumberedUpdate.{NumberedUpdate}
 use Rattle.flood_core.specs.declared.update.Update.{Update}
 use Rattle.flood_core.specs.steps.Numbers.{entries_by, entry_in, lsa_in, lsas_by, no_lsa, update_in, AreNumbers}
@@ -153,7 +153,7 @@ numbered_all first own now numbers left so_far none =
 
 -- ---- entries
 
-pub entry_read : (lsas : List Lsa) (held : List Held) (i : ℕ) (h : Held) → i < length held → h ≡ get_or held i h
+pub entry_read : (lsas : List Lsa) (held : List DatabaseCopy) (i : ℕ) (h : DatabaseCopy) → i < length held → h ≡ get_or held i h
     → entry_in lsas h ≡ get_or (entries_by lsas held) i (entry_in lsas h)
 entry_read lsas held i h within is =
     ap (entry_in lsas) is ∙ sym (get_or-map (entry_in lsas) held i h (entry_in lsas h) within)

@@ -13,7 +13,7 @@ use Rattle.lsdb.specs.Newest.{same_but_age}
 use Rattle.lsdb.specs.Orders.{without_place}
 use Rattle.lsdb.specs.Rank.{rank_cmp}
 use Rattle.lsdb.proofs.Timeless.{lsa_is}
-use Rattle.flood_core.specs.declared.held.Held.{Held}
+use Rattle.flood_core.specs.declared.database_copy.DatabaseCopy.{DatabaseCopy}
 use Rattle.flood_core.specs.steps.Numbers.{entries_by, lsa_in}
 use Rattle.flood_core.specs.steps.SharedStore.{lsas_in}
 use Rattle.flood_core.proofs.Numbered.{own_change}
@@ -39,38 +39,38 @@ same_change x y same =
 
 -- ---- two databases
 
-abbrev placeless : List Lsa → Held → Lsa
+abbrev placeless : List Lsa → DatabaseCopy → Lsa
 placeless lsas held = without_place (lsa_in lsas held.number)
 
-placeless_are : (lsas : List Lsa) (held : List Held)
+placeless_are : (lsas : List Lsa) (held : List DatabaseCopy)
     → map without_place (lsas_in (entries_by lsas held)) ≡ map (placeless lsas) held
 placeless_are lsas [] = refl
 placeless_are lsas (h ∷ held) = ap (λ (rest : List Lsa). placeless lsas h ∷ rest) (placeless_are lsas held)
 
-one_on : (lsas : List Lsa) (held : List Held) (i : ℕ) (h : Held) → i < length held → h ≡ get_or held i h
+one_on : (lsas : List Lsa) (held : List DatabaseCopy) (i : ℕ) (h : DatabaseCopy) → i < length held → h ≡ get_or held i h
     → map (placeless lsas) (take (i + 1) held) ≡ map (placeless lsas) (take i held) ++ placeless lsas h ∷ []
 one_on lsas held i h inside is =
     ap (λ (n : ℕ). map (placeless lsas) (take n held)) (add-one i)
     ∙ ap (map (placeless lsas)) (take-suc held i h inside)
     ∙ map-append (placeless lsas) (take i held) (get_or held i h ∷ [])
-    ∙ ap (λ (x : Held). map (placeless lsas) (take i held) ++ placeless lsas x ∷ []) (sym is)
+    ∙ ap (λ (x : DatabaseCopy). map (placeless lsas) (take i held) ++ placeless lsas x ∷ []) (sym is)
 
-there_is : (lsas : List Lsa) (held : List Held) (i : ℕ) (h : Held) → i < length held → h ≡ get_or held i h
+there_is : (lsas : List Lsa) (held : List DatabaseCopy) (i : ℕ) (h : DatabaseCopy) → i < length held → h ≡ get_or held i h
     → slice_get (map (placeless lsas) held) i ≡ Some (placeless lsas h)
 there_is lsas held i h inside is =
     slice_get-map (placeless lsas) held i
     ∙ ap (option_map (placeless lsas)) (slice_get_read held (length held) i h refl inside is)
 
 -- the first so many are the same
-pub record AreSameBefore (lsas others : List Lsa) (held held' : List Held) (i : ℕ) : Type 0 where
+pub record AreSameBefore (lsas others : List Lsa) (held held' : List DatabaseCopy) (i : ℕ) : Type 0 where
   pub long : length held ≡ length held'
   pub same : map (placeless lsas) (take i held) ≡ map (placeless others) (take i held')
 
-module _ (lsas others : List Lsa) (held held' : List Held) where
+module _ (lsas others : List Lsa) (held held' : List DatabaseCopy) where
   pub same_none : length held ≡ length held' → AreSameBefore lsas others held held' 0
   same_none long = record { long = long; same = refl }
 
-  module _ (i : ℕ) (h h' : Held) (before : AreSameBefore lsas others held held' i) (inside : i < length held)
+  module _ (i : ℕ) (h h' : DatabaseCopy) (before : AreSameBefore lsas others held held' i) (inside : i < length held)
       (inside' : i < length held') (is : h ≡ get_or held i h) (is' : h' ≡ get_or held' i h') where
     pub same_more : without_place (lsa_in lsas h.number) ≡ without_place (lsa_in others h'.number)
         → AreSameBefore lsas others held held' (i + 1)

@@ -16,7 +16,7 @@ use Rattle.lsdb.specs.Keys.{key_of, same_key}
 use Rattle.lsdb.specs.steps.Store.{entries_of, is_entry_of, IsStore}
 use Rattle.lsdb.proofs.Arrivals.{differ_both}
 use Rattle.lsdb.proofs.Stores.{Found, chosen, found_by_insert, installed_new, installed_there, key_is, lacking, unchosen}
-use Rattle.flood_core.specs.declared.held.Held.{Held}
+use Rattle.flood_core.specs.declared.database_copy.DatabaseCopy.{DatabaseCopy}
 use Rattle.flood_core.specs.steps.Numbers.{entries_by, entry_in, lsa_in}
 use Rattle.flood_core.specs.Receiving.{arrived}
 use Rattle.flood_core.specs.steps.SharedStore.{IsCounted, IsSharedStore, lsas_in, places_in}
@@ -154,7 +154,7 @@ met_at keys es items i is_new db lsa at key read after change is store viewed re
 -- ---- by numbers
 
 -- what an install of the LSA of a number comes to where there is one of its key
-pub record IsMetBy (lsas : List Lsa) (before items : List Held) (i at number : ℕ) (change : Change) (after : Held)
+pub record IsMetBy (lsas : List Lsa) (before items : List DatabaseCopy) (i at number : ℕ) (change : Change) (after : DatabaseCopy)
     (keys : List Key) (key : Key) : Type 0 where
   pub told : change ≡ (installed (entries_by lsas before) (arrived at (lsa_in lsas number))).1
   pub turns : entries_by lsas (set items i after)
@@ -164,7 +164,7 @@ pub record IsMetBy (lsas : List Lsa) (before items : List Held) (i at number : �
       → IsKept (lsa_in lsas number) → IsSharedStore keys' (entries_by lsas (set items i after)) (Some at)
 
 -- a key that is there stands before the end
-pub there_by : (lsas : List Lsa) (keys : List Key) (before : List Held) (i : ℕ) (is_new : Bool) (greatest : Option ℕ)
+pub there_by : (lsas : List Lsa) (keys : List Key) (before : List DatabaseCopy) (i : ℕ) (is_new : Bool) (greatest : Option ℕ)
     (number : ℕ) (key : Key) → key ≡ key_of (lsa_in lsas number) → IsSharedStore keys (entries_by lsas before) greatest
     → is_new ≡ not (list_any (same_key key) keys) → is_new ≡ false → i ≡ position_or_len (same_key key) keys
     → i < length before
@@ -176,8 +176,8 @@ there_by lsas keys before i is_new greatest number key is store added old place 
     (entries_of_parts es) added old place in
     omega (arith, slice_get_within es i found.entry found.there, length-map before (entry_in lsas))
 
-pub met_by : (lsas : List Lsa) (keys : List Key) (before items : List Held) (i : ℕ) (is_new : Bool)
-    (greatest : Option ℕ) (number at : ℕ) (key : Key) (read after : Held) (change : Change)
+pub met_by : (lsas : List Lsa) (keys : List Key) (before items : List DatabaseCopy) (i : ℕ) (is_new : Bool)
+    (greatest : Option ℕ) (number at : ℕ) (key : Key) (read after : DatabaseCopy) (change : Change)
     → key ≡ key_of (lsa_in lsas number) → IsSharedStore keys (entries_by lsas before) greatest → items ≡ before
     → is_new ≡ not (list_any (same_key key) keys) → is_new ≡ false → i ≡ position_or_len (same_key key) keys
     → i < length items → read ≡ get_or items i read
@@ -204,7 +204,7 @@ met_by lsas keys before items i is_new greatest number at key read after change 
     }
 
 -- and where there is none
-pub record IsNewBy (lsas : List Lsa) (before : List Held) (at number : ℕ) (new : Held) (keys : List Key) (key : Key)
+pub record IsNewBy (lsas : List Lsa) (before : List DatabaseCopy) (at number : ℕ) (new : DatabaseCopy) (keys : List Key) (key : Key)
     : Type 0 where
   pub told : Added ≡ (installed (entries_by lsas before) (arrived at (lsa_in lsas number))).1
   pub turns : entries_by lsas (before ++ new ∷ [])
@@ -255,8 +255,8 @@ store_new keys keys' es greatest at lsa is grown none behind small kept =
       few = omega (arith, length-append es (new ∷ []), more_on greatest at (length es) is.counted behind, small);
     }
 
-pub new_by : (lsas : List Lsa) (keys : List Key) (before : List Held) (is_new : Bool) (greatest : Option ℕ)
-    (number at : ℕ) (key : Key) (new : Held) → key ≡ key_of (lsa_in lsas number)
+pub new_by : (lsas : List Lsa) (keys : List Key) (before : List DatabaseCopy) (is_new : Bool) (greatest : Option ℕ)
+    (number at : ℕ) (key : Key) (new : DatabaseCopy) → key ≡ key_of (lsa_in lsas number)
     → IsSharedStore keys (entries_by lsas before) greatest
     → is_new ≡ not (list_any (same_key key) keys) → is_new ≡ true
     → new ≡ record { number = number; at = at; differing = None }
@@ -272,7 +272,7 @@ new_by lsas keys before is_new greatest number at key new is store added fresh i
     let added_to : installed es (arrived at x) ≡ (es ++ record { lsa = arrived at x; differing = None } ∷ [], Added) =
     installed_new es (arrived at x) lacks in
     let grown : entries_by lsas (before ++ new ∷ []) ≡ es ++ record { lsa = arrived at x; differing = None } ∷ [] =
-    map-append (entry_in lsas) before (new ∷ []) ∙ ap (λ (h : Held). es ++ entry_in lsas h ∷ []) is_held in
+    map-append (entry_in lsas) before (new ∷ []) ∙ ap (λ (h : DatabaseCopy). es ++ entry_in lsas h ∷ []) is_held in
     record {
       told = sym (ap (λ (r : List Entry × Change). r.1) added_to);
       turns = grown ∙ sym (ap (λ (r : List Entry × Change). r.0) added_to);

@@ -7,10 +7,10 @@
 #![tactic(auto)]
 
 mod answer;
+mod database_copy;
 mod error;
 mod field;
 mod flood;
-mod held;
 mod noted;
 mod numbered_update;
 mod packet;

@@ -8,7 +8,7 @@ ghost use Rattle.flood_core.specs.{Databases.after_install, Databases.empty_data
 ghost use Rattle.flood_core.specs.steps.SharedStore.{lsas_in};
 ghost use Rattle.flood_core.specs.steps.Numbers.{database_in, entries_by, lsa_in, IsStored};
 
-use crate::held::Held;
+use crate::database_copy::DatabaseCopy;
 use file_key::FileKey;
 use indexmap::IndexSet;
 use lsdb::{Change, Key, Lsdb};
@@ -19,7 +19,7 @@ use std::alloc::Global;
 /// A router's database: of each key the first newest instance, by its number among the LSAs of the file.
 pub struct Store {
     pub keys: IndexSet<Key, FileKey>,
-    pub held: Vec<Held>,
+    pub held: Vec<DatabaseCopy>,
     pub greatest: Option<u32>,
 }
 
@@ -66,7 +66,7 @@ impl Store {
         let (place, is_new) = self.keys.insert_full(Key::of(&lsas[number as usize]))?;
         self.greatest = Some(at);
         if is_new {
-            self.held.push_reserved(Held::new(number, at));
+            self.held.push_reserved(DatabaseCopy::new(number, at));
             return Ok(Change::Added);
         }
         Ok(self.held[place].meet(lsas, number, at))

@@ -5,7 +5,7 @@ use Rattle.std.specs.Option.{ok_or, option_and_then, option_map}
 use Rattle.std.proofs.lemmas.Bool.{and_from, and_parts, lt-ltb, ltb-true}
 use Rattle.std.proofs.lemmas.List.{append-nil, length-append}
 use Rattle.std.proofs.lemmas.List.Elements.{filter-append}
-use Rattle.text_parts.specs.LinesTold.{IsBeginning, told}
+use Rattle.text_parts.specs.LinesRead.{IsBeginning, lines_read}
 use Rattle.text_parts.specs.TextRule.{IsText, said_by}
 use Rattle.text_parts.proofs.WholeLists.{Means, all_passed, means, said_by_told, told_stays, with_told}
 use Rattle.flood_script.specs.declared.script.FloodLine.{FloodLine}
@@ -14,7 +14,7 @@ use Rattle.flood_script.specs.declared.script.FloodScript.{FloodScript}
 use Rattle.flood_script.specs.Deliveries.{deliveries_in, is_delivery}
 use Rattle.flood_script.specs.FloodLines.{line_in, routers_in}
 use Rattle.flood_script.specs.FloodScripts.{IsAmong, IsFirstFloodFault, IsScript}
-use Rattle.flood_script.specs.steps.Taking.{Said, after_more, flood_rule, may_follow, nothing_said, said, script_of, wrong}
+use Rattle.flood_script.specs.steps.Taking.{TakenLines, after_more, flood_rule, may_follow, no_lines_taken, taken_lines, script_of, wrong}
 
 -- a script of these parts
 abbrev script_with : ℕ → List FloodLine → FloodScript
@@ -22,7 +22,7 @@ script_with routers lines = record { routers = routers; lines = lines }
 
 -- what lines say: none is told, or they are a script
 abbrev Say : List (List ℕ) → Option ℕ → List FloodLine → Type 0
-Say lines None said_lines = told lines ≡ []
+Say lines None said_lines = lines_read lines ≡ []
 Say lines (Some routers) said_lines = IsScript lines (script_with routers said_lines)
 
 -- ---- lines that may follow
@@ -52,33 +52,33 @@ may count lines more (Same one other router) few among = and_from _ _ (lt-ltb _ 
 -- ---- later lines
 
 -- later lines say more lines
-record AreMore (count : ℕ) (lines : List FloodLine) (others : List (List ℕ)) (after : Said) : Type 0 where
+record AreMore (count : ℕ) (lines : List FloodLine) (others : List (List ℕ)) (after : TakenLines) : Type 0 where
   more : List FloodLine
   lines_are : map line_in others ≡ map (λ line. Some line) more
   few : deliveries_in (lines ++ more) ≤ 65535
   among : AllByRecursion (IsAmong count) more
-  says : after ≡ said (Some count) (lines ++ more)
+  says : after ≡ taken_lines (Some count) (lines ++ more)
 
-after_lines : (count : ℕ) (lines : List FloodLine) (others : List (List ℕ)) (after : Said) → deliveries_in lines ≤ 65535
-    → fold (with_told flood_rule) (Ok (said (Some count) lines)) others ≡ Ok after → AreMore count lines others after
+after_lines : (count : ℕ) (lines : List FloodLine) (others : List (List ℕ)) (after : TakenLines) → deliveries_in lines ≤ 65535
+    → fold (with_told flood_rule) (Ok (taken_lines (Some count) lines)) others ≡ Ok after → AreMore count lines others after
 after_lines count lines [] after few is =
-    let same : said (Some count) lines ≡ after = cc in
+    let same : taken_lines (Some count) lines ≡ after = cc in
     record {
       more = [];
       lines_are = refl;
       few = subst (λ (ls : List FloodLine). deliveries_in ls ≤ 65535) (sym (append-nil lines)) few;
       among = tt;
-      says = sym same ∙ ap (said (Some count)) (sym (append-nil lines));
+      says = sym same ∙ ap (taken_lines (Some count)) (sym (append-nil lines));
     }
 after_lines count lines (line ∷ others) after few is =
     next (line_in line) refl is
     (λ one fewer rest. after_lines count (lines ++ one ∷ []) others after fewer rest)
   where
     follow : (one : FloodLine) (b : Bool) → line_in line ≡ Some one → may_follow count lines one ≡ b
-        → fold (with_told flood_rule) (ok_or (cond b (Some (said (Some count) (lines ++ one ∷ []))) None) wrong) others
+        → fold (with_told flood_rule) (ok_or (cond b (Some (taken_lines (Some count) (lines ++ one ∷ []))) None) wrong) others
         ≡ Ok after
         → (deliveries_in (lines ++ one ∷ []) ≤ 65535
-        → fold (with_told flood_rule) (Ok (said (Some count) (lines ++ one ∷ []))) others ≡ Ok after
+        → fold (with_told flood_rule) (Ok (taken_lines (Some count) (lines ++ one ∷ []))) others ≡ Ok after
         → AreMore count (lines ++ one ∷ []) others after)
         → AreMore count lines (line ∷ others) after
     follow one false there may is onward = let none = sym (told_stays flood_rule wrong others) ∙ is in absurd cc
@@ -91,13 +91,13 @@ after_lines count lines (line ∷ others) after few is =
               ∙ ap (λ (os : List (Option FloodLine)). Some one ∷ os) rest.lines_are;
           few = subst (λ (ls : List FloodLine). deliveries_in ls ≤ 65535) whole rest.few;
           among = (so.1, rest.among);
-          says = rest.says ∙ ap (said (Some count)) whole;
+          says = rest.says ∙ ap (taken_lines (Some count)) whole;
         }
 
     next : (here : Option FloodLine) → line_in line ≡ here
         → fold (with_told flood_rule) (ok_or (option_and_then (after_more count lines) here) wrong) others ≡ Ok after
         → ((one : FloodLine) → deliveries_in (lines ++ one ∷ []) ≤ 65535
-        → fold (with_told flood_rule) (Ok (said (Some count) (lines ++ one ∷ []))) others ≡ Ok after
+        → fold (with_told flood_rule) (Ok (taken_lines (Some count) (lines ++ one ∷ []))) others ≡ Ok after
         → AreMore count (lines ++ one ∷ []) others after)
         → AreMore count lines (line ∷ others) after
     next None there is onward = let none = sym (told_stays flood_rule wrong others) ∙ is in absurd cc
@@ -106,9 +106,9 @@ after_lines count lines (line ∷ others) after few is =
 lines_taken : (count : ℕ) (lines more : List FloodLine) (others : List (List ℕ))
     → map line_in others ≡ map (λ (line : FloodLine). Some line) more → deliveries_in (lines ++ more) ≤ 65535
     → AllByRecursion (IsAmong count) more
-    → fold (with_told flood_rule) (Ok (said (Some count) lines)) others ≡ Ok (said (Some count) (lines ++ more))
+    → fold (with_told flood_rule) (Ok (taken_lines (Some count) lines)) others ≡ Ok (taken_lines (Some count) (lines ++ more))
 lines_taken count lines [] [] are few among =
-    ap (λ (ls : List FloodLine). Ok (said (Some count) ls)) (sym (append-nil lines))
+    ap (λ (ls : List FloodLine). Ok (taken_lines (Some count) ls)) (sym (append-nil lines))
 lines_taken count lines [] (line ∷ others) are few among = absurd cc
 lines_taken count lines (one ∷ more) [] are few among = absurd cc
 lines_taken count lines (one ∷ more) (line ∷ others) are few among =
@@ -117,27 +117,27 @@ lines_taken count lines (one ∷ more) (line ∷ others) are few among =
     ap (λ (o : Option FloodLine). fold (with_told flood_rule)
     (ok_or (option_and_then (after_more count lines) o) wrong) others) first
     ∙ ap (λ (b : Bool). fold (with_told flood_rule)
-    (ok_or (cond b (Some (said (Some count) (lines ++ one ∷ []))) None) wrong) others)
+    (ok_or (cond b (Some (taken_lines (Some count) (lines ++ one ∷ []))) None) wrong) others)
     (may count lines more one few among.0)
     ∙ lines_taken count (lines ++ one ∷ []) more others (cc)
     (subst (λ (ls : List FloodLine). deliveries_in ls ≤ 65535) (sym whole) few) among.1
-    ∙ ap (λ (ls : List FloodLine). Ok (said (Some count) ls)) whole
+    ∙ ap (λ (ls : List FloodLine). Ok (taken_lines (Some count) ls)) whole
 
 -- ---- whole lists
 
-says : (lines : List (List ℕ)) (so_far : Said) → said_by flood_rule lines ≡ Ok so_far
+says : (lines : List (List ℕ)) (so_far : TakenLines) → said_by flood_rule lines ≡ Ok so_far
     → Say lines so_far.routers so_far.lines
-says lines so_far say = by (told lines) refl (sym (said_by_told flood_rule lines) ∙ say)
+says lines so_far say = by (lines_read lines) refl (sym (said_by_told flood_rule lines) ∙ say)
   where
-    begun : (first : List ℕ) (others : List (List ℕ)) (here : Option ℕ) → told lines ≡ first ∷ others
+    begun : (first : List ℕ) (others : List (List ℕ)) (here : Option ℕ) → lines_read lines ≡ first ∷ others
         → routers_in first ≡ here
-        → fold (with_told flood_rule) (ok_or (option_map (λ (count : ℕ). said (Some count) []) here) wrong) others
+        → fold (with_told flood_rule) (ok_or (option_map (λ (count : ℕ). taken_lines (Some count) []) here) wrong) others
         ≡ Ok so_far
         → Say lines so_far.routers so_far.lines
     begun first others None are is say = let none = sym (told_stays flood_rule wrong others) ∙ say in absurd cc
     begun first others (Some count) are is say =
         let after = after_lines count [] others so_far (omega arith) say in
-        subst (λ (s : Said). Say lines s.routers s.lines) (sym after.says) (record {
+        subst (λ (s : TakenLines). Say lines s.routers s.lines) (sym after.says) (record {
           first = first;
           others = others;
           told_are = are;
@@ -147,10 +147,10 @@ says lines so_far say = by (told lines) refl (sym (said_by_told flood_rule lines
           among = after.among;
         })
 
-    by : (lines_told : List (List ℕ)) → told lines ≡ lines_told
-        → fold (with_told flood_rule) (Ok nothing_said) lines_told ≡ Ok so_far → Say lines so_far.routers so_far.lines
+    by : (lines_told : List (List ℕ)) → lines_read lines ≡ lines_told
+        → fold (with_told flood_rule) (Ok no_lines_taken) lines_told ≡ Ok so_far → Say lines so_far.routers so_far.lines
     by [] none say =
-        let same : nothing_said ≡ so_far = cc in subst (λ (s : Said). Say lines s.routers s.lines) same none
+        let same : no_lines_taken ≡ so_far = cc in subst (λ (s : TakenLines). Say lines s.routers s.lines) same none
     by (first ∷ others) are say = begun first others (routers_in first) are refl say
 
 -- so the script that the lines are is what they say, and they begin one as long as they say something
@@ -165,16 +165,16 @@ is_script lines script is = ended is.said.routers is.said.lines (says lines is.s
 
 is_text : (lines : List (List ℕ)) (script : FloodScript) → IsScript lines script → IsText flood_rule lines script
 is_text lines script is = record {
-  said = said (Some script.routers) script.lines;
+  said = taken_lines (Some script.routers) script.lines;
   say = said_by_told flood_rule lines
-      ∙ ap (fold (with_told flood_rule) (Ok nothing_said)) is.told_are
+      ∙ ap (fold (with_told flood_rule) (Ok no_lines_taken)) is.told_are
       ∙ ap (λ (o : Option ℕ). fold (with_told flood_rule)
-      (ok_or (option_map (λ (count : ℕ). said (Some count) []) o) wrong) is.others) is.start
+      (ok_or (option_map (λ (count : ℕ). taken_lines (Some count) []) o) wrong) is.others) is.start
       ∙ lines_taken script.routers [] script.lines is.others is.lines_are is.few is.among;
   whole = refl;
 }
 
-begins : (lines : List (List ℕ)) (so_far : Said) → said_by flood_rule lines ≡ Ok so_far → IsBeginning IsScript lines
+begins : (lines : List (List ℕ)) (so_far : TakenLines) → said_by flood_rule lines ≡ Ok so_far → IsBeginning IsScript lines
 begins lines so_far say = by so_far.routers so_far.lines (says lines so_far say)
   where
     by : (routers : Option ℕ) (said_lines : List FloodLine) → Say lines routers said_lines → IsBeginning IsScript lines

@@ -1,7 +1,7 @@
 -- The script that lines are, and the first line that is not as it should be.
 use Rattle.std.specs.Prelude.{◌≡◌, ◌<◌, ◌≤◌, ◌⊎◌, ℕ, List, ◌∷◌, Some, map, Result, Err}
 use Rattle.std.specs.List.{AllByRecursion}
-use Rattle.text_parts.specs.LinesTold.{IsFirstWrong, told}
+use Rattle.text_parts.specs.LinesRead.{IsFirstWrong, lines_read}
 use Rattle.flood_script.specs.declared.error.FloodScriptError.{FloodScriptError}
 use Rattle.flood_script.specs.declared.error.FloodScriptError.TheVariants.{NoMemory}
 use Rattle.flood_script.specs.declared.script.FloodLine.{FloodLine}
@@ -20,7 +20,7 @@ IsAmong count (Same one other router) = (one < count) × (other < count)
 pub record IsScript (lines : List (List ℕ)) (script : FloodScript) : Type 0 where
   pub first : List ℕ
   pub others : List (List ℕ)
-  pub told_are : told lines ≡ first ∷ others
+  pub told_are : lines_read lines ≡ first ∷ others
   pub start : routers_in first ≡ Some script.routers
   pub lines_are : map line_in others ≡ map (λ line. Some line) script.lines
   pub few : deliveries_in script.lines ≤ 65535

@@ -45,11 +45,13 @@ pub fn read_flood_script(alloc: Global, bytes: &[u8]) -> Result<FloodScript, Flo
     ensures few { IfOk result (λ script. deliveries_in script.lines ≤ 65535) }
     ensures among { IfOk result (λ script. AllByRecursion (IsAmong script.routers) script.lines) }
 {
-    told(text_of(bytes, Taken::none(alloc)))
+    script_or_fault(text_of(bytes, Taken::none(alloc)))
 }
 
 /// What was read, with the error of scripts of deliveries.
-fn told(read: Result<FloodScript, LineError<()>>) -> Result<FloodScript, FloodScriptError>
+fn script_or_fault(
+    read: Result<FloodScript, LineError<()>>,
+) -> Result<FloodScript, FloodScriptError>
     ensures { result ≡ result_map_both (λ script. script) error_of read }
 {
     match read {

@@ -3,7 +3,7 @@
 ghost use Rattle.std.specs.Prelude.{◌≡◌, ◌≤◌, ◌++◌, ◌∷◌, [], List};
 ghost use Rattle.flood_script.specs.declared.script.FloodLine.{FloodLine};
 ghost use Rattle.flood_script.specs.Deliveries.{deliveries_in};
-ghost use Rattle.flood_script.specs.steps.Taking.{may_follow, nothing_said};
+ghost use Rattle.flood_script.specs.steps.Taking.{may_follow, no_lines_taken};
 
 use crate::line::{read_line, read_routers};
 use crate::script::{FloodLine, FloodScript};
@@ -27,11 +27,11 @@ pub(crate) struct Taken {
 impl Model for Taken {
     ghost use Rattle.std.specs.Prelude.{◌≡◌, ◌≤◌};
     ghost use Rattle.flood_script.specs.Deliveries.{deliveries_in};
-    ghost use Rattle.flood_script.specs.steps.Taking.{Said, said};
+    ghost use Rattle.flood_script.specs.steps.Taking.{TakenLines, taken_lines};
 
-    ghost Value = { Said };
+    ghost Value = { TakenLines };
 
-    ghost view = { λ taken. said taken.routers taken.lines.items };
+    ghost view = { λ taken. taken_lines taken.routers taken.lines.items };
 
     ghost invariant = { λ taken. (taken.deliveries ≡ deliveries_in taken.lines.items) × (taken.deliveries ≤ 65535) };
 }
@@ -39,7 +39,7 @@ impl Model for Taken {
 impl Taken {
     /// Of no lines.
     pub(crate) fn none(alloc: Global) -> Taken
-        ensures { result ≡ nothing_said }
+        ensures { result ≡ no_lines_taken }
     {
         Taken {
             routers: None,

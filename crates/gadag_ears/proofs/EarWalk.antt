@@ -7,7 +7,7 @@ use Rattle.mrt_graph.specs.declared.link.End.{End}
 use Rattle.mrt_graph.specs.declared.tree.TreeNode.{TreeNode}
 use Rattle.mrt_graph.specs.Leads.{leads}
 use Rattle.mrt_graph.specs.Topology.{Topology}
-use Rattle.mrt_graph.specs.TreeWords.{search_number}
+use Rattle.mrt_graph.specs.TreeFields.{search_number}
 use Rattle.mrt_graph.proofs.EndsAt.{end_leads}
 use Rattle.mrt_graph.specs.FirstEnd.{IsFirstEnd}
 use Rattle.lowpoint_dfs.specs.Subtree.{IsInSubtree, Itself, parent_of}

@@ -16,7 +16,7 @@ use Rattle.mrt_graph.specs.declared.tree.TreeNode.{TreeNode}
 use Rattle.mrt_graph.specs.GraphInvariant.{IsEnd, IsTopology}
 use Rattle.mrt_graph.specs.Leads.{leads}
 use Rattle.mrt_graph.specs.Topology.{Topology}
-use Rattle.mrt_graph.specs.TreeWords.{parent_link}
+use Rattle.mrt_graph.specs.TreeFields.{parent_link}
 use Rattle.mrt_graph.proofs.EndsAt.{IsEndOver, leads_end}
 use Rattle.mrt_graph.proofs.Hops.{lead_back}
 use Rattle.mrt_graph.proofs.ListTests.{all_at}

@@ -7,7 +7,7 @@ use Rattle.mrt_graph.specs.declared.link.End.{End}
 use Rattle.mrt_graph.specs.declared.tree.TreeNode.{TreeNode}
 use Rattle.mrt_graph.specs.Leads.{leads}
 use Rattle.mrt_graph.specs.Topology.{Topology}
-use Rattle.mrt_graph.specs.TreeWords.{search_number, parent_link, low_of, low_link}
+use Rattle.mrt_graph.specs.TreeFields.{search_number, parent_link, low_of, low_link}
 use Rattle.mrt_graph.proofs.EndsAt.{end_leads}
 use Rattle.mrt_graph.proofs.Hops.{lead_back, same_ends}
 use Rattle.lowpoint_dfs.specs.Lowpoint.{IsLowLink, ByOffer, ByParent, is_parent_link, offer}

@@ -4,7 +4,7 @@ use Rattle.mrt_graph.specs.declared.gadag.Mark.{Mark}
 use Rattle.mrt_graph.specs.declared.gadag.Place.{Place}
 use Rattle.mrt_graph.specs.declared.tree.TreeNode.{TreeNode}
 use Rattle.mrt_graph.specs.GadagLists.{GadagLists, gadag_of}
-use Rattle.mrt_graph.specs.GadagWords.{role_at, way_at}
+use Rattle.mrt_graph.specs.GadagFields.{role_at, way_at}
 use Rattle.mrt_graph.specs.Leads.{leads}
 use Rattle.mrt_graph.specs.Topology.{Topology}
 use Rattle.gadag_ears.specs.declared.growing.Growing.{Growing}

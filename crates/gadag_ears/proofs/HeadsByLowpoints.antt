@@ -4,10 +4,10 @@ use Rattle.std.specs.Prelude.{Contains}
 use Rattle.std.proofs.lemmas.Bool.{cases_eq, cases_lt}
 use Rattle.mrt_graph.specs.declared.gadag.Place.{Place}
 use Rattle.mrt_graph.specs.declared.tree.TreeNode.{TreeNode}
-use Rattle.mrt_graph.specs.GadagWords.{block_at, head_at}
+use Rattle.mrt_graph.specs.GadagFields.{block_at, head_at}
 use Rattle.mrt_graph.specs.Leads.{leads}
 use Rattle.mrt_graph.specs.Topology.{Topology}
-use Rattle.mrt_graph.specs.TreeWords.{search_number, low_of, parent_link}
+use Rattle.mrt_graph.specs.TreeFields.{search_number, low_of, parent_link}
 use Rattle.mrt_graph.proofs.Hops.{lead_back, same_ends}
 use Rattle.mrt_graph.proofs.Members.{contains_cases, contains_first, contains_later, contains_none}
 use Rattle.lowpoint_dfs.specs.Subtree.{Below, IsInSubtree, Itself, parent_of}

@@ -9,10 +9,10 @@ use Rattle.mrt_graph.specs.declared.gadag.Mark.{Mark}
 use Rattle.mrt_graph.specs.declared.gadag.Place.{Place}
 use Rattle.mrt_graph.specs.declared.tree.TreeNode.{TreeNode}
 use Rattle.mrt_graph.specs.GadagLists.{GadagLists}
-use Rattle.mrt_graph.specs.GadagWords.{block_at, head_at, role_at}
+use Rattle.mrt_graph.specs.GadagFields.{block_at, head_at, role_at}
 use Rattle.mrt_graph.specs.Leads.{leads}
 use Rattle.mrt_graph.specs.Topology.{Topology}
-use Rattle.mrt_graph.specs.TreeWords.{search_number}
+use Rattle.mrt_graph.specs.TreeFields.{search_number}
 use Rattle.mrt_graph.proofs.ListPlaces.{place_of}
 use Rattle.mrt_graph.proofs.Members.{contains_cases, contains_first, contains_later, contains_none}
 use Rattle.gadag_ears.specs.declared.kind.EarKind.{EarKind}

@@ -6,7 +6,7 @@ use Rattle.mrt_graph.specs.declared.link.End.{End}
 use Rattle.mrt_graph.specs.declared.tree.TreeNode.{TreeNode}
 use Rattle.mrt_graph.specs.Leads.{leads}
 use Rattle.mrt_graph.specs.Topology.{Topology}
-use Rattle.mrt_graph.specs.TreeWords.{search_number, low_of}
+use Rattle.mrt_graph.specs.TreeFields.{search_number, low_of}
 use Rattle.mrt_graph.proofs.EndsAt.{end_leads}
 use Rattle.mrt_graph.proofs.Members.{contains_cases, contains_later, contains_none}
 use Rattle.mrt_graph.proofs.Tallies.{tally}

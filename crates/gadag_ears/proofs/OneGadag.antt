@@ -11,10 +11,10 @@ use Rattle.mrt_graph.specs.declared.gadag.Way.TheVariants.{AToB, BToA, Unset}
 use Rattle.mrt_graph.specs.declared.link.Link.{Link}
 use Rattle.mrt_graph.specs.declared.tree.TreeNode.{TreeNode}
 use Rattle.mrt_graph.specs.GadagLists.{GadagLists, gadag_of}
-use Rattle.mrt_graph.specs.GadagWords.{block_at, head_at, link_block_at, role_at, way_at}
+use Rattle.mrt_graph.specs.GadagFields.{block_at, head_at, link_block_at, role_at, way_at}
 use Rattle.mrt_graph.specs.Tails.{tail_at, tail_of}
 use Rattle.mrt_graph.specs.Topology.{Topology}
-use Rattle.mrt_graph.specs.TreeWords.{low_of, search_number}
+use Rattle.mrt_graph.specs.TreeFields.{low_of, search_number}
 use Rattle.mrt_graph.proofs.ListTests.{there}
 use Rattle.lowpoint_dfs.specs.Subtree.{HasParent}
 use Rattle.gadag_ears.specs.Ear.{Ear}

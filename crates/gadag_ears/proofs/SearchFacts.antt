@@ -5,7 +5,7 @@ use Rattle.mrt_graph.specs.declared.tree.TreeNode.{TreeNode}
 use Rattle.mrt_graph.specs.GraphInvariant.{IsTopology}
 use Rattle.mrt_graph.specs.Leads.{leads}
 use Rattle.mrt_graph.specs.Topology.{Topology}
-use Rattle.mrt_graph.specs.TreeWords.{search_number, parent_link, low_of, low_link}
+use Rattle.mrt_graph.specs.TreeFields.{search_number, parent_link, low_of, low_link}
 use Rattle.lowpoint_dfs.specs.Subtree.{HasParent, IsInSubtree, Itself, Below, parent_of}
 use Rattle.gadag_ears.specs.declared.kind.EarKind.TheVariants.{Child}
 use Rattle.gadag_ears.specs.Ear.{next_node}

@@ -9,10 +9,10 @@ use Rattle.mrt_graph.specs.declared.link.End.{End}
 use Rattle.mrt_graph.specs.declared.tree.TreeNode.{TreeNode}
 use Rattle.mrt_graph.specs.FirstEnd.{IsFirstEnd}
 use Rattle.mrt_graph.specs.GadagLists.{GadagLists}
-use Rattle.mrt_graph.specs.GadagWords.{block_at, head_at, link_block_at}
+use Rattle.mrt_graph.specs.GadagFields.{block_at, head_at, link_block_at}
 use Rattle.mrt_graph.specs.Leads.{leads}
 use Rattle.mrt_graph.specs.Topology.{Topology}
-use Rattle.mrt_graph.specs.TreeWords.{low_link, low_of, search_number, parent_link}
+use Rattle.mrt_graph.specs.TreeFields.{low_link, low_of, search_number, parent_link}
 use Rattle.mrt_graph.proofs.Hops.{lead_back}
 use Rattle.mrt_graph.proofs.ListTests.{there}
 use Rattle.lowpoint_dfs.specs.Subtree.{HasParent, Itself, parent_of}

@@ -6,7 +6,7 @@ use Rattle.std.proofs.lemmas.List.Elements.{Contains-append_cases}
 use Rattle.mrt_graph.specs.declared.tree.TreeNode.{TreeNode}
 use Rattle.mrt_graph.specs.Leads.{leads}
 use Rattle.mrt_graph.specs.Topology.{Topology}
-use Rattle.mrt_graph.specs.TreeWords.{search_number, low_of}
+use Rattle.mrt_graph.specs.TreeFields.{search_number, low_of}
 use Rattle.mrt_graph.proofs.EndsAt.{IsEndOver, leads_end}
 use Rattle.mrt_graph.proofs.Hops.{lead_back}
 use Rattle.mrt_graph.proofs.Members.{contains_cases, contains_first, contains_later, contains_none, listed_or_not}

@@ -3,7 +3,7 @@ use Rattle.std.specs.Prelude.{◌≡◌, ◌≢◌, ℕ, List, Some}
 use Rattle.mrt_graph.specs.declared.cert.Role.TheVariants.{Closing, Plain, Sole}
 use Rattle.mrt_graph.specs.declared.gadag.Mark.{Mark}
 use Rattle.mrt_graph.specs.declared.gadag.Place.{Place}
-use Rattle.mrt_graph.specs.GadagWords.{block_at, link_block_at, role_at}
+use Rattle.mrt_graph.specs.GadagFields.{block_at, link_block_at, role_at}
 
 -- block k has one link, which is sole, and one node, which names it
 pub record IsOfSoleLink (places : List Place) (marks : List Mark) (k : ℕ) : Type 0 where

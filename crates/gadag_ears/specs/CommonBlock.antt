@@ -1,7 +1,7 @@
 -- The common block of two nodes (RFC 7811, section 4.4).
 use Rattle.std.specs.Prelude.{◌≡◌, ℕ, List, Some}
 use Rattle.mrt_graph.specs.declared.gadag.Place.{Place}
-use Rattle.mrt_graph.specs.GadagWords.{block_at, head_at}
+use Rattle.mrt_graph.specs.GadagFields.{block_at, head_at}
 
 -- k is the block that two nodes have in common: it is the block of one of them, and the other one has it too or is its
 -- head

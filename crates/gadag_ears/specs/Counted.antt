@@ -2,7 +2,7 @@
 use Rattle.std.specs.Prelude.{◌≡◌, ℕ, Some, List}
 use Rattle.mrt_graph.specs.declared.cert.Role.TheVariants.{Closing}
 use Rattle.mrt_graph.specs.declared.gadag.Mark.{Mark}
-use Rattle.mrt_graph.specs.GadagWords.{role_at}
+use Rattle.mrt_graph.specs.GadagFields.{role_at}
 use Rattle.mrt_graph.specs.Leads.{leads}
 use Rattle.mrt_graph.specs.Tails.{tail_at}
 use Rattle.mrt_graph.specs.Topology.{Topology}

@@ -1,7 +1,7 @@
 -- Heads and blocks, read off the ears (RFC 7811, section 4.5: a node's local root and its block ID).
 use Rattle.std.specs.Prelude.{◌≡◌, ℕ, List, Some, Contains}
 use Rattle.mrt_graph.specs.declared.gadag.Place.{Place}
-use Rattle.mrt_graph.specs.GadagWords.{block_at, head_at}
+use Rattle.mrt_graph.specs.GadagFields.{block_at, head_at}
 use Rattle.gadag_ears.specs.declared.kind.EarKind.TheVariants.{Child}
 use Rattle.gadag_ears.specs.Ear.{Ear, new_nodes}
 

@@ -1,8 +1,14 @@
 //! What holds of the ears of each graph.
 
 ghost use Rattle.std.specs.Prelude.{◌≡◌, ◌<◌, ◌≤◌, ◌⊎◌, ◌++◌, ◌∷◌, ◌==◌, ℕ, List, Some, Contains, count_by, length};
-ghost use Rattle.mrt_graph.specs.{declared.gadag.Place.Place, declared.link.End.End, declared.tree.TreeNode.TreeNode, GadagWords.block_at};
-ghost use Rattle.mrt_graph.specs.{GraphInvariant.IsTopology, Leads.leads, Topology.Topology, TreeWords.low_of, TreeWords.search_number};
+ghost use Rattle.mrt_graph.specs.declared.gadag.Place.{Place};
+ghost use Rattle.mrt_graph.specs.declared.link.End.{End};
+ghost use Rattle.mrt_graph.specs.declared.tree.TreeNode.{TreeNode};
+ghost use Rattle.mrt_graph.specs.GadagFields.{block_at};
+ghost use Rattle.mrt_graph.specs.GraphInvariant.{IsTopology};
+ghost use Rattle.mrt_graph.specs.Leads.{leads};
+ghost use Rattle.mrt_graph.specs.Topology.{Topology};
+ghost use Rattle.mrt_graph.specs.TreeFields.{low_of, search_number};
 ghost use Rattle.lowpoint_dfs.specs.{SearchTree.IsSearchTree, Subtree.parent_of};
 ghost use Rattle.gadag_ears.specs.{declared.kind.EarKind.EarKind, CommonBlock.IsCommonBlock, EarOrder.AreEars, EarOrder.IsEarOrder};
 ghost use Rattle.gadag_ears.specs.Ear.{Ear, IsBegun, IsNextEar};

@@ -3,7 +3,7 @@
 ghost use Rattle.std.specs.Prelude.{◌≡◌, ◌≢◌, ◌<◌, ◌⊎◌, ℕ, List, Some, length, slice_get};
 ghost use Rattle.mrt_graph.specs.{declared.cert.Role.TheVariants.Closing, declared.cert.Role.TheVariants.Plain, declared.gadag.Way.TheVariants.Unset};
 ghost use Rattle.mrt_graph.specs.{declared.tree.TreeNode.TreeNode, GadagLists.GadagLists, GraphInvariant.IsTopology, Topology.Topology};
-ghost use Rattle.mrt_graph.specs.GadagWords.{block_at, link_block_at, role_at, way_at};
+ghost use Rattle.mrt_graph.specs.GadagFields.{block_at, link_block_at, role_at, way_at};
 ghost use Rattle.lowpoint_dfs.specs.SearchTree.{IsSearchTree};
 ghost use Rattle.gadag_ears.specs.{BlockLinks.IsOfClosingLink, BlockLinks.IsOfSoleLink, Counted.IsCounted, Gadag.IsGadag};
 ghost use Rattle.gadag_ears.specs.Members.{ClosesBlock, GoesOnFrom, HasLinkInto};

@@ -4,7 +4,7 @@
 
 ghost use Rattle.std.specs.Prelude.{◌≡◌, ◌<◌, length};
 ghost use Rattle.link_direction.specs.OrderedGadag.{SaysOrdered};
-ghost use Rattle.mrt_rows.specs.Making.{MakeRows};
+ghost use Rattle.mrt_rows.specs.RowMaker.{MakeRows};
 ghost use Rattle.mrt_rows.specs.Rooted.{MakeColumns};
 
 use crate::cert_words::{put_cert, put_links, put_nodes, put_row, put_row_list};

@@ -11,8 +11,8 @@ use Rattle.inc_dec_spf.specs.BlockAims.{aim_at}
 use Rattle.inc_dec_spf.specs.Path.{IsStep}
 use Rattle.inc_dec_spf.specs.steps.Rest.{IsRestCost, Rest}
 use Rattle.inc_dec_spf.specs.Rest.{far}
-use Rattle.inc_dec_spf.specs.steps.Side.{AreTaken, IsLeastWay, cost_at, left_onward, lesser, link_of_lesser}
-use Rattle.inc_dec_spf.specs.steps.Ways.{AreLeast, AtHead, BeginsAt, HasHeadBy, Inside, IsReadyFrom, IsWantedBlock, Sought, left_after, left_at, sought}
+use Rattle.inc_dec_spf.specs.steps.Side.{AreTaken, IsLeastOverEnds, cost_at, left_onward, lesser, link_of_lesser}
+use Rattle.inc_dec_spf.specs.steps.PathsOverEnds.{AreLeast, AtHead, BeginsAt, HasHeadBy, Inside, IsReadyFrom, IsWantedBlock, Sought, left_after, left_at, sought}
 use Rattle.inc_dec_spf.proofs.InBlocks.{move_of, same_end}
 
 -- what is known of the ways that begin with one end, when `left` is left after it
@@ -22,7 +22,7 @@ pub record IsEndCost (Begins : ℕ → ℕ → Type 0) (place left metric : ℕ)
 
 -- one end more, with which no lesser way begins
 pub still_least : (Begins : ℕ → ℕ → Type 0) (ends : List End) (count cost link : ℕ) → ((other : ℕ) → Begins count other → cost ≤ other)
-    → IsLeastWay Begins ends count cost link → IsLeastWay Begins ends (count + 1) cost link
+    → IsLeastOverEnds Begins ends count cost link → IsLeastOverEnds Begins ends (count + 1) cost link
 still_least Begins ends count cost link none so_far = record {
   most = so_far.most;
   reached = λ below.
@@ -37,7 +37,7 @@ still_least Begins ends count cost link none so_far = record {
 
 -- one end more, over which ways lead
 pub way_taken : (Begins : ℕ → ℕ → Type 0) (ends : List End) (count cost link left : ℕ) (end : End) → slice_get ends count ≡ Some end → IsEndCost Begins count left end.metric
-    → IsLeastWay Begins ends count cost link → IsLeastWay Begins ends (count + 1) (lesser (left + end.metric) cost) (link_of_lesser (left + end.metric) cost end.link link)
+    → IsLeastOverEnds Begins ends count cost link → IsLeastOverEnds Begins ends (count + 1) (lesser (left + end.metric) cost) (link_of_lesser (left + end.metric) cost end.link link)
 way_taken Begins ends count cost link left end at over so_far = elim (cases_Bool (nat_lt (left + end.metric) cost)) [
   | inl is_less ↦
       let less = ltb-true (left + end.metric) cost is_less in

@@ -13,9 +13,9 @@ use Rattle.inc_dec_spf.specs.BlockAims.{IsAimOf, aim_at}
 use Rattle.inc_dec_spf.specs.FirstLink.{Begins, BeginsNone, HasLinksAt, IsFirstLink}
 use Rattle.inc_dec_spf.specs.LeastPath.{IsHop, HaveCommonBlockOfMoreLinks}
 use Rattle.inc_dec_spf.specs.Rest.{far}
-use Rattle.inc_dec_spf.specs.steps.Side.{IsLeastWay, IsRowPut}
+use Rattle.inc_dec_spf.specs.steps.Side.{IsLeastOverEnds, IsRowPut}
 use Rattle.inc_dec_spf.specs.Side.{hop_by}
-use Rattle.inc_dec_spf.specs.steps.Ways.{AreLeast, BeginsAt, Sought, sought}
+use Rattle.inc_dec_spf.specs.steps.PathsOverEnds.{AreLeast, BeginsAt, Sought, sought}
 use Rattle.link_direction.proofs.ClosedBlocks.{IsOrdered}
 use Rattle.link_direction.proofs.LinkNodes.{link_within}
 use Rattle.link_direction.proofs.OneBlock.{one_block}
@@ -25,7 +25,7 @@ use Rattle.inc_dec_spf.proofs.WaysArePaths.{least_hop}
 pub first_link : (it : Sought) (root : ℕ) → IsOrdered it.g root it.w → (own : Bool) (s t k h : ℕ) (aim : ℕ → ℕ) (cost link : ℕ) (ends : List End) → s < length it.g.ids
     → t < length it.g.ids → slice_get it.g.ends s ≡ Some ends → HaveCommonBlockOfMoreLinks it.g it.w s t k h → (own ≡ true → k ≡ it.w.block s)
     → slice_get it.wanted k ≡ Some true → IsAimOf it.g it.w aim s t
-    → IsLeastWay (BeginsAt it own s aim) ends (length ends) cost link → IsFirstLink it.g it.w it.dir s t link
+    → IsLeastOverEnds (BeginsAt it own s aim) ends (length ends) cost link → IsFirstLink it.g it.w it.dir s t link
 first_link it root is own s t k h aim cost link ends within t_within list share kept_to marked it_aims least = elim (cases_Bool (nat_lt cost far)) [
   | inl is_less ↦
       let way = least.reached (ltb-true cost far is_less) in

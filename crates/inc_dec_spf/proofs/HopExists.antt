@@ -18,10 +18,10 @@ use Rattle.inc_dec_spf.specs.LeastPath.{IsHop, NotReached}
 use Rattle.inc_dec_spf.specs.Path.{IsStep, LeadsOn}
 use Rattle.inc_dec_spf.specs.steps.Rest.{IsRestCost}
 use Rattle.inc_dec_spf.specs.Rest.{far}
-use Rattle.inc_dec_spf.specs.steps.Side.{IsLeastWay, lesser, link_of_lesser}
+use Rattle.inc_dec_spf.specs.steps.Side.{IsLeastOverEnds, lesser, link_of_lesser}
 use Rattle.inc_dec_spf.specs.Side.{hop_by}
 use Rattle.inc_dec_spf.specs.Turns.{turn_of}
-use Rattle.inc_dec_spf.specs.steps.Ways.{BeginsAt, Sought, left_after}
+use Rattle.inc_dec_spf.specs.steps.PathsOverEnds.{BeginsAt, Sought, left_after}
 use Rattle.inc_dec_spf.proofs.AllMarked.{all_marked}
 use Rattle.inc_dec_spf.proofs.ByTurn.{turn_in}
 use Rattle.inc_dec_spf.proofs.EndCosts.{IsWayOn, begun_on, end_cost, left_cost, still_least, way_taken}
@@ -74,7 +74,7 @@ module _ (g : Topology) (root : ℕ) (w : Directions) (is : IsOrdered g root w) 
   module _ (own : Bool) (x : ℕ) (ends : List End) (list : slice_get g.ends x ≡ Some ends)
       (rests : (place : ℕ) (end : End) → IsWayOn it own x place end → w.block end.to ≡ w.lies_in end.link → HasRest end.to) where
     abbrev Least : ℕ → Type 0
-    Least count = (cost : ℕ) × (link : ℕ) × IsLeastWay (BeginsAt it own x (λ _. t)) ends count cost link
+    Least count = (cost : ℕ) × (link : ℕ) × IsLeastOverEnds (BeginsAt it own x (λ _. t)) ends count cost link
 
     on_or_not : (count : ℕ) (end : End) → slice_get ends count ≡ Some end → IsWayOn it own x count end ⊎ (IsWayOn it own x count end → ⊥)
     on_or_not count end at = elim (is_sole (w.role end.link)) [

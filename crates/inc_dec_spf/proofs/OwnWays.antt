@@ -9,13 +9,13 @@ use Rattle.inc_dec_spf.specs.declared.aiming.Aiming.{Aiming}
 use Rattle.inc_dec_spf.specs.declared.reach.Dir.{Dir}
 use Rattle.inc_dec_spf.specs.declared.reach.Dir.TheVariants.{Down, Up}
 use Rattle.inc_dec_spf.specs.Against.{against}
-use Rattle.inc_dec_spf.specs.steps.Aiming.{HasOwnWays}
+use Rattle.inc_dec_spf.specs.steps.Aiming.{HasOwnPaths}
 use Rattle.inc_dec_spf.specs.BlockAims.{aim_at}
 use Rattle.inc_dec_spf.specs.steps.Rest.{IsRestCost}
 use Rattle.inc_dec_spf.specs.Rest.{far}
 use Rattle.inc_dec_spf.specs.steps.Side.{AreCosts, IsRowPut, cost_from}
 use Rattle.inc_dec_spf.specs.Turns.{AreTurns, turn_at, turn_of}
-use Rattle.inc_dec_spf.specs.steps.Ways.{AreLeast, AreReady, IsWantedBlock, sought}
+use Rattle.inc_dec_spf.specs.steps.PathsOverEnds.{AreLeast, AreReady, IsWantedBlock, sought}
 use Rattle.inc_dec_spf.proofs.ByTurn.{next_turn}
 use Rattle.inc_dec_spf.proofs.FirstLinks.{links_kept, links_stay}
 use Rattle.inc_dec_spf.proofs.InBlocks.{Home, Later, Onto, move_of, step_from_member}
@@ -44,7 +44,7 @@ module _ (aiming : Aiming) (root : ℕ) (w : Directions) (is : IsOrdered aiming.
 
   -- the nodes that had their turns have their ways
   abbrev AreTurned : ℕ → List ℕ → List ℕ → Type 0
-  AreTurned i costs links = (y : ℕ) → y < length g.ids → turn_of (against dir) (length g.ids) w y < i → HasOwnWays aiming w width costs links y
+  AreTurned i costs links = (y : ℕ) → y < length g.ids → turn_of (against dir) (length g.ids) w y < i → HasOwnPaths aiming w width costs links y
 
   module _ (i x : ℕ) (at : slice_get aiming.turns.now i ≡ Some x) where
     within : x < length g.ids
@@ -73,7 +73,7 @@ module _ (aiming : Aiming) (root : ℕ) (w : Directions) (is : IsOrdered aiming.
     -- a node of a block that is not wanted is passed over
     pub passed_turned : (all links : List ℕ) → slice_get aiming.wanted.now (w.block x) ≡ Some false → AreTurned i all links → AreTurned (i + 1) all links
     passed_turned all links unmarked turned =
-        next_turn g w (against dir) aiming.turns.now turns (λ y. HasOwnWays aiming w width all links y) i x at (record {
+        next_turn g w (against dir) aiming.turns.now turns (λ y. HasOwnPaths aiming w width all links y) i x at (record {
           ready = λ in_wanted. absurd (no in_wanted.marked);
           linked = λ one. record {
             each = λ j t k h link below inside share marked.
@@ -101,7 +101,7 @@ module _ (aiming : Aiming) (root : ℕ) (w : Directions) (is : IsOrdered aiming.
       ]
 
       pub one_turned : AreTurned i all links → AreTurned (i + 1) all' links'
-      one_turned turned = next_turn g w (against dir) aiming.turns.now turns (λ y. HasOwnWays aiming w width all' links' y) i x at (record {
+      one_turned turned = next_turn g w (against dir) aiming.turns.now turns (λ y. HasOwnPaths aiming w width all' links' y) i x at (record {
         ready = λ in_wanted. record {
           each = λ j below.
               subst (λ (c : ℕ). IsRestCost g w dir (w.block x) (w.head x) x (aim_at aiming.aims.now width j (w.block x)) c) (sym (put.there j below))
@@ -128,7 +128,7 @@ row_low aiming w x width costs most j = elim (cases_eq (aim_at aiming.aims.now w
 
 -- what all ends of a node lead to is ready
 pub all_ready : (aiming : Aiming) (root : ℕ) (w : Directions) (width : ℕ) (all links : List ℕ) (s : ℕ) → IsOrdered aiming.graph.now root w
-    → ((y : ℕ) → y < length aiming.graph.now.ids → HasOwnWays aiming w width all links y) → AreReady aiming w false width all s
+    → ((y : ℕ) → y < length aiming.graph.now.ids → HasOwnPaths aiming w width all links y) → AreReady aiming w false width all s
 all_ready aiming root w width all links s is have = record {
   each = λ k end in_wanted step kept_to inside.
       (have end.to (move_of aiming.graph.now w aiming.dir k s end is.kept step).to_within).ready

@@ -10,9 +10,9 @@ use Rattle.inc_dec_spf.specs.LeastPath.{BeginsPath, IsHop, NotReached, Reached, 
 use Rattle.inc_dec_spf.specs.Path.{IsStep, Path, cost_of}
 use Rattle.inc_dec_spf.specs.steps.Rest.{IsRestCost, Rest}
 use Rattle.inc_dec_spf.specs.Rest.{far}
-use Rattle.inc_dec_spf.specs.steps.Side.{IsLeastWay}
+use Rattle.inc_dec_spf.specs.steps.Side.{IsLeastOverEnds}
 use Rattle.inc_dec_spf.specs.Side.{hop_by}
-use Rattle.inc_dec_spf.specs.steps.Ways.{AtHead, BeginsAt, HasHeadBy, Inside, IsWantedBlock, Sought}
+use Rattle.inc_dec_spf.specs.steps.PathsOverEnds.{AtHead, BeginsAt, HasHeadBy, Inside, IsWantedBlock, Sought}
 use Rattle.inc_dec_spf.proofs.EndCosts.{one_head_by}
 use Rattle.inc_dec_spf.proofs.InBlocks.{move_of, same_end, step_early, there_too}
 use Rattle.link_direction.proofs.ClosedBlocks.{IsClosed, IsOrdered, head_of_member, leads_inside, member_not_head}
@@ -85,7 +85,7 @@ module _ (it : Sought) (root : ℕ) (is : IsOrdered it.g root it.w) where
           costs = refl;
         }
 
-    module _ (cost link : ℕ) (ends : List End) (list : slice_get g.ends x ≡ Some ends) (least : IsLeastWay (BeginsAt it own x aim) ends (length ends) cost link) where
+    module _ (cost link : ℕ) (ends : List End) (list : slice_get g.ends x ≡ Some ends) (least : IsLeastOverEnds (BeginsAt it own x aim) ends (length ends) cost link) where
       -- no path is less than the least way
       at_most : (k h : ℕ) → IsAsked it root own x aim k h → (path : List End) → Path g w dir k h x path (aim k) → cost ≤ cost_of path
       at_most k h asked [] path = absurd path
@@ -96,7 +96,7 @@ module _ (it : Sought) (root : ℕ) (is : IsOrdered it.g root it.w) where
 
   -- the least way within the own block has the least cost of what is left
   pub own_rest : (x : ℕ) (aim : ℕ → ℕ) (cost link : ℕ) (ends : List End) → x < length g.ids → slice_get g.ends x ≡ Some ends
-      → x ≢ aim (w.block x) → IsWantedBlock it (w.block x) → IsLeastWay (BeginsAt it true x aim) ends (length ends) cost link
+      → x ≢ aim (w.block x) → IsWantedBlock it (w.block x) → IsLeastOverEnds (BeginsAt it true x aim) ends (length ends) cost link
       → IsRestCost g w dir (w.block x) (w.head x) x (aim (w.block x)) cost
   own_rest x aim cost link ends within list two in_wanted least =
       let found = closed_of_more g root w (w.block x) is in_wanted.more in
@@ -127,7 +127,7 @@ module _ (it : Sought) (root : ℕ) (is : IsOrdered it.g root it.w) where
   pub least_hop : (own : Bool) (s t : ℕ) (aim : ℕ → ℕ) (cost link : ℕ) (ends : List End) → slice_get g.ends s ≡ Some ends → (own ≡ true → s ≢ t)
       → ((k h : ℕ) → HaveCommonBlockOfMoreLinks g w s t k h → (own ≡ true → k ≡ w.block s) × (slice_get it.wanted k ≡ Some true) × (aim k ≡ t))
       → ((u k h : ℕ) → u < length g.ids → s ≢ u → HaveCommonBlock w s u k h → (own ≡ true → k ≡ w.block s) → (own ≡ false → aim k ≢ s) → aim k ≡ t)
-      → IsLeastWay (BeginsAt it own s aim) ends (length ends) cost link → IsHop g w dir s t (hop_by cost link)
+      → IsLeastOverEnds (BeginsAt it own s aim) ends (length ends) cost link → IsHop g w dir s t (hop_by cost link)
   least_hop own s t aim cost link ends list two shared alone least = elim (cases_Bool (nat_lt cost far)) [
     | inl is_less ↦ rw is_less (reached (ltb-true cost far is_less))
     | inr is_not ↦ rw is_not (NotReached (λ k h path share is_path. none k h path share is_path (ltb-false cost far is_not)))

@@ -7,7 +7,7 @@ use Rattle.mrt_graph.specs.DirectedLists.{DirectedLists}
 use Rattle.mrt_graph.proofs.EndsAt.{end_leads}
 use Rattle.link_direction.specs.Directions.{Says}
 use Rattle.inc_dec_spf.specs.steps.Offers.{goes_on}
-use Rattle.inc_dec_spf.specs.steps.Ways.{Sought}
+use Rattle.inc_dec_spf.specs.steps.PathsOverEnds.{Sought}
 use Rattle.inc_dec_spf.proofs.EndCosts.{IsWayOn}
 use Rattle.link_direction.proofs.ClosedBlocks.{IsOrdered}
 use Rattle.inc_dec_spf.proofs.Marks.{IsMarkedEnd, marked_block, marked_role, test_leads_back, test_leads_on}

@@ -4,7 +4,7 @@ pub mod FanEntries
 pub mod Known
 pub mod Offers
 pub mod Opening
+pub mod PathsOverEnds
 pub mod Rest
 pub mod Side
 pub mod TileEntries
-pub mod Ways

@@ -6,9 +6,9 @@ ghost use Rattle.inc_dec_spf.specs.{HasDirections.HasDirections, LeastPath.IsRea
 
 use crate::aiming::Aiming;
 use crate::fan::Fan;
+use crate::paths_over_ends::{take_own_paths, take_paths};
 use crate::reach::{Dir, Reach, nodes_by_turn};
 use crate::side::{FAR, NO_LINK, hop_by};
-use crate::ways::{take_own_ways, take_ways};
 use mrt_graph::{Directed, Graph, LinkNo, NoMemory, NodeNo};
 use std::alloc::Global;
 
@@ -70,11 +70,11 @@ pub fn spf_to(
     let mut all_links = vec![in alloc; LinkNo::new(NO_LINK); count as usize]?;
     let mut costs = [FAR];
     let mut links = [LinkNo::new(NO_LINK)];
-    take_own_ways(&aiming, &mut all, &mut all_links, &mut costs, &mut links);
+    take_own_paths(&aiming, &mut all, &mut all_links, &mut costs, &mut links);
     let mut hops = vec![in alloc; None; count as usize]?;
     for n in 0..count {
         let s = NodeNo::new(n);
-        take_ways(&aiming, s, false, &all, &mut costs, &mut links);
+        take_paths(&aiming, s, false, &all, &mut costs, &mut links);
         hops[n as usize] = hop_by(costs[0], links[0]);
     }
     Ok(Reach { hops })

@@ -6,10 +6,10 @@ mod fan;
 mod least_paths;
 mod offers;
 mod path_law;
+mod paths_over_ends;
 mod reach;
 mod side;
 mod tile;
-mod ways;
 
 pub use aiming::{Aiming, put_heads};
 pub use fan::Fan;

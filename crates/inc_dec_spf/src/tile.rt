@@ -6,8 +6,8 @@ ghost use Rattle.inc_dec_spf.specs.{Aiming.IsAiming, HasDirections.AreDirections
 ghost use Rattle.inc_dec_spf.specs.FirstLink.{AreOthersInOneBlock};
 
 use crate::aiming::Aiming;
+use crate::paths_over_ends::{keep, take_own_paths, take_paths};
 use crate::side::{FAR, NO_LINK};
-use crate::ways::{keep, take_own_ways, take_ways};
 use mrt_graph::{Graph, LinkNo, NoMemory, NodeNo};
 use std::alloc::Global;
 use std::marker::Model;
@@ -78,7 +78,7 @@ impl Tile {
             → AreOthersInOneBlock aiming.now.graph.now w heads.now
             → IsAimed aiming.now.graph.now w aiming.now.wanted.now aiming.now.dir aiming.now.aims.now self.new }
     {
-        take_own_ways(
+        take_own_paths(
             aiming,
             &mut self.all_costs,
             &mut self.all_links,
@@ -88,7 +88,7 @@ impl Tile {
         for n in 0..aiming.graph.node_count() {
             if heads[n as usize] {
                 let s = NodeNo::new(n);
-                take_ways(
+                take_paths(
                     aiming,
                     s,
                     false,

@@ -17,10 +17,10 @@ use Rattle.mrt_graph.proofs.Ties.{tie_of_equals}
 use Rattle.area_graph.specs.Parts.{AreaParts}
 use Rattle.lfa_alt.specs.declared.alternate.FreeCandidate.{FreeCandidate}
 use Rattle.lfa_alt.specs.declared.destination.Destination.{Destination}
-use Rattle.lfa_alt.specs.declared.way.Way.{Way}
+use Rattle.lfa_alt.specs.declared.neighbour_path.NeighbourPath.{NeighbourPath}
 use Rattle.lfa_alt.specs.steps.Choosing.{AreBest, IsBetterBy, IsOfferedBy, Offers, better}
 use Rattle.lfa_alt.specs.LoopFree.{IsBest, NoneIs, TheBest, candidate_cmp, rank_of}
-use Rattle.lfa_alt.specs.steps.Ways.{NotLater}
+use Rattle.lfa_alt.specs.steps.NeighbourPaths.{NotLater}
 
 -- the order is total
 pub candidate_total : IsTotalOrder candidate_cmp
@@ -50,8 +50,8 @@ not_after one other node cost first second =
     (seconds_not_after one.second other.second second)
 
 -- of two, one is not after the other
-other_way : (a b : FreeCandidate) → is_gt (candidate_cmp a b) ≡ true → is_gt (candidate_cmp b a) ≡ false
-other_way a b gt = go (candidate_cmp a b) (candidate_cmp b a) gt (candidate_total.antisymm a b)
+other_path : (a b : FreeCandidate) → is_gt (candidate_cmp a b) ≡ true → is_gt (candidate_cmp b a) ≡ false
+other_path a b gt = go (candidate_cmp a b) (candidate_cmp b a) gt (candidate_total.antisymm a b)
   where
     go : (x y : Ordering) → is_gt x ≡ true → x ≡ ordering_reverse y → is_gt y ≡ false
     go x Less gt' same = refl
@@ -72,7 +72,7 @@ module _ (P Q R : FreeCandidate → Type 0) (split : (c : FreeCandidate) → R c
   best_of_both (Some same) None (TheBest b p first) exactly = TheBest b (left b p) (λ c is. elim (split c is) [ inl p' ↦ first c p' | inr q ↦ let clash = (exactly c).1 q in cc ])
   best_of_both (Some same) (Some d) (TheBest b p first) exactly = elim (cases_Bool (is_gt (candidate_cmp b d))) [
     | inl after ↦
-        let low = other_way b d after in
+        let low = other_path b d after in
         rw after
         (TheBest d (right d ((exactly d).0 refl)) (λ c is. elim (split c is) [
           | inl p' ↦ upto candidate_total d b c low (first c p')
@@ -111,48 +111,48 @@ nothing_more Is old new same none = record {
     as_before None = refl
     as_before (Some best) = refl
 
--- one way more
-pub one_more : (area : AreaParts) (s t n : ℕ) (entry : Option Destination) (ways : List Way) (way : Way) (old new : Option FreeCandidate) → slice_get ways n ≡ Some way
-    → IsBest (IsOfferedBy area s t entry ways n) old → IsBetterBy (Offers area s t entry way) old new → IsBest (IsOfferedBy area s t entry ways (n + 1)) new
-one_more area s t n entry ways way old new at best by =
-    subst (λ (o : Option FreeCandidate). IsBest (IsOfferedBy area s t entry ways (n + 1)) o) (sym by.is)
-    (best_of_both (IsOfferedBy area s t entry ways n) (Offers area s t entry way) (IsOfferedBy area s t entry ways (n + 1)) split
-    (λ c is. record { number = is.number; way = is.way; low = omega (arith, is.low); there = is.there; offers = is.offers })
-    (λ c offers. record { number = n; way = way; low = omega arith; there = at; offers = offers })
+-- one path more
+pub one_more : (area : AreaParts) (s t n : ℕ) (entry : Option Destination) (paths : List NeighbourPath) (path : NeighbourPath) (old new : Option FreeCandidate) → slice_get paths n ≡ Some path
+    → IsBest (IsOfferedBy area s t entry paths n) old → IsBetterBy (Offers area s t entry path) old new → IsBest (IsOfferedBy area s t entry paths (n + 1)) new
+one_more area s t n entry paths path old new at best by =
+    subst (λ (o : Option FreeCandidate). IsBest (IsOfferedBy area s t entry paths (n + 1)) o) (sym by.is)
+    (best_of_both (IsOfferedBy area s t entry paths n) (Offers area s t entry path) (IsOfferedBy area s t entry paths (n + 1)) split
+    (λ c is. record { number = is.number; path = is.path; low = omega (arith, is.low); there = is.there; offers = is.offers })
+    (λ c offers. record { number = n; path = path; low = omega arith; there = at; offers = offers })
     old by.offered best by.exactly)
   where
-    split : (c : FreeCandidate) → IsOfferedBy area s t entry ways (n + 1) c → IsOfferedBy area s t entry ways n c ⊎ Offers area s t entry way c
+    split : (c : FreeCandidate) → IsOfferedBy area s t entry paths (n + 1) c → IsOfferedBy area s t entry paths n c ⊎ Offers area s t entry path c
     split c is = elim (cases_lt is.number n) [
-      | inl early ↦ inl (record { number = is.number; way = is.way; low = early; there = is.there; offers = is.offers })
+      | inl early ↦ inl (record { number = is.number; path = is.path; low = early; there = is.there; offers = is.offers })
       | inr upto' ↦
           let here : is.number ≡ n = omega (arith, is.low, upto') in
-          let same : is.way ≡ way = same_Some is.way way (sym is.there ∙ ap (λ (i : ℕ). slice_get ways i) here ∙ at) in
-          inr (subst (λ (w : Way). Offers area s t entry w c) same is.offers)
+          let same : is.path ≡ path = same_Some is.path path (sym is.there ∙ ap (λ (i : ℕ). slice_get paths i) here ∙ at) in
+          inr (subst (λ (w : NeighbourPath). Offers area s t entry w c) same is.offers)
     ]
 
 -- none yet
-pub none_yet : (area : AreaParts) (s t : ℕ) (entry : Option Destination) (ways : List Way) → IsBest (IsOfferedBy area s t entry ways 0) None
-none_yet area s t entry ways = NoneIs (λ c is. absurd (omega (arith, is.low)))
+pub none_yet : (area : AreaParts) (s t : ℕ) (entry : Option Destination) (paths : List NeighbourPath) → IsBest (IsOfferedBy area s t entry paths 0) None
+none_yet area s t entry paths = NoneIs (λ c is. absurd (omega (arith, is.low)))
 
 -- at first there is none for any node
-pub none_best : (area : AreaParts) (s : ℕ) (destinations : List (Option Destination)) (ways : List Way) → AreBest area s destinations ways 0 (map (λ _. None) destinations)
-none_best area s destinations ways = record {
+pub none_best : (area : AreaParts) (s : ℕ) (destinations : List (Option Destination)) (paths : List NeighbourPath) → AreBest area s destinations paths 0 (map (λ _. None) destinations)
+none_best area s destinations paths = record {
   one_each = length-map destinations (λ _. None);
   each = λ t entry choice at is.
-      subst (λ (o : Option FreeCandidate). IsBest (IsOfferedBy area s t entry ways 0) o)
+      subst (λ (o : Option FreeCandidate). IsBest (IsOfferedBy area s t entry paths 0) o)
       (same_Some None choice (sym (slice_get-map (λ (_ : Option Destination). None) destinations t ∙ ap (option_map (λ (_ : Option Destination). None)) at) ∙ is))
-      (none_yet area s t entry ways);
+      (none_yet area s t entry paths);
 }
 
--- one way more, for all nodes
-pub all_more : (area : AreaParts) (s n : ℕ) (destinations : List (Option Destination)) (ways : List Way) (way : Way) (olds news : List (Option FreeCandidate)) → slice_get ways n ≡ Some way
-    → length news ≡ length olds → AreBest area s destinations ways n olds
+-- one path more, for all nodes
+pub all_more : (area : AreaParts) (s n : ℕ) (destinations : List (Option Destination)) (paths : List NeighbourPath) (path : NeighbourPath) (olds news : List (Option FreeCandidate)) → slice_get paths n ≡ Some path
+    → length news ≡ length olds → AreBest area s destinations paths n olds
     → ((t : ℕ) (entry : Option Destination) (old new : Option FreeCandidate) → slice_get destinations t ≡ Some entry → slice_get olds t ≡ Some old → slice_get news t ≡ Some new
-    → IsBetterBy (Offers area s t entry way) old new)
-    → AreBest area s destinations ways (n + 1) news
-all_more area s n destinations ways way olds news at many best by = record {
+    → IsBetterBy (Offers area s t entry path) old new)
+    → AreBest area s destinations paths (n + 1) news
+all_more area s n destinations paths path olds news at many best by = record {
   one_each = many ∙ best.one_each;
   each = λ t entry choice here is.
       let old = there olds t (omega (arith, slice_get_within news t choice is, many)) in
-      one_more area s t n entry ways way old.0 choice at (best.each t entry old.0 here old.1) (by t entry old.0 choice here old.1 is);
+      one_more area s t n entry paths path old.0 choice at (best.each t entry old.0 here old.1) (by t entry old.0 choice here old.1 is);
 }

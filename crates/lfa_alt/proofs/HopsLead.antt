@@ -59,7 +59,7 @@ module _ (area : AreaParts) (kept : IsArea area) (t : ℕ) where
   hop_there s primary part (Alone alone next) = (part.arc ∷ [], rw (alone, part.there) refl)
   hop_there s primary part (Onward k onward two there from free next) = (part.arc ∷ onward ∷ [], rw (two, part.there, there) refl)
 
-  -- where a packet is on its way: at a router, or there
+  -- where a packet is on its path: at a router, or there
   abbrev pub IsAt : ℕ → Type 0
   IsAt s = IsRouter area.ids s ⊎ (s ≡ t)
 

@@ -23,56 +23,56 @@ use Rattle.primary_alt.proofs.RouterFacts.{router_within}
 use Rattle.lfa_alt.specs.declared.alternate.FreeCandidate.{FreeCandidate}
 use Rattle.lfa_alt.specs.declared.alternate.Lfa.{Lfa}
 use Rattle.lfa_alt.specs.declared.destination.Destination.{Destination}
-use Rattle.lfa_alt.specs.declared.way.Way.{Way}
+use Rattle.lfa_alt.specs.declared.neighbour_path.NeighbourPath.{NeighbourPath}
 use Rattle.lfa_alt.specs.steps.Choosing.{IsDestination, IsOfferedBy, Offers, better, offer}
 use Rattle.lfa_alt.specs.Candidates.{Leaves}
 use Rattle.lfa_alt.specs.LoopFree.{ByPrimary, IsBest, IsLfa, NoPrimary, alternate_of}
-use Rattle.lfa_alt.specs.steps.Ways.{AddsAcross, AddsOver, AreWays, way_across, way_over}
+use Rattle.lfa_alt.specs.steps.NeighbourPaths.{AddsAcross, AddsOver, ArePaths, path_across, path_over}
 use Rattle.lfa_alt.proofs.Bettering.{none_yet, one_more}
 use Rattle.lfa_alt.proofs.Beyond.{part_of}
-use Rattle.lfa_alt.proofs.LfasFound.{best_free, ways_within}
+use Rattle.lfa_alt.proofs.LfasFound.{best_free, paths_within}
 use Rattle.lfa_alt.proofs.Offered.{IsTold, offer_told}
-use Rattle.lfa_alt.proofs.WaysFound.{AreWaysTo, across_left, across_more, across_none, all_ways, arc_left, arc_more, network_adds, no_way, router_adds}
+use Rattle.lfa_alt.proofs.PathsFound.{ArePathsTo, across_left, across_more, across_none, all_paths, arc_left, arc_more, network_adds, no_path, router_adds}
 
 -- one more
 one_up : (n : ℕ) → n + 1 ≡ suc n
 one_up n = omega arith
 
--- there are lists of all ways
-across_exist : (arcs : List Arc) (s number : ℕ) (arc : Arc) (olds : List Way) (count : ℕ) → count ≤ length arcs → (ways : List Way) × AddsAcross arcs s number arc count olds ways
+-- there are lists of all paths
+across_exist : (arcs : List Arc) (s number : ℕ) (arc : Arc) (olds : List NeighbourPath) (count : ℕ) → count ≤ length arcs → (paths : List NeighbourPath) × AddsAcross arcs s number arc count olds paths
 across_exist arcs s number arc olds zero low = (olds, across_none arcs s number arc olds)
 across_exist arcs s number arc olds (suc count) low =
     let before = across_exist arcs s number arc olds count (omega (arith, low)) in
     let onward = there arcs count (omega (arith, low)) in
-    subst (λ (n : ℕ). (ways : List Way) × AddsAcross arcs s number arc n olds ways) (one_up count)
+    subst (λ (n : ℕ). (paths : List NeighbourPath) × AddsAcross arcs s number arc n olds paths) (one_up count)
     (elim (cases_eq onward.0.tail arc.to) [
       | inr other ↦ (before.0, across_left arcs s number arc olds before.0 count onward.0 onward.1 before.1 (λ on. absurd (other on.0)))
       | inl from ↦ elim (cases_eq onward.0.to s) [
         | inl back ↦ (before.0, across_left arcs s number arc olds before.0 count onward.0 onward.1 before.1 (λ on. absurd (on.1 back)))
         | inr further ↦
-            let made = way_across number arc (Some count) onward.0 in
+            let made = path_across number arc (Some count) onward.0 in
             (before.0 ++ made ∷ [], across_more arcs s number arc olds before.0 count onward.0 onward.1 before.1 (from, further) made refl)
       ]
     ])
 
 module _ (area : AreaParts) (kept : IsArea area) (s : ℕ) where
-  over_exist : (number : ℕ) (arc : Arc) → Leaves area s number arc → (olds : List Way) → (ways : List Way) × AddsOver area s number olds ways
+  over_exist : (number : ℕ) (arc : Arc) → Leaves area s number arc → (olds : List NeighbourPath) → (paths : List NeighbourPath) × AddsOver area s number olds paths
   over_exist number arc leaves olds = elim (cases_Bool (is_network area.ids arc.to)) [
     | inl holds ↦
-        let made = way_over number arc (Some arc.to) in
+        let made = path_over number arc (Some arc.to) in
         let more = across_exist area.arcs s number arc (olds ++ made ∷ []) (length area.arcs) (omega arith) in
         (more.0, network_adds area s number arc leaves kept (network_by_test area.ids arc.to holds) olds (olds ++ made ∷ []) more.0 made refl refl more.1)
     | inr fails ↦
-        let made = way_over number arc None in
+        let made = path_over number arc None in
         (olds ++ made ∷ [], router_adds area s number arc leaves (no_network_by_test area.ids arc.to fails) olds (olds ++ made ∷ []) made refl refl)
   ]
 
-  ways_to : (count : ℕ) → count ≤ length area.arcs → (ways : List Way) × AreWaysTo area s count ways
-  ways_to zero low = ([], no_way area s)
-  ways_to (suc count) low =
-      let before = ways_to count (omega (arith, low)) in
+  paths_to : (count : ℕ) → count ≤ length area.arcs → (paths : List NeighbourPath) × ArePathsTo area s count paths
+  paths_to zero low = ([], no_path area s)
+  paths_to (suc count) low =
+      let before = paths_to count (omega (arith, low)) in
       let arc = there area.arcs count (omega (arith, low)) in
-      subst (λ (n : ℕ). (ways : List Way) × AreWaysTo area s n ways) (one_up count)
+      subst (λ (n : ℕ). (paths : List NeighbourPath) × ArePathsTo area s n paths) (one_up count)
       (elim (cases_eq arc.0.tail s) [
         | inl from ↦
             let more = over_exist count arc.0 (record { there = arc.1; from = from }) before.0 in
@@ -81,10 +81,10 @@ module _ (area : AreaParts) (kept : IsArea area) (s : ℕ) where
             (before.0, arc_left area s count before.0 (λ a at. subst (λ (x : Arc). x.tail ≢ s) (same_Some arc.0 a (sym arc.1 ∙ at)) other) before.1)
       ])
 
-  pub ways_exist : (ways : List Way) × AreWays area s ways
-  ways_exist =
-      let all = ways_to (length area.arcs) (omega arith) in
-      (all.0, all_ways area s (length area.arcs) all.0 all.0 (omega arith) all.1 (IsPermutation-refl all.0))
+  pub paths_exist : (paths : List NeighbourPath) × ArePaths area s paths
+  paths_exist =
+      let all = paths_to (length area.arcs) (omega arith) in
+      (all.0, all_paths area s (length area.arcs) all.0 all.0 (omega arith) all.1 (IsPermutation-refl all.0))
 
 -- there are distances from each node
 told : (area : AreaParts) → IsArea area → (n v : ℕ) → n < length area.ids → v < length area.ids → (o : Option ℕ) × IsTold area.arcs n v o
@@ -98,22 +98,22 @@ told area kept n v from to =
     go known are (Some d) at = (Some d, are.some n d at)
 
 module _ (area : AreaParts) (kept : IsArea area) (s t : ℕ) (source : s < length area.ids) (to : t < length area.ids) (destination : Destination) (is : IsDestination area s t destination) where
-  offered : (way : Way) → way.next < length area.ids → (o : Option FreeCandidate) × ((choice : FreeCandidate) → (o ≡ Some choice) ↔ Offers area s t (Some destination) way choice)
-  offered way within =
-      let rest = told area kept way.next t within to in
-      let out = told area kept way.next s within source in
-      let through = told area kept way.next destination.primary.next within (part_of area kept s t destination.primary is.primary).next in
-      (offer way destination t rest.0 out.0 through.0, offer_told area s t way destination is rest.0 out.0 through.0 rest.1 out.1 through.1)
+  offered : (path : NeighbourPath) → path.next < length area.ids → (o : Option FreeCandidate) × ((choice : FreeCandidate) → (o ≡ Some choice) ↔ Offers area s t (Some destination) path choice)
+  offered path within =
+      let rest = told area kept path.next t within to in
+      let out = told area kept path.next s within source in
+      let through = told area kept path.next destination.primary.next within (part_of area kept s t destination.primary is.primary).next in
+      (offer path destination t rest.0 out.0 through.0, offer_told area s t path destination is rest.0 out.0 through.0 rest.1 out.1 through.1)
 
-  best_to : (ways : List Way) → AreWays area s ways → (count : ℕ) → count ≤ length ways → (best : Option FreeCandidate) × IsBest (IsOfferedBy area s t (Some destination) ways count) best
-  best_to ways are zero low = (None, none_yet area s t (Some destination) ways)
-  best_to ways are (suc count) low =
-      let before = best_to ways are count (omega (arith, low)) in
-      let way = there ways count (omega (arith, low)) in
-      let more = offered way.0 (ways_within area kept s ways are count way.0 way.1) in
+  best_to : (paths : List NeighbourPath) → ArePaths area s paths → (count : ℕ) → count ≤ length paths → (best : Option FreeCandidate) × IsBest (IsOfferedBy area s t (Some destination) paths count) best
+  best_to paths are zero low = (None, none_yet area s t (Some destination) paths)
+  best_to paths are (suc count) low =
+      let before = best_to paths are count (omega (arith, low)) in
+      let path = there paths count (omega (arith, low)) in
+      let more = offered path.0 (paths_within area kept s paths are count path.0 path.1) in
       let made = better before.0 more.0 in
-      subst (λ (n : ℕ). (best : Option FreeCandidate) × IsBest (IsOfferedBy area s t (Some destination) ways n) best) (one_up count)
-      (made, one_more area s t count (Some destination) ways way.0 before.0 made way.1 before.1 (record { offered = more.0; exactly = more.1; is = refl }))
+      subst (λ (n : ℕ). (best : Option FreeCandidate) × IsBest (IsOfferedBy area s t (Some destination) paths n) best) (one_up count)
+      (made, one_more area s t count (Some destination) paths path.0 before.0 made path.1 before.1 (record { offered = more.0; exactly = more.1; is = refl }))
 
 by_primary : (area : AreaParts) → IsArea area → (s t : ℕ) → s < length area.ids → t < length area.ids → (entry : Option Primary) → IsPrimary area s t entry
     → (lfa : Option Lfa) × IsLfa area s t lfa
@@ -122,9 +122,9 @@ by_primary area kept s t source to (Some primary) is =
     let part = part_of area kept s t primary is in
     let destination : Destination = record { primary = primary; bond = part.arc.bond; distance = part.arc.metric + part.rest; beyond = part.rest } in
     let destination_is : IsDestination area s t destination = record { primary = is; arc = part.arc; there = part.there; bond = refl; far = part.near; beyond = part.far } in
-    let ways = ways_exist area kept s in
-    let best = best_to area kept s t source to destination destination_is ways.0 ways.1 (length ways.0) (omega arith) in
-    (option_map alternate_of best.0, ByPrimary primary best.0 is (best_free area kept s ways.0 ways.1 t destination best.0 best.1))
+    let paths = paths_exist area kept s in
+    let best = best_to area kept s t source to destination destination_is paths.0 paths.1 (length paths.0) (omega arith) in
+    (option_map alternate_of best.0, ByPrimary primary best.0 is (best_free area kept s paths.0 paths.1 t destination best.0 best.1))
 
 pub lfa_exists : (area : AreaParts) → IsArea area → (s t : ℕ) → IsRouter area.ids s → t < length area.ids → (entry : Option Lfa) × IsLfa area s t entry
 lfa_exists area kept s t router to =

@@ -1,4 +1,4 @@
--- Which ways from a router may stand in for its primary (RFC 5286, section 3.1: the neighbors of S).
+-- Which paths from a router may stand in for its primary (RFC 5286, section 3.1: the neighbors of S).
 use Rattle.std.specs.Prelude.{◌≡◌, ◌≢◌, ◌+◌, ◌⊎◌, ℕ, List, Option, Some, None, slice_get}
 use Rattle.area_graph.specs.declared.area_types.Arc.{Arc}
 use Rattle.area_graph.specs.Parts.{AreaParts}

@@ -12,7 +12,7 @@ use Rattle.lfa_alt.specs.declared.alternate.FreeCandidate.{FreeCandidate}
 use Rattle.lfa_alt.specs.declared.alternate.Lfa.{Lfa}
 use Rattle.lfa_alt.specs.Candidates.{Candidate, IsCandidate}
 
--- dist(n, t) < dist(n, x) + dist(x, t): n has a distance to t, and it is less than the way over x. Where no walk leads, a
+-- dist(n, t) < dist(n, x) + dist(x, t): n has a distance to t, and it is less than the path over x. Where no walk leads, a
 -- distance counts as greater than any number
 pub record IsNearerThanOver (arcs : List Arc) (x n t : ℕ) : Type 0 where
   pub rest : ℕ
@@ -26,7 +26,7 @@ pub record Protects (arcs : List Arc) (t : ℕ) (primary : Primary) (n : ℕ) : 
   pub nearer : IsNearerThanOver arcs primary.next n t
 
 -- what is told of a loop-free candidate: its arcs and its next, whether it protects the primary's next, and the cost of
--- the way over it, of which so much is left at its next
+-- the path over it, of which so much is left at its next
 abbrev pub free_choice : Candidate → Bool → ℕ → FreeCandidate
 free_choice candidate node rest =
     record { first = candidate.first; second = candidate.second; next = candidate.next; node = node; cost = candidate.metric + rest }

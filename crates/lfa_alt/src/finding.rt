@@ -7,14 +7,14 @@ ghost use Rattle.mrt_graph.specs.GraphInvariant.{IsNetwork};
 ghost use Rattle.primary_alt.specs.{DistancesFrom.AreDistancesFrom, Primaries.ArePrimaries};
 ghost use Rattle.lfa_alt.specs.steps.Choosing.{AreDestinations};
 ghost use Rattle.lfa_alt.specs.LoopFree.{AreLfas, alternate_of};
-ghost use Rattle.lfa_alt.specs.steps.Ways.{AreWays};
+ghost use Rattle.lfa_alt.specs.steps.NeighbourPaths.{ArePaths};
 
 use crate::alternate::{FreeCandidate, Lfa};
 use crate::destination::Destination;
 use crate::destinations::destinations;
+use crate::neighbour_path::NeighbourPath;
+use crate::neighbour_paths::paths;
 use crate::offering::{Near, best_of};
-use crate::way::Way;
-use crate::ways::ways;
 use area_graph::{Area, Spot};
 use mrt_graph::NoMemory;
 use primary_alt::{FromRouter, Searches, all_arcs, from_router};
@@ -25,7 +25,7 @@ use std::alloc::Global;
 ///
 /// One search from each neighbouring router serves all nodes, and what [`from_router`](primary_alt::from_router) takes
 /// gives the source's primaries and its distances. So it takes time in proportion to the neighbours times the arcs, times
-/// the logarithm of the latter, and to the ways times the nodes. A way is an arc of the source, or its arc to a network and
+/// the logarithm of the latter, and to the paths times the nodes. A path is an arc of the source, or its arc to a network and
 /// a node on that network. The hub of a star and a router on a network of all routers search from each of them.
 pub fn loop_free(alloc: Global, area: &Area, source: Spot) -> Result<Vec<Option<Lfa>>, NoMemory>
     requires within { source < length area.now.ids }
@@ -51,31 +51,31 @@ pub fn alternates(
 {
     let arcs = all_arcs(alloc, area)?;
     let destinations = destinations(alloc, area, &arcs, source, &from.primaries, &from.distances)?;
-    let ways = ways(alloc, area, &arcs, source)?;
-    alternates_by(alloc, area, source, &from.distances, &destinations, &ways)
+    let paths = paths(alloc, area, &arcs, source)?;
+    alternates_by(alloc, area, source, &from.distances, &destinations, &paths)
 }
 
-/// The same, by what is asked of each node and by the ways of the source.
+/// The same, by what is asked of each node and by the paths of the source.
 fn alternates_by(
     alloc: Global,
     area: &Area,
     source: Spot,
     distances: &[Option<u32>],
     destinations: &[Option<Destination>],
-    ways: &[Way],
+    paths: &[NeighbourPath],
 ) -> Result<Vec<Option<Lfa>>, NoMemory>
     requires kept { IsArea area.now }
     requires within { source < length area.now.ids }
     requires distances { AreDistancesFrom area.now.arcs source distances.now }
     requires one_each { length distances.now ≡ length area.now.ids }
     requires destinations { AreDestinations area.now source destinations.now }
-    requires ways { AreWays area.now source ways.now }
+    requires paths { ArePaths area.now source paths.now }
     ensures { IfOk result (λ entries. AreLfas area.now source entries.items) }
 {
     let mut searches = Searches::new(alloc, area)?;
     let known = Vec::from_slice(alloc, distances)?;
     let near = Near { at: source, known };
-    let best = best_of(alloc, &mut searches, near, source, destinations, ways)?;
+    let best = best_of(alloc, &mut searches, near, source, destinations, paths)?;
     lfas(alloc, &best)
 }
 

@@ -8,13 +8,13 @@ mod destination;
 mod destinations;
 mod finding;
 mod lfa_law;
+mod neighbour_path;
+mod neighbour_paths;
 mod offering;
+mod protection;
 mod text;
 mod text_law;
 mod walk_law;
-mod way;
-mod ways;
-mod words;
 
 pub use alternate::Lfa;
 pub use finding::loop_free;

@@ -1,16 +1,16 @@
-//! The first one of the loop-free candidates that ways offer, of all nodes at once.
+//! The first one of the loop-free candidates that paths offer, of all nodes at once.
 
 ghost use Rattle.std.specs.Prelude.{◌≡◌, ◌<◌, ℕ, IfOk, OnOk, Option, None, Some, length, map, slice_get};
 ghost use Rattle.area_graph.specs.{AreaInvariant.IsArea, Parts.AreaParts};
 ghost use Rattle.primary_alt.specs.DistancesFrom.{AreDistancesFrom};
-ghost use Rattle.lfa_alt.specs.{declared.alternate.FreeCandidate.FreeCandidate, declared.destination.Destination.Destination, declared.way.Way.Way};
+ghost use Rattle.lfa_alt.specs.{declared.alternate.FreeCandidate.FreeCandidate, declared.destination.Destination.Destination, declared.neighbour_path.NeighbourPath.NeighbourPath};
 ghost use Rattle.lfa_alt.specs.steps.Choosing.{AreBest, IsBetterBy, AreDestinations, Offers};
-ghost use Rattle.lfa_alt.specs.steps.Ways.{AreWays, IsWayToNetwork};
+ghost use Rattle.lfa_alt.specs.steps.NeighbourPaths.{ArePaths, IsPathToNetwork};
 
 use crate::alternate::FreeCandidate;
 use crate::choosing::{better, candidate_for, candidate_there, is_to_network};
 use crate::destination::Destination;
-use crate::way::Way;
+use crate::neighbour_path::NeighbourPath;
 use area_graph::Spot;
 use mrt_graph::NoMemory;
 use primary_alt::Searches;
@@ -23,35 +23,35 @@ pub struct Near {
     pub known: Vec<Option<u32>>,
 }
 
-/// Of each node the first one of the loop-free candidates that the ways offer for it.
+/// Of each node the first one of the loop-free candidates that the paths offer for it.
 ///
-/// One search for each router that ways lead to, where those to one node stand together.
+/// One search for each router that paths lead to, where those to one node stand together.
 pub fn best_of(
     alloc: Global,
     searches: &mut Searches,
     mut near: Near,
     source: Spot,
     destinations: &[Option<Destination>],
-    ways: &[Way],
+    paths: &[NeighbourPath],
 ) -> Result<Vec<Option<FreeCandidate>>, NoMemory>
     requires kept { IsArea searches.old }
     requires source { source < length searches.old.ids }
     requires near { AreDistancesFrom searches.old.arcs near.at near.known.items }
     requires one_each { length near.known.items ≡ length searches.old.ids }
     requires destinations { AreDestinations searches.old source destinations.now }
-    requires ways { AreWays searches.old source ways.now }
+    requires paths { ArePaths searches.old source paths.now }
     ensures { IfOk result (λ best.
-        AreBest searches.old source destinations.now ways.now (length ways.now) best.items) }
+        AreBest searches.old source destinations.now paths.now (length paths.now) best.items) }
 {
     let mut best = none_each(alloc, destinations)?;
-    for number in 0..ways.len() {
-        let way = &ways[number];
-        if is_to_network(way) {
-            offer_there(way, destinations, &mut best);
+    for number in 0..paths.len() {
+        let path = &paths[number];
+        if is_to_network(path) {
+            offer_there(path, destinations, &mut best);
             continue;
         }
-        go_to(searches, way.next, &mut near)?;
-        offer(way, source, &near.known, destinations, &mut best);
+        go_to(searches, path.next, &mut near)?;
+        offer(path, source, &near.known, destinations, &mut best);
     }
     Ok(best)
 }
@@ -84,29 +84,29 @@ fn go_to(searches: &mut Searches, s: Spot, near: &mut Near) -> Result<(), NoMemo
     Ok(())
 }
 
-/// Puts what a way to a network offers for that network in place of its first candidate so far, if it comes before that
+/// Puts what a path to a network offers for that network in place of its first candidate so far, if it comes before that
 /// one. It offers nothing for other nodes.
 fn offer_there(
-    way: &Way,
+    path: &NeighbourPath,
     destinations: &[Option<Destination>],
     best: &mut Vec<Option<FreeCandidate>>,
 )
-    requires next { way.now.next < length destinations.now }
+    requires next { path.now.next < length destinations.now }
     requires best { length best.old.items ≡ length destinations.now }
     ensures one_each { length best.new.items ≡ length best.old.items }
-    ensures better { (area : AreaParts) (source : ℕ) → IsArea area → IsWayToNetwork area source way.now
+    ensures better { (area : AreaParts) (source : ℕ) → IsArea area → IsPathToNetwork area source path.now
         → AreDestinations area source destinations.now → (t : ℕ) (entry : Option Destination) (old new : Option FreeCandidate)
         → slice_get destinations.now t ≡ Some entry → slice_get best.old.items t ≡ Some old
         → slice_get best.new.items t ≡ Some new
-        → IsBetterBy (Offers area source t entry way.now) old new }
+        → IsBetterBy (Offers area source t entry path.now) old new }
 {
-    let place = way.next.get() as usize;
-    best[place] = better(best[place], candidate_there(way, &destinations[place]));
+    let place = path.next.get() as usize;
+    best[place] = better(best[place], candidate_there(path, &destinations[place]));
 }
 
-/// Puts what a way offers for each node in place of its first candidate so far, if it comes before that one.
+/// Puts what a path offers for each node in place of its first candidate so far, if it comes before that one.
 fn offer(
-    way: &Way,
+    path: &NeighbourPath,
     source: Spot,
     known: &[Option<u32>],
     destinations: &[Option<Destination>],
@@ -118,16 +118,16 @@ fn offer(
     requires throughs { (t : ℕ) (destination : Destination) → slice_get destinations.now t ≡ Some (Some destination)
         → destination.primary.next < length known.now }
     ensures one_each { length best.new.items ≡ length best.old.items }
-    ensures better { (area : AreaParts) → AreDistancesFrom area.arcs way.now.next known.now
+    ensures better { (area : AreaParts) → AreDistancesFrom area.arcs path.now.next known.now
         → AreDestinations area source destinations.now → (t : ℕ) (entry : Option Destination) (old new : Option FreeCandidate)
         → slice_get destinations.now t ≡ Some entry → slice_get best.old.items t ≡ Some old
         → slice_get best.new.items t ≡ Some new
-        → IsBetterBy (Offers area source t entry way.now) old new }
+        → IsBetterBy (Offers area source t entry path.now) old new }
 {
     for t in 0..best.len() {
         best[t] = better(
             best[t],
-            candidate_for(way, source, known, t, &destinations[t]),
+            candidate_for(path, source, known, t, &destinations[t]),
         );
     }
 }

@@ -11,7 +11,7 @@ ghost use Rattle.lfa_alt.specs.LoopFree.{AreLfas, IsLfa};
 
 use crate::alternate::Lfa;
 use crate::finding::alternates;
-use crate::words::kind_word;
+use crate::protection::kind_word;
 use area_graph::{ArcNo, Area, Spot};
 use mrt_graph::NoMemory;
 use primary_alt::{Primary, from_router};

@@ -10,7 +10,7 @@ use Rattle.mrt_graph.specs.declared.gadag.Way.TheVariants.{AToB, BToA, Unset}
 use Rattle.mrt_graph.specs.declared.link.Link.{Link}
 use Rattle.mrt_graph.specs.DirectedLists.{DirectedLists}
 use Rattle.mrt_graph.specs.GadagLists.{GadagLists}
-use Rattle.mrt_graph.specs.GadagWords.{way_at}
+use Rattle.mrt_graph.specs.GadagFields.{way_at}
 use Rattle.mrt_graph.specs.Leads.{leads}
 use Rattle.mrt_graph.specs.Tails.{tail_at, tail_of}
 use Rattle.mrt_graph.specs.Topology.{Topology}
@@ -28,7 +28,7 @@ use Rattle.link_direction.proofs.BlockKinds.{closing_link, sole_link}
 use Rattle.link_direction.proofs.EachInOrder.{whole_sound}
 use Rattle.link_direction.proofs.EnteredBy.{link_within}
 use Rattle.link_direction.proofs.HeadsLower.{head_lower}
-use Rattle.link_direction.proofs.WaysGiven.{tail_there}
+use Rattle.link_direction.proofs.LinksDirected.{tail_there}
 
 are_orders : (g : Topology) (root : ℕ) (gadag : GadagLists) (d : DirectedLists) (w : Directions) → IsAnswered g root gadag d w → AreOrders (length g.ids) root w
 are_orders g root gadag d w a =

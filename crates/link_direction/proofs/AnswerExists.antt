@@ -10,13 +10,13 @@ use Rattle.mrt_graph.specs.Topology.{Topology}
 use Rattle.mrt_graph.proofs.ListPlaces.{contains_at, place_of}
 use Rattle.mrt_graph.proofs.Members.{listed_or_not}
 use Rattle.link_direction.specs.Directed.{AreNumbers, IsDirected}
-use Rattle.link_direction.specs.steps.Ways.{AreWaysGiven, mark_by}
+use Rattle.link_direction.specs.steps.LinksOfNoEar.{AreLinksDirected, mark_by}
 use Rattle.link_direction.proofs.EachInOrder.{whole_sound}
 use Rattle.link_direction.proofs.FromEarsFacts.{AreGadagFacts}
 use Rattle.link_direction.proofs.OrderExists.{length-table, order_exists, table, table_at}
 use Rattle.link_direction.proofs.OrderSound.{IsSound}
 use Rattle.link_direction.specs.steps.Counting.{StandOnce}
-use Rattle.link_direction.proofs.WaysGiven.{ways_given}
+use Rattle.link_direction.proofs.LinksDirected.{links_directed}
 
 -- the place of a node in a list, from 1
 record HasNumber (order : List ℕ) (v : ℕ) : Type 0 where
@@ -60,7 +60,7 @@ given_at numbers (l ∷ links) (mark ∷ marks) zero link long at = ap (λ (x : 
 given_at numbers (l ∷ links) (mark ∷ marks) (suc e) link long at = given_at numbers links marks e link (omega (arith, long)) at
 
 ways_exist : (g : Topology) (numbers : List ℕ) (marks : List Mark) → length marks ≡ length g.links
-    → (marks' : List Mark) × AreWaysGiven g numbers (length g.links) marks marks'
+    → (marks' : List Mark) × AreLinksDirected g numbers (length g.links) marks marks'
 ways_exist g numbers marks long =
     let long' = length-given numbers g.links marks long in (
       given numbers g.links marks,
@@ -83,6 +83,6 @@ some_answer g root gadag facts =
         whole = order.1;
         numbers = numbers.1;
         places = refl;
-        ways = ways_given g order.0 numbers.0 gadag.marks marks.0 facts.one_mark_each numbers.1 marks.1;
+        ways = links_directed g order.0 numbers.0 gadag.marks marks.0 facts.one_mark_each numbers.1 marks.1;
       },
     )

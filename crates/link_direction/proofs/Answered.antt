@@ -4,7 +4,7 @@ use Rattle.std.proofs.lemmas.Option.{same_Some, slice_get_within}
 use Rattle.mrt_graph.specs.declared.gadag.Place.{Place}
 use Rattle.mrt_graph.specs.DirectedLists.{DirectedLists}
 use Rattle.mrt_graph.specs.GadagLists.{GadagLists}
-use Rattle.mrt_graph.specs.GadagWords.{block_at, head_at, link_block_at, role_at}
+use Rattle.mrt_graph.specs.GadagFields.{block_at, head_at, link_block_at, role_at}
 use Rattle.mrt_graph.specs.Tails.{tail_at}
 use Rattle.mrt_graph.specs.Topology.{Topology}
 use Rattle.mrt_graph.proofs.ListPlaces.{place_of}

@@ -6,7 +6,7 @@ use Rattle.mrt_graph.specs.declared.cert.Role.{Role}
 use Rattle.mrt_graph.specs.declared.cert.Role.TheVariants.{Closing, Plain, Sole}
 use Rattle.mrt_graph.specs.DirectedLists.{DirectedLists}
 use Rattle.mrt_graph.specs.GadagLists.{GadagLists}
-use Rattle.mrt_graph.specs.GadagWords.{link_block_at, role_at}
+use Rattle.mrt_graph.specs.GadagFields.{link_block_at, role_at}
 use Rattle.mrt_graph.specs.Tails.{tail_at}
 use Rattle.mrt_graph.specs.Topology.{Topology}
 use Rattle.lowpoint_dfs.proofs.WholeTree.{leads_within}

@@ -12,6 +12,7 @@ pub mod FromEarsFacts
 pub mod HeadsLower
 pub mod Laws
 pub mod LinkNodes
+pub mod LinksDirected
 pub mod NextInOrder
 pub mod OneAnswer
 pub mod OneBlock
@@ -25,4 +26,3 @@ pub mod SameDirections
 pub mod TakenOff
 pub mod TwoNodes
 pub mod UpLinks
-pub mod WaysGiven

@@ -9,7 +9,7 @@ use Rattle.mrt_graph.specs.declared.gadag.Way.TheVariants.{AToB, BToA, Unset}
 use Rattle.mrt_graph.specs.declared.link.Link.{Link}
 use Rattle.mrt_graph.specs.DirectedLists.{DirectedLists}
 use Rattle.mrt_graph.specs.GadagLists.{GadagLists}
-use Rattle.mrt_graph.specs.GadagWords.{way_at}
+use Rattle.mrt_graph.specs.GadagFields.{way_at}
 use Rattle.mrt_graph.specs.GraphInvariant.{IsLink}
 use Rattle.mrt_graph.specs.Tails.{tail_at, tail_of}
 use Rattle.mrt_graph.specs.Topology.{Topology}
@@ -23,7 +23,7 @@ use Rattle.link_direction.specs.GadagOrder.{IsWholeOrder}
 use Rattle.link_direction.proofs.EachInOrder.{each_in_order}
 use Rattle.link_direction.proofs.FromEarsFacts.{AreGadagFacts}
 use Rattle.link_direction.proofs.OneOrder.{one_order_list}
-use Rattle.link_direction.proofs.WaysGiven.{tail_there}
+use Rattle.link_direction.proofs.LinksDirected.{tail_there}
 
 -- lists of one length with the same at each place are one
 same_places : {X : Type 0} (xs ys : List X) → length xs ≡ length ys → ((k : ℕ) → k < length xs → slice_get xs k ≡ slice_get ys k) → xs ≡ ys

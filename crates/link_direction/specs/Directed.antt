@@ -4,7 +4,7 @@ use Rattle.mrt_graph.specs.declared.gadag.Mark.{Mark}
 use Rattle.mrt_graph.specs.declared.gadag.Way.TheVariants.{Unset}
 use Rattle.mrt_graph.specs.DirectedLists.{DirectedLists}
 use Rattle.mrt_graph.specs.GadagLists.{GadagLists}
-use Rattle.mrt_graph.specs.GadagWords.{link_block_at, role_at, way_at}
+use Rattle.mrt_graph.specs.GadagFields.{link_block_at, role_at, way_at}
 use Rattle.mrt_graph.specs.Leads.{leads}
 use Rattle.mrt_graph.specs.Tails.{tail_at}
 use Rattle.mrt_graph.specs.Topology.{Topology}

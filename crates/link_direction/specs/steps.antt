@@ -1,2 +1,2 @@
 pub mod Counting
-pub mod Ways
+pub mod LinksOfNoEar

@@ -3,9 +3,9 @@
 ghost use Rattle.std.specs.Prelude.{◌<◌, IfOk, length};
 ghost use Rattle.link_direction.specs.{Directed.IsDirected, FromEars.IsFromEars, OrderedGadag.SaysOrdered};
 
+use crate::links_of_no_ear::direct_links;
 use crate::numbering::numbers_of;
 use crate::ordering::order_of;
-use crate::ways::give_ways;
 use mrt_graph::{Directed, Gadag, Graph, NoMemory, NodeNo};
 use std::alloc::Global;
 
@@ -21,6 +21,6 @@ pub fn direct(alloc: Global, g: &Graph, root: NodeNo, gadag: Gadag) -> Result<Di
     let (_, places, mut marks) = gadag.into_lists();
     let order = order_of(alloc, g, root, &marks)?;
     let numbers = numbers_of(alloc, g, &order)?;
-    give_ways(g, &numbers, &mut marks);
+    direct_links(g, &numbers, &mut marks);
     Ok(Directed::new(numbers, places, marks))
 }

@@ -3,10 +3,10 @@
 
 mod counting;
 mod directed;
+mod links_of_no_ear;
 mod numbering;
 mod order_law;
 mod ordering;
-mod ways;
 
 pub use directed::direct;
 pub use order_law::{directions_are_ordered, each_node_is_in_the_order_once, one_order};

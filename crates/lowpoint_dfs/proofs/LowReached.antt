@@ -5,7 +5,7 @@ use Rattle.mrt_graph.specs.declared.tree.TreeNode.{TreeNode}
 use Rattle.mrt_graph.specs.GraphInvariant.{IsTopology}
 use Rattle.mrt_graph.specs.Leads.{leads}
 use Rattle.mrt_graph.specs.Topology.{Topology}
-use Rattle.mrt_graph.specs.TreeWords.{search_number, parent_link, low_of}
+use Rattle.mrt_graph.specs.TreeFields.{search_number, parent_link, low_of}
 use Rattle.mrt_graph.proofs.EndsAt.{IsEndOver, end_leads, leads_end, list_of_ends}
 use Rattle.mrt_graph.proofs.Hops.{lead_back, same_ends}
 use Rattle.std.proofs.lemmas.Option.{same_Some}

@@ -7,7 +7,7 @@ use Rattle.mrt_graph.specs.declared.tree.TreeNode.{TreeNode}
 use Rattle.mrt_graph.specs.GraphInvariant.{IsLink, IsTopology}
 use Rattle.mrt_graph.specs.Leads.{leads}
 use Rattle.mrt_graph.specs.Topology.{Topology}
-use Rattle.mrt_graph.specs.TreeWords.{search_number, parent_link}
+use Rattle.mrt_graph.specs.TreeFields.{search_number, parent_link}
 use Rattle.mrt_graph.proofs.FewNumbers.{few_numbers}
 use Rattle.mrt_graph.proofs.Hops.{far_ends}
 use Rattle.mrt_graph.proofs.ListPlaces.{place_of}

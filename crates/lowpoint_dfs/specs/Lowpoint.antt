@@ -4,7 +4,7 @@ use Rattle.std.specs.Option.{option_map_or}
 use Rattle.mrt_graph.specs.declared.link.End.{End}
 use Rattle.mrt_graph.specs.declared.tree.TreeNode.{TreeNode}
 use Rattle.mrt_graph.specs.Topology.{Topology}
-use Rattle.mrt_graph.specs.TreeWords.{search_number, parent_link, low_of, low_link}
+use Rattle.mrt_graph.specs.TreeFields.{search_number, parent_link, low_of, low_link}
 use Rattle.mrt_graph.specs.FirstEnd.{IsFirstEnd}
 
 -- n is the least of some numbers

@@ -4,7 +4,7 @@ use Rattle.std.specs.Prelude.{◌≡◌, ◌<◌, ◌+◌, ◌++◌, ℕ, List, 
 use Rattle.mrt_graph.specs.declared.link.End.{End}
 use Rattle.mrt_graph.specs.declared.tree.TreeNode.{TreeNode}
 use Rattle.mrt_graph.specs.Topology.{Topology}
-use Rattle.mrt_graph.specs.TreeWords.{search_number, parent_link}
+use Rattle.mrt_graph.specs.TreeFields.{search_number, parent_link}
 use Rattle.mrt_graph.specs.FirstEnd.{IsFirstEnd}
 
 -- no end of node v leads to a node outside the list

@@ -5,7 +5,7 @@ use Rattle.mrt_graph.specs.declared.link.End.{End}
 use Rattle.mrt_graph.specs.declared.tree.TreeNode.{TreeNode}
 use Rattle.mrt_graph.specs.Leads.{leads}
 use Rattle.mrt_graph.specs.Topology.{Topology}
-use Rattle.mrt_graph.specs.TreeWords.{search_number, parent_link}
+use Rattle.mrt_graph.specs.TreeFields.{search_number, parent_link}
 use Rattle.mrt_graph.specs.FirstEnd.{IsFirstEnd}
 
 -- a node's parent: the other node of its parent link

@@ -24,7 +24,9 @@ ghost use Rattle.std.specs.Prelude.{
   vec_capacity,
 };
 ghost use Rattle.std.specs.List.{AllByRecursion};
-ghost use Rattle.mrt_graph.specs.{declared.link.End.End, GraphInvariant.IsTopology, TreeWords.search_number};
+ghost use Rattle.mrt_graph.specs.declared.link.End.{End};
+ghost use Rattle.mrt_graph.specs.GraphInvariant.{IsTopology};
+ghost use Rattle.mrt_graph.specs.TreeFields.{search_number};
 ghost use Rattle.lowpoint_dfs.specs.Subtree.{parent_of};
 ghost use Rattle.lowpoint_dfs.specs.steps.Finding.{IsFinished, IsSearching, LeadToFound, found_node, left_at};
 

@@ -2,7 +2,8 @@
 
 ghost use Rattle.std.specs.Prelude.{◌≡◌, ◌<◌, ◌==◌, ℕ, List, Contains, false, length, slice_get};
 ghost use Rattle.std.specs.{List.AllByRecursion, Option.option_map_or};
-ghost use Rattle.mrt_graph.specs.{GraphInvariant.IsTopology, TreeWords.search_number, TreeWords.parent_link};
+ghost use Rattle.mrt_graph.specs.GraphInvariant.{IsTopology};
+ghost use Rattle.mrt_graph.specs.TreeFields.{search_number, parent_link};
 ghost use Rattle.lowpoint_dfs.specs.steps.Lowering.{AreAlike, AreNumbered, IsGiven, IsLowest, lowered};
 ghost use Rattle.lowpoint_dfs.specs.Lowpoint.{HasLowpoint, is_parent_link, offer};
 

@@ -2,7 +2,7 @@
 
 ghost use Rattle.std.specs.Prelude.{◌≡◌, ◌≢◌, ◌<◌, ◌≤◌, ◌⊎◌, ◌+◌, ◌==◌, ℕ, List, Some, None, count_by, length, slice_get};
 ghost use Rattle.mrt_graph.specs.{declared.tree.TreeNode.TreeNode, GraphInvariant.IsTopology, Leads.leads, Topology.Topology};
-ghost use Rattle.mrt_graph.specs.TreeWords.{low_of, search_number, parent_link};
+ghost use Rattle.mrt_graph.specs.TreeFields.{low_of, search_number, parent_link};
 ghost use Rattle.lowpoint_dfs.specs.{Lowpoint.IsLeast, SearchTree.IsSearchTree};
 ghost use Rattle.lowpoint_dfs.specs.Subtree.{HasParent, IsInSubtree, IsReachedFrom};
 

@@ -11,7 +11,7 @@ use Rattle.cert_format.specs.Limits.{IsCertFile}
 use Rattle.mrt_graph.specs.declared.cert.CertFile.{CertFile}
 use Rattle.mrt_graph.specs.declared.node_id.NodeId.{NodeId}
 use Rattle.mrt_graph.specs.BothThere.{are_equal}
-use Rattle.mrt_graph.specs.CertWords.{order_of}
+use Rattle.mrt_graph.specs.CertFields.{order_of}
 use Rattle.mrt_graph.specs.Rules.{OrderRule}
 use Rattle.mrt_graph.specs.Topology.{Topology}
 use Rattle.mrt_island.specs.IslandOf.{IsIsland}

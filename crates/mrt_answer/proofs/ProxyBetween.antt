@@ -9,7 +9,7 @@ use Rattle.mrt_rows.specs.ColumnOf.{HasRowsFor}
 use Rattle.mrt_rows.specs.declared.rooted.RootedColumns.{RootedColumns}
 use Rattle.proxy_rows.specs.declared.attachment.Attachment.{Attachment}
 use Rattle.proxy_rows.specs.Attachment.{IsAttachment}
-use Rattle.proxy_rows.specs.Words.{ReadFrom}
+use Rattle.proxy_rows.specs.LabelledGraph.{ReadFrom}
 use Rattle.mrt_answer.specs.Made.{HasComputed}
 use Rattle.mrt_answer.proofs.OneProxy.{accepted_for}
 

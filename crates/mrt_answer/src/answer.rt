@@ -3,7 +3,7 @@
 ghost use Rattle.std.specs.Prelude.{◌≤◌, ℕ, List, vec_len};
 ghost use Rattle.mrt_words.specs.{FileBytes.FileBytes, Form.IsRouterTaskWithin, Form.Task as NamedTask};
 ghost use Rattle.mrt_words.specs.Files.{database_limit, profile_limit};
-ghost use Rattle.mrt_words.specs.Kept.{AreBytesOf, IsWorkWithin, IsWorkFor};
+ghost use Rattle.mrt_words.specs.Work.{AreBytesOf, IsWorkWithin, IsWorkFor};
 ghost use Rattle.mrt_answer.specs.{Forms.of_router, Forms.of_task, Forms.over, TextBytes.IsTextAnswer};
 
 use crate::certificate::certify;

@@ -5,7 +5,7 @@ ghost use Rattle.mrt_answer.specs.{Forms.certified, TextBytes.IsTextAnswer, Text
 ghost use Rattle.mrt_exit.specs.Steps.{such};
 
 use crate::given::Given;
-use crate::island::island_in;
+use crate::router_island::island_in;
 use crate::text::Text;
 use cert_stream::CertStream;
 use mrt_exit::Exit;

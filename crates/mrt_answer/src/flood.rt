@@ -5,7 +5,7 @@ ghost use Rattle.std.specs.List.{AllByRecursion};
 ghost use Rattle.flood_core.specs.Receiving.{MayFlood};
 ghost use Rattle.flood_script.specs.{Deliveries.deliveries_in, FloodScripts.IsAmong};
 ghost use Rattle.mrt_words.specs.Files.{profile_limit, script_limit, updates_limit};
-ghost use Rattle.mrt_words.specs.Kept.{flood_bytes};
+ghost use Rattle.mrt_words.specs.Work.{flood_bytes};
 ghost use Rattle.mrt_answer.specs.{Forms.flooded, Reading.deliveries_of as deliveries_step, Reading.updates_of as updates_step, TextBytes.IsTextAnswer};
 ghost use Rattle.mrt_exit.specs.{Due.IsDue, Steps.IsAnswer};
 

@@ -4,7 +4,7 @@ ghost use Rattle.mrt_answer.specs.{Forms.loop_free as loop_free_step, Forms.loop
 
 use crate::finding::spot_of;
 use crate::given::Given;
-use crate::island::area_of;
+use crate::router_island::area_of;
 use crate::text::{Text, bytes_answer};
 use area_graph::Area;
 use lfa_alt::lfa_text;

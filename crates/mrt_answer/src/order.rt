@@ -7,7 +7,7 @@ ghost use Rattle.mrt_answer.specs.{Forms.ordered, Forms.ordered_in, TextBytes.Is
 
 use crate::finding::own_node;
 use crate::given::Given;
-use crate::island::island_in;
+use crate::router_island::island_in;
 use crate::text::{Text, bytes_answer};
 use mrt_exit::Exit;
 use mrt_graph::{Graph, NoMemory, NodeNo};

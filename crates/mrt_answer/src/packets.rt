@@ -9,7 +9,7 @@ ghost use Rattle.mrt_exit.specs.Due.{IsDue};
 
 use crate::columns::columns_of;
 use crate::given::Given;
-use crate::island::{area_of, island_of};
+use crate::router_island::{area_of, island_of};
 use area_graph::{Area, Spot};
 use mrt_exit::Exit;
 use mrt_graph::NoMemory;

@@ -14,7 +14,7 @@ ghost use Rattle.mrt_answer.specs.TextBytes.{IsTextAnswer};
 use crate::columns::columns_of;
 use crate::finding::node_of;
 use crate::given::Given;
-use crate::island::island_in;
+use crate::router_island::island_in;
 use crate::text::{Text, bytes_answer};
 use mrt_exit::Exit;
 use mrt_graph::{CertNode, Graph, NoMemory, NodeNo};

@@ -10,7 +10,7 @@ ghost use Rattle.mrt_answer.specs.steps.Surveyed.{summed_up_in};
 
 use crate::given::Given;
 use crate::input::database_of;
-use crate::island::island_in;
+use crate::router_island::island_in;
 use crate::survey_law::made_networks_are_taken;
 use crate::text::{Text, bytes_answer};
 use lsdb::Lsdb;

@@ -1,12 +1,12 @@
 //! `upgrade DB PROFILE CERT`: an accepted certificate in version 2.
 
 ghost use Rattle.std.specs.Prelude.{◌<◌, ℕ, List, length};
-ghost use Rattle.mrt_words.specs.Kept.{IsCertRead};
+ghost use Rattle.mrt_words.specs.Work.{IsCertRead};
 ghost use Rattle.mrt_answer.specs.{Forms.upgraded_in, Forms.upgraded_to, Reading.certificate_of, TextBytes.IsTextAnswer};
 ghost use Rattle.mrt_exit.specs.Steps.{◌▸◌};
 
 use crate::given::Given;
-use crate::island::island_in;
+use crate::router_island::island_in;
 use crate::text::Text;
 use crate::verdict::judge;
 use cert_format::{CertFault, WritableCert};

@@ -34,49 +34,49 @@ status_of NoCommonBlock = 13
 status_of (BadUpdate at kind) = 14
 
 -- what is wrong with a record of a database, in words
-abbrev pub record_words : LsaKind → List ℕ
-record_words records.Truncated = codes "truncated"
-record_words records.Length = codes "length"
-record_words records.Checksum = codes "checksum"
-record_words records.ReservedSequence = codes "reserved-sequence"
-record_words records.IdMismatch = codes "id-mismatch"
-record_words records.Body = codes "body"
-record_words records.ZeroMetric = codes "zero-metric"
+abbrev pub record_text : LsaKind → List ℕ
+record_text records.Truncated = codes "truncated"
+record_text records.Length = codes "length"
+record_text records.Checksum = codes "checksum"
+record_text records.ReservedSequence = codes "reserved-sequence"
+record_text records.IdMismatch = codes "id-mismatch"
+record_text records.Body = codes "body"
+record_text records.ZeroMetric = codes "zero-metric"
 
 -- what is wrong with a Link State Update packet, in words; of an LSA in it, as of a record of a database
-abbrev pub update_words : UpdateKind → List ℕ
-update_words updates.Truncated = codes "truncated"
-update_words updates.Header = codes "header"
-update_words updates.Length = codes "length"
-update_words (updates.Lsa kind) = record_words kind
-update_words updates.Count = codes "count"
+abbrev pub update_text : UpdateKind → List ℕ
+update_text updates.Truncated = codes "truncated"
+update_text updates.Header = codes "header"
+update_text updates.Length = codes "length"
+update_text (updates.Lsa kind) = record_text kind
+update_text updates.Count = codes "count"
 
 -- what is wrong with a line of a profile, in words
-abbrev pub line_words : ProfileKind → List ℕ
-line_words lines.Bytes = codes "bytes"
-line_words lines.Words = codes "words"
-line_words lines.Address = codes "address"
-line_words lines.Number = codes "number"
-line_words lines.Repeated = codes "repeated"
+abbrev pub line_text : ProfileKind → List ℕ
+line_text lines.Bytes = codes "bytes"
+line_text lines.Words = codes "words"
+line_text lines.Address = codes "address"
+line_text lines.Number = codes "number"
+line_text lines.Repeated = codes "repeated"
 
 -- a fault of a certificate's bytes, in words
-abbrev pub kind_words : CertKind → List ℕ
-kind_words faults.Magic = codes "magic"
-kind_words faults.Truncated = codes "truncated"
-kind_words faults.Range = codes "range"
-kind_words faults.Tag = codes "tag"
-kind_words faults.Trailing = codes "trailing"
-kind_words faults.Heads = codes "heads"
+abbrev pub kind_text : CertKind → List ℕ
+kind_text faults.Magic = codes "magic"
+kind_text faults.Truncated = codes "truncated"
+kind_text faults.Range = codes "range"
+kind_text faults.Tag = codes "tag"
+kind_text faults.Trailing = codes "trailing"
+kind_text faults.Heads = codes "heads"
 
 -- what is too large, in words
-abbrev pub what_words : What → List ℕ
-what_words DatabaseFile = codes "database-file"
-what_words UpdatesFile = codes "updates-file"
-what_words ProfileFile = codes "profile-file"
-what_words CertificateFile = codes "certificate-file"
-what_words ScriptFile = codes "script-file"
-what_words AreaNodes = codes "area-nodes"
-what_words AreaArcs = codes "area-arcs"
+abbrev pub what_text : What → List ℕ
+what_text DatabaseFile = codes "database-file"
+what_text UpdatesFile = codes "updates-file"
+what_text ProfileFile = codes "profile-file"
+what_text CertificateFile = codes "certificate-file"
+what_text ScriptFile = codes "script-file"
+what_text AreaNodes = codes "area-nodes"
+what_text AreaArcs = codes "area-arcs"
 
 -- the line of Usage: the forms that there are
 unfoldable pub usage_line : List ℕ
@@ -84,7 +84,7 @@ usage_line = codes "mrt: usage: check DB PROFILE CERT, certify DB PROFILE ROUTER
 
 -- the line of BadDatabase: a record's fault, or a conflict with the record that came first
 abbrev pub database_line : ℕ → DbKind → List ℕ
-database_line at (Lsa kind) = codes "mrt: bad database: " ++ record_words kind ++ codes " at " ++ decimal at ++ codes "\n"
+database_line at (Lsa kind) = codes "mrt: bad database: " ++ record_text kind ++ codes " at " ++ decimal at ++ codes "\n"
 database_line at (Conflict first) =
     codes "mrt: bad database: conflict at " ++ decimal at ++ codes " with " ++ decimal first ++ codes "\n"
 
@@ -96,11 +96,11 @@ line_of (No rule a b) =
 line_of Usage = usage_line
 line_of (BadDatabase at kind) = database_line at kind
 line_of (BadProfile line kind) =
-    codes "mrt: bad profile: " ++ line_words kind ++ codes " on line " ++ decimal line ++ codes "\n"
+    codes "mrt: bad profile: " ++ line_text kind ++ codes " on line " ++ decimal line ++ codes "\n"
 line_of (BadCertificate at kind) =
-    codes "mrt: bad certificate: " ++ kind_words kind ++ codes " at " ++ decimal at ++ codes "\n"
+    codes "mrt: bad certificate: " ++ kind_text kind ++ codes " at " ++ decimal at ++ codes "\n"
 line_of (TooLarge what size) =
-    codes "mrt: too large: " ++ what_words what ++ codes " " ++ decimal size ++ codes "\n"
+    codes "mrt: too large: " ++ what_text what ++ codes " " ++ decimal size ++ codes "\n"
 line_of (NotThere number) = codes "mrt: not there: " ++ address_text number ++ codes "\n"
 line_of (ReadFault word) = codes "mrt: read fault: word " ++ decimal word ++ codes "\n"
 line_of (WriteFault taken) = codes "mrt: write fault after " ++ decimal taken ++ codes "\n"
@@ -108,4 +108,4 @@ line_of NoMemory = codes "mrt: no memory\n"
 line_of (BadScript line) = codes "mrt: bad script on line " ++ decimal line ++ codes "\n"
 line_of NoCommonBlock = codes "mrt: no common block\n"
 line_of (BadUpdate at kind) =
-    codes "mrt: bad update: " ++ update_words kind ++ codes " at " ++ decimal at ++ codes "\n"
+    codes "mrt: bad update: " ++ update_text kind ++ codes " at " ++ decimal at ++ codes "\n"

@@ -4,7 +4,7 @@ ghost use Rattle.std.specs.Prelude.{◌≡◌, ◌≤◌, ◌++◌, codes, decim
 ghost use Rattle.mrt_graph.specs.Spelling.{address_text};
 ghost use Rattle.mrt_exit.specs.Exits.{status_of, line_of as line_of_exit, database_line};
 
-use crate::words::{words_of_kind, words_of_line, words_of_record, words_of_update, words_of_what};
+use crate::kind_texts::{text_of_kind, text_of_line, text_of_record, text_of_update, text_of_what};
 use cert_format::CertKind;
 use flood_core::UpdateKind;
 use mrt_island::ProfileKind;
@@ -106,19 +106,19 @@ impl Exit {
             Exit::BadDatabase { at, kind } => bad_database(*at, *kind),
             Exit::BadProfile { line, kind } => numbered(
                 b"mrt: bad profile: ",
-                words_of_line(*kind),
+                text_of_line(*kind),
                 b" on line ",
                 u64::from(*line),
             ),
             Exit::BadCertificate { at, kind } => numbered(
                 b"mrt: bad certificate: ",
-                words_of_kind(*kind),
+                text_of_kind(*kind),
                 b" at ",
                 u64::from(*at),
             ),
             Exit::TooLarge { what, size } => numbered(
                 b"mrt: too large: ",
-                words_of_what(*what),
+                text_of_what(*what),
                 b" ",
                 u64::from(*size),
             ),
@@ -137,7 +137,7 @@ impl Exit {
             Exit::NoCommonBlock => line_of(b"mrt: no common block\n"),
             Exit::BadUpdate { at, kind } => numbered(
                 b"mrt: bad update: ",
-                words_of_update(*kind),
+                text_of_update(*kind),
                 b" at ",
                 u64::from(*at),
             ),
@@ -179,7 +179,7 @@ fn bad_database(at: u32, kind: DbKind) -> Line
     match kind {
         DbKind::Lsa(kind) => numbered(
             b"mrt: bad database: ",
-            words_of_record(kind),
+            text_of_record(kind),
             b" at ",
             u64::from(at),
         ),

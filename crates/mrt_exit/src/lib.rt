@@ -3,8 +3,8 @@
 
 mod exit;
 mod fault;
+mod kind_texts;
 mod telling;
-mod words;
 
 pub use exit::{DbKind, Exit, What};
 pub use telling::tell;

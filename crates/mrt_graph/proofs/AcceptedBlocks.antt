@@ -12,7 +12,7 @@ use Rattle.mrt_graph.specs.declared.cert.Role.TheVariants as roles
 use Rattle.mrt_graph.specs.declared.link.Link.{Link}
 use Rattle.mrt_graph.specs.Accepted.{Accepted}
 use Rattle.mrt_graph.specs.BothThere.{are_different, are_equal, is_less}
-use Rattle.mrt_graph.specs.CertWords.{order_of, head_of, block_of, links_of, members}
+use Rattle.mrt_graph.specs.CertFields.{order_of, head_of, block_of, links_of, members}
 use Rattle.mrt_graph.specs.HeadsAndBlocks.{HeadHoldsAt, closed_unless_one_link, lone_if_one_link}
 use Rattle.mrt_graph.specs.Leads.{far_node, leads}
 use Rattle.mrt_graph.specs.Related.{is_common_block}

@@ -8,7 +8,7 @@ use Rattle.mrt_graph.specs.declared.cert.Row.{Row}
 use Rattle.mrt_graph.specs.declared.cert.Tag.TheVariants as tags
 use Rattle.mrt_graph.specs.Accepted.{Accepted}
 use Rattle.mrt_graph.specs.Certificate.{IsCertificate, IsCertNode, row_of}
-use Rattle.mrt_graph.specs.CertWords.{head_of, order_of}
+use Rattle.mrt_graph.specs.CertFields.{head_of, order_of}
 use Rattle.mrt_graph.specs.Foldable.{IsFoldable, IsLeastOwnHead, comes_to, in_chain, is_folded, rows_folded}
 use Rattle.mrt_graph.specs.Related.{are_unrelated}
 use Rattle.mrt_graph.specs.steps.RowRules.{row_rule}

@@ -10,7 +10,7 @@ use Rattle.mrt_graph.specs.declared.cert.Row.{Row}
 use Rattle.mrt_graph.specs.declared.cert.Tag.TheVariants.{Carried}
 use Rattle.mrt_graph.specs.BothThere.{are_equal}
 use Rattle.mrt_graph.specs.Certificate.{Certificate, are_two, certificate_of, row_of}
-use Rattle.mrt_graph.specs.CertWords.{head_of}
+use Rattle.mrt_graph.specs.CertFields.{head_of}
 use Rattle.mrt_graph.specs.Foldable.{IsFoldable, comes_to, in_chain, is_folded, is_own_head}
 use Rattle.mrt_graph.specs.Tags.{is_near, same_tag}
 use Rattle.mrt_graph.specs.Related.{are_unrelated, carrier}

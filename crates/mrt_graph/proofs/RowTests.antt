@@ -7,7 +7,7 @@ use Rattle.mrt_graph.specs.declared.cert.Tag.TheVariants as tags
 use Rattle.mrt_graph.specs.declared.link.Link.{Link}
 use Rattle.mrt_graph.specs.BothThere.{are_equal, both, is_less}
 use Rattle.mrt_graph.specs.Certificate.{Certificate}
-use Rattle.mrt_graph.specs.CertWords.{order_of, head_of, block_of, has_role, tagged}
+use Rattle.mrt_graph.specs.CertFields.{order_of, head_of, block_of, has_role, tagged}
 use Rattle.mrt_graph.specs.Hop.{Hop}
 use Rattle.mrt_graph.specs.Leads.{leads}
 use Rattle.mrt_graph.specs.Roles.{is_plain, is_sole, is_closing}

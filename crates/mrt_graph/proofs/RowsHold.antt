@@ -11,7 +11,7 @@ use Rattle.mrt_graph.specs.declared.cert.Tag.TheVariants as tags
 use Rattle.mrt_graph.specs.declared.link.Link.{Link}
 use Rattle.mrt_graph.specs.Accepted.{Accepted}
 use Rattle.mrt_graph.specs.Certificate.{Certificate, row_of}
-use Rattle.mrt_graph.specs.CertWords.{head_of, link_block}
+use Rattle.mrt_graph.specs.CertFields.{head_of, link_block}
 use Rattle.mrt_graph.specs.Hop.{hop_over, color_hop}
 use Rattle.mrt_graph.specs.Leads.{leads}
 use Rattle.mrt_graph.specs.Related.{are_unrelated, carrier, is_common_block}

@@ -12,7 +12,7 @@ use Rattle.mrt_graph.specs.declared.cert.Tag.TheVariants as tags
 use Rattle.mrt_graph.specs.declared.link.Link.{Link}
 use Rattle.mrt_graph.specs.BothThere.{are_different, are_equal, both, is_less}
 use Rattle.mrt_graph.specs.Certificate.{Certificate, are_two, row_of}
-use Rattle.mrt_graph.specs.CertWords.{order_of, head_of, block_of, has_role, tagged}
+use Rattle.mrt_graph.specs.CertFields.{order_of, head_of, block_of, has_role, tagged}
 use Rattle.mrt_graph.specs.Related.{are_unrelated, is_common_block}
 use Rattle.mrt_graph.specs.Roles.{is_plain, is_sole, is_closing}
 use Rattle.mrt_graph.specs.RowRules.{higher_tagged, lower_tagged}

@@ -10,7 +10,7 @@ use Rattle.mrt_graph.specs.declared.cert.CertNode.{CertNode}
 use Rattle.mrt_graph.specs.declared.cert.Row.{Row}
 use Rattle.mrt_graph.specs.declared.cert.Tag.TheVariants.{Carried}
 use Rattle.mrt_graph.specs.Certificate.{Certificate, IsCertRow, IsCertificate, certificate_of, row_of}
-use Rattle.mrt_graph.specs.CertWords.{head_of}
+use Rattle.mrt_graph.specs.CertFields.{head_of}
 use Rattle.mrt_graph.specs.Foldable.{IsFoldable, in_chain, is_folded, is_own_head}
 use Rattle.mrt_graph.specs.FoldedRows.{IsFolded, IsUnfoldable}
 use Rattle.mrt_graph.specs.steps.FoldedRows.{near_row_of, no_row, unfolded_row, unfolded_rows, way_of}

@@ -5,7 +5,7 @@ use Rattle.mrt_graph.specs.declared.cert.Color.TheVariants.{Blue, Red}
 use Rattle.mrt_graph.specs.declared.cert.Role.TheVariants.{Plain}
 use Rattle.mrt_graph.specs.declared.cert.Tag.TheVariants.{Carried}
 use Rattle.mrt_graph.specs.declared.link.Link.{Link}
-use Rattle.mrt_graph.specs.CertWords.{order_of, head_of, block_of, link_block}
+use Rattle.mrt_graph.specs.CertFields.{order_of, head_of, block_of, link_block}
 use Rattle.mrt_graph.specs.Certificate.{Certificate, row_of}
 use Rattle.mrt_graph.specs.Hop.{color_hop}
 use Rattle.mrt_graph.proofs.Blocks.{Words}

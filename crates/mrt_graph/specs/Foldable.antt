@@ -5,7 +5,7 @@ use Rattle.mrt_graph.specs.declared.cert.Row.{Row}
 use Rattle.mrt_graph.specs.declared.cert.Tag.TheVariants.{Carried}
 use Rattle.mrt_graph.specs.BothThere.{are_equal}
 use Rattle.mrt_graph.specs.Certificate.{Certificate, row_of}
-use Rattle.mrt_graph.specs.CertWords.{head_of}
+use Rattle.mrt_graph.specs.CertFields.{head_of}
 use Rattle.mrt_graph.specs.Places.{Each, EachPair, IsFirst}
 use Rattle.mrt_graph.specs.Related.{are_unrelated, carrier}
 use Rattle.mrt_graph.specs.RowRules.{same_links}

@@ -5,7 +5,7 @@ use Rattle.std.specs.Option.{option_and_then, option_map_or}
 use Rattle.mrt_graph.specs.declared.cert.CertLink.{CertLink}
 use Rattle.mrt_graph.specs.BothThere.{are_different, are_equal, both, is_less}
 use Rattle.mrt_graph.specs.Certificate.{Certificate}
-use Rattle.mrt_graph.specs.CertWords.{order_of, head_of, block_of, links_of, members}
+use Rattle.mrt_graph.specs.CertFields.{order_of, head_of, block_of, links_of, members}
 use Rattle.mrt_graph.specs.Places.{Each, IsFirst}
 use Rattle.mrt_graph.specs.Related.{is_common_block}
 use Rattle.mrt_graph.specs.Roles.{is_sole, is_closing}

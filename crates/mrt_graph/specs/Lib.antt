@@ -4,7 +4,7 @@ pub mod Alternate
 pub mod Apart
 pub mod BlockPlaces
 pub mod BothThere
-pub mod CertWords
+pub mod CertFields
 pub mod Certificate
 pub mod ColorWalk
 pub mod Column
@@ -15,8 +15,8 @@ pub mod FirstEnd
 pub mod FirstFault
 pub mod Foldable
 pub mod FoldedRows
+pub mod GadagFields
 pub mod GadagLists
-pub mod GadagWords
 pub mod GraphInvariant
 pub mod Groups
 pub mod HeadsAndBlocks
@@ -50,7 +50,7 @@ pub mod Tags
 pub mod Tails
 pub mod TextLines
 pub mod Topology
-pub mod TreeWords
+pub mod TreeFields
 pub mod Uses
 pub mod Walk
 pub mod steps

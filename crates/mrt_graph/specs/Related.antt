@@ -5,7 +5,7 @@ use Rattle.mrt_graph.specs.declared.related.Relation.{Relation}
 use Rattle.mrt_graph.specs.declared.related.Relation.TheVariants.{OneBlock, ToHead, FromHead, Apart}
 use Rattle.mrt_graph.specs.BothThere.{are_different, are_equal}
 use Rattle.mrt_graph.specs.Certificate.{Certificate}
-use Rattle.mrt_graph.specs.CertWords.{head_of, block_of}
+use Rattle.mrt_graph.specs.CertFields.{head_of, block_of}
 
 -- what s is to another node t, by the heads and the blocks of both: they lie in one block; or they do not, and the head
 -- of s is t; or neither of these, and the head of t is s; or none of the three

@@ -4,7 +4,7 @@ use Rattle.std.specs.Option.{option_map_or}
 use Rattle.mrt_graph.specs.declared.cert.CertFile.{CertFile}
 use Rattle.mrt_graph.specs.BothThere.{are_different, are_equal}
 use Rattle.mrt_graph.specs.Certificate.{Certificate}
-use Rattle.mrt_graph.specs.CertWords.{order_of}
+use Rattle.mrt_graph.specs.CertFields.{order_of}
 use Rattle.mrt_graph.specs.Places.{EachPair, IsFirstPair}
 use Rattle.mrt_graph.specs.Topology.{Topology}
 

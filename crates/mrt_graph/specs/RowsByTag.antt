@@ -8,7 +8,7 @@ use Rattle.mrt_graph.specs.declared.cert.Tag.TheVariants.{Sole, Head, Top, Below
 use Rattle.mrt_graph.specs.declared.link.Link.{Link}
 use Rattle.mrt_graph.specs.BothThere.{are_equal, is_less}
 use Rattle.mrt_graph.specs.Certificate.{Certificate, row_of}
-use Rattle.mrt_graph.specs.CertWords.{order_of, head_of, block_of, has_role, tagged}
+use Rattle.mrt_graph.specs.CertFields.{order_of, head_of, block_of, has_role, tagged}
 use Rattle.mrt_graph.specs.Leads.{leads}
 use Rattle.mrt_graph.specs.Related.{are_unrelated, carrier}
 use Rattle.mrt_graph.specs.Roles.{is_plain, is_sole, is_closing}

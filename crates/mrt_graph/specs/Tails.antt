@@ -5,7 +5,7 @@ use Rattle.mrt_graph.specs.declared.gadag.Mark.{Mark}
 use Rattle.mrt_graph.specs.declared.gadag.Way.{Way}
 use Rattle.mrt_graph.specs.declared.gadag.Way.TheVariants.{AToB, BToA, Unset}
 use Rattle.mrt_graph.specs.declared.link.Link.{Link}
-use Rattle.mrt_graph.specs.GadagWords.{way_at}
+use Rattle.mrt_graph.specs.GadagFields.{way_at}
 
 -- the node that a link with this direction leads away from; none where it has no direction
 abbrev pub tail_of : Link → Way → Option ℕ

@@ -77,8 +77,8 @@ impl Graph {
     {
         if ids.len() > MAX_NODES || links.len() > MAX_LINKS {
             return Err(GraphError::TooLarge {
-                nodes: told(ids.len()),
-                links: told(links.len()),
+                nodes: saturated(ids.len()),
+                links: saturated(links.len()),
             });
         }
         let ends = end_lists(alloc, ids.len(), &links)?;
@@ -169,7 +169,7 @@ impl Graph {
 }
 
 /// A count as a number of 32 bits, the greatest one where it is greater.
-fn told(count: usize) -> u32
+fn saturated(count: usize) -> u32
     ensures { result ≡ min count (2 ^ 32 - 1) }
 {
     count.min(u32::MAX as usize) as u32

@@ -41,11 +41,11 @@ pub fn read_profile(alloc: Global, bytes: &[u8]) -> Result<Profile, ProfileError
     ensures fault { (line : ℕ) (kind : ProfileKind) → result ≡ Err (ProfileError.Fault line kind) → IsFirstProfileFault (text_lines bytes.now) line kind }
     ensures faulty { (line : ℕ) (kind : ProfileKind) → IsFirstProfileFault (text_lines bytes.now) line kind → OrNoMemory result (Err (ProfileError.Fault line kind)) }
 {
-    told(text_of(bytes, Profile::keyed(alloc, FileKey::of(bytes))))
+    profile_or_fault(text_of(bytes, Profile::keyed(alloc, FileKey::of(bytes))))
 }
 
 /// What was read, with the error of profiles.
-fn told(read: Result<Profile, LineError<ProfileKind>>) -> Result<Profile, ProfileError>
+fn profile_or_fault(read: Result<Profile, LineError<ProfileKind>>) -> Result<Profile, ProfileError>
     ensures { result ≡ result_map_both (λ profile. profile) error_of read }
 {
     match read {

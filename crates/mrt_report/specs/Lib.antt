@@ -1,9 +1,9 @@
 pub mod ByColumn
+pub mod Cells
 pub mod LineParts
 pub mod Lines
 pub mod Repairs
 pub mod Rows
 pub mod TableParts
 pub mod TableText
-pub mod TableWords
 pub mod steps

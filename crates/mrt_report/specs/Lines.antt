@@ -5,7 +5,7 @@ use Rattle.primary_alt.specs.declared.shortest.Primary.{Primary}
 use Rattle.mrt_report.specs.LineParts.{LineParts}
 use Rattle.mrt_report.specs.Rows.{IsRow}
 use Rattle.text_parts.specs.Hops.{hop_text}
-use Rattle.mrt_report.specs.TableWords.{letter_text, tag_text}
+use Rattle.mrt_report.specs.Cells.{letter_text, tag_text}
 use Rattle.mrt_report.specs.declared.row.ArcRepairs.{ArcRepairs}
 use Rattle.mrt_report.specs.declared.row.TableRow.{TableRow}
 

@@ -3,8 +3,8 @@
 ghost use Rattle.std.specs.Prelude.{◌≡◌, ◌≤◌, ◌+◌, ◌++◌, IfOk, OnErr, length};
 ghost use Rattle.mrt_report.specs.Lines.{arc_letters, color_words, primary_words, row_text, second_letters};
 
+use crate::cells::{letter, tag_word};
 use crate::row::{ArcRepairs, TableRow};
-use crate::words::{letter, tag_word};
 use mrt_graph::{NoMemory, ShortText, push_node_text};
 use text_parts::{push, put, put_hop};
 

@@ -6,8 +6,8 @@ ghost use Rattle.mrt_graph.specs.{GraphInvariant.IsNetwork, Sound.SoundFor};
 ghost use Rattle.text_parts.specs.steps.Adds.{Adds};
 ghost use Rattle.mrt_report.specs.{LineParts.IsPrimaryOf, LineParts.line_parts, Lines.IsLine, Rows.IsRow, TableText.IsHead};
 
+use crate::destination_row::row_of;
 use crate::line::push_row;
-use crate::making::row_of;
 use crate::parts::Parts;
 use crate::row::TableRow;
 use area_graph::Area;

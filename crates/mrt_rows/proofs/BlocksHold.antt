@@ -11,7 +11,7 @@ use Rattle.mrt_graph.specs.declared.cert.Role.TheVariants as roles
 use Rattle.mrt_graph.specs.declared.link.Link.{Link}
 use Rattle.mrt_graph.specs.BothThere.{both}
 use Rattle.mrt_graph.specs.Certificate.{Certificate}
-use Rattle.mrt_graph.specs.CertWords.{block_of, head_of, links_of, members, order_of}
+use Rattle.mrt_graph.specs.CertFields.{block_of, head_of, links_of, members, order_of}
 use Rattle.mrt_graph.specs.HeadsAndBlocks.{HeadsHold, closed_block, closed_unless_one_link, closings, is_greatest_of, joins_greatest, link_placed, lone_block, lone_if_one_link, one_head, placed}
 use Rattle.mrt_graph.specs.Leads.{leads}
 use Rattle.mrt_graph.specs.NodeOrder.{rank_of}

@@ -11,7 +11,7 @@ use Rattle.mrt_graph.specs.declared.cert.Row.{Row}
 use Rattle.mrt_graph.specs.declared.cert.Tag.{Tag}
 use Rattle.mrt_graph.specs.BothThere.{are_different, are_equal, is_less}
 use Rattle.mrt_graph.specs.Certificate.{Certificate, row_of}
-use Rattle.mrt_graph.specs.CertWords.{block_of, has_role, head_of, link_block, order_of, tagged}
+use Rattle.mrt_graph.specs.CertFields.{block_of, has_role, head_of, link_block, order_of, tagged}
 use Rattle.mrt_graph.specs.Roles.{is_closing, is_plain, is_sole}
 use Rattle.mrt_graph.specs.Tags.{same_tag}
 use Rattle.mrt_graph.proofs.ListTests.{there}

@@ -6,7 +6,7 @@ use Rattle.mrt_graph.specs.Topology.{Topology}
 use Rattle.link_direction.specs.Directions.{Directions}
 use Rattle.mrt_rows.specs.declared.column.Columns.{Columns}
 use Rattle.mrt_rows.specs.Chain.{AreBlockAims}
-use Rattle.mrt_rows.specs.Held.{AreHeld, AreHeldFor}
+use Rattle.mrt_rows.specs.AimedColumns.{AreColumns, AreColumnsFor}
 use Rattle.mrt_rows.specs.TilesAimed.{AreShared, AreTiles}
 
 -- the same of equal lists
@@ -23,7 +23,7 @@ shared_moved count count' width width' aims aims' marks marks' wanted wanted' fi
 
 -- with other destinations, which are not aimed at
 pub retargeted : (g : Topology) (root : ℕ) (w : Directions) (held : Columns) (targets : Vec ℕ Global) → length targets.items ≡ length held.targets.items
-    → AreHeld g root w held → AreHeldFor g root w (record held { targets = targets }) []
+    → AreColumns g root w held → AreColumnsFor g root w (record held { targets = targets }) []
 retargeted g root w held targets many are = record {
   common = are.common;
   one_below_each = are.one_below_each;
@@ -35,7 +35,7 @@ retargeted g root w held targets many are = record {
 
 -- with other nodes below others
 pub climbed : (g : Topology) (root : ℕ) (w : Directions) (held : Columns) (below : Vec (Option ℕ) Global) → length below.items ≡ length g.ids
-    → AreHeld g root w held → AreHeld g root w (record held { below = below })
+    → AreColumns g root w held → AreColumns g root w (record held { below = below })
 climbed g root w held below one_each are = record {
   common = are.common;
   one_below_each = one_each;

@@ -9,7 +9,7 @@ use Rattle.mrt_graph.specs.declared.cert.Tag.TheVariants as tags
 use Rattle.mrt_graph.specs.declared.link.End.{End}
 use Rattle.mrt_graph.specs.BothThere.{are_equal, is_less}
 use Rattle.mrt_graph.specs.Certificate.{Certificate, row_of}
-use Rattle.mrt_graph.specs.CertWords.{block_of, has_role, head_of, order_of, tagged}
+use Rattle.mrt_graph.specs.CertFields.{block_of, has_role, head_of, order_of, tagged}
 use Rattle.mrt_graph.specs.Leads.{leads}
 use Rattle.mrt_graph.specs.Roles.{is_closing, is_plain}
 use Rattle.mrt_graph.specs.steps.RowRules.{near_row}

@@ -5,7 +5,7 @@ use Rattle.std.proofs.lemmas.Option.{slice_get-get_or}
 use Rattle.mrt_graph.specs.declared.cert.Role.TheVariants.{Plain}
 use Rattle.mrt_graph.specs.declared.cert.Row.{Row}
 use Rattle.mrt_graph.specs.DirectedLists.{DirectedLists}
-use Rattle.mrt_graph.specs.GadagWords.{block_at, head_at, link_block_at, role_at}
+use Rattle.mrt_graph.specs.GadagFields.{block_at, head_at, link_block_at, role_at}
 use Rattle.mrt_graph.specs.GraphInvariant.{IsTopology}
 use Rattle.mrt_graph.specs.Tails.{tail_at}
 use Rattle.mrt_graph.specs.Topology.{Topology}
@@ -17,7 +17,7 @@ use Rattle.inc_dec_spf.specs.HasDirections.{AreDirections, HasDirections}
 use Rattle.inc_dec_spf.specs.Turns.{AreTurns, turn_at, turn_of}
 use Rattle.mrt_rows.specs.ColumnOf.{IsColumnOf}
 use Rattle.mrt_rows.specs.RowsOf.{HasRow}
-use Rattle.mrt_rows.specs.Said.{AreRooted, directions_of}
+use Rattle.mrt_rows.specs.ListedDirections.{AreRooted, directions_of}
 use Rattle.mrt_rows.proofs.Agreeing.{line_too}
 use Rattle.mrt_rows.proofs.OrderedGraphs.{OrderedGraph}
 

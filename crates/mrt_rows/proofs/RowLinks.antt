@@ -11,9 +11,9 @@ use Rattle.mrt_rows.specs.declared.column.Target.{Target}
 use Rattle.mrt_rows.specs.declared.row_over.FirstLinks.{FirstLinks}
 use Rattle.mrt_rows.specs.Chain.{AreWayAims, Climbs}
 use Rattle.mrt_rows.specs.steps.Chain.{IsRowAim}
-use Rattle.mrt_rows.specs.Held.{AreAimed, AreBothAimed}
+use Rattle.mrt_rows.specs.AimedColumns.{AreAimed, AreBothAimed}
 use Rattle.mrt_rows.specs.Put.{AreFirstLinks}
-use Rattle.mrt_rows.specs.Said.{directions_of}
+use Rattle.mrt_rows.specs.ListedDirections.{directions_of}
 use Rattle.mrt_rows.specs.TilesAimed.{HaveLinksAt}
 use Rattle.mrt_rows.proofs.AimsOfRows.{aim_on_way, aims_alike, own_block, row_aim_on_way, way_aim, way_marked}
 use Rattle.mrt_rows.proofs.ChainAims.{aim_within}

@@ -5,7 +5,7 @@ use Rattle.mrt_graph.specs.DirectedLists.{DirectedLists}
 use Rattle.mrt_graph.specs.Topology.{Topology}
 use Rattle.mrt_rows.specs.CertOf.{IsCertOf, Tells}
 use Rattle.mrt_rows.specs.DirectedFrom.{IsDirectedFrom}
-use Rattle.mrt_rows.specs.Said.{AreRooted, directions_of}
+use Rattle.mrt_rows.specs.ListedDirections.{AreRooted, directions_of}
 use Rattle.mrt_rows.proofs.OneCert.{one_cert_of}
 use Rattle.mrt_rows.proofs.Rooting.{og_of}
 use Rattle.mrt_rows.proofs.WholeCert.{whole_file, whole_tells}

@@ -1,11 +1,11 @@
 pub mod Chain
 pub mod ColumnOf
-pub mod Making
+pub mod ListedDirections
 pub mod NearOf
 pub mod Put
 pub mod RootedParts
+pub mod RowMaker
 pub mod RowsFound
 pub mod RowsOf
-pub mod Said
 pub mod Source
 pub mod TheColumn

@@ -6,8 +6,8 @@ ghost use Rattle.mrt_graph.specs.GraphInvariant.{IsTopology};
 ghost use Rattle.link_direction.specs.Directions.{Says};
 ghost use Rattle.mrt_rows.specs.CertOf.{AreLinkWords, AreNodeWords, IsCertOf, file_of, link_words, node_words};
 ghost use Rattle.mrt_rows.specs.steps.RowsOf.{AreAllRows, row_among};
-ghost use Rattle.mrt_rows.specs.steps.Said.{IsRooted, words_of};
-ghost use Rattle.mrt_rows.specs.Said.{directions_of};
+ghost use Rattle.mrt_rows.specs.steps.ListedDirections.{IsRooted, directions_by};
+ghost use Rattle.mrt_rows.specs.ListedDirections.{directions_of};
 
 use crate::column::{Columns, WIDTH};
 use crate::column_view::ColumnView;
@@ -45,7 +45,7 @@ pub fn compute(alloc: Global, g: &Graph, root: NodeNo) -> Result<Cert, NoMemory>
 /// The rows of all nodes, by ascending source, then by ascending destination: column after column.
 fn all_rows(alloc: Global, rooted: &Rooted) -> Result<Vec<Row>, NoMemory>
     requires { IsRooted rooted.now }
-    ensures { IfOk result (λ rows. AreAllRows rooted.now.graph.now rooted.now.root (words_of rooted.now) rows.items) }
+    ensures { IfOk result (λ rows. AreAllRows rooted.now.graph.now rooted.now.root (directions_by rooted.now) rows.items) }
 {
     let count = rooted.graph.node_count();
     let size = count as usize;

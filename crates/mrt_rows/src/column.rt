@@ -7,9 +7,9 @@ ghost use Rattle.mrt_rows.specs.steps.Chain.{IsRowAim};
 ghost use Rattle.mrt_rows.specs.steps.ColumnOf.{IsRowIn};
 ghost use Rattle.mrt_rows.specs.NearOf.{AreSoles};
 ghost use Rattle.mrt_rows.specs.steps.NearOf.{IsNearRow};
-ghost use Rattle.mrt_rows.specs.Held.{AreAimed, AreHeld, AreHeldFor};
+ghost use Rattle.mrt_rows.specs.AimedColumns.{AreAimed, AreColumns, AreColumnsFor};
 ghost use Rattle.mrt_rows.specs.Put.{AreFirstLinks};
-ghost use Rattle.mrt_rows.specs.steps.Said.{IsNode, IsRooted, words_of};
+ghost use Rattle.mrt_rows.specs.steps.ListedDirections.{IsNode, IsRooted, directions_by};
 
 use crate::common::{Common, mark};
 use crate::directed::Rooted;
@@ -57,7 +57,7 @@ impl Columns {
     pub fn new(alloc: Global, rooted: &Rooted, width: u16) -> Result<Columns, NoMemory>
         requires rooted { IsRooted rooted.now }
         requires some { 0 < width }
-        ensures { IfOk result (AreHeld rooted.now.graph.now rooted.now.root (words_of rooted.now)) }
+        ensures { IfOk result (AreColumns rooted.now.graph.now rooted.now.root (directions_by rooted.now)) }
     {
         let count = rooted.graph.node_count();
         let common = Common::new(alloc, rooted)?;
@@ -84,7 +84,7 @@ impl Columns {
         requires rooted { IsRooted rooted.now }
         requires to { IsNode rooted.now to }
         requires marks { IfSome marks (λ marks. length marks.now ≡ length rooted.now.graph.now.ids) }
-        requires held { AreHeld rooted.now.graph.now rooted.now.root (words_of rooted.now) self.old }
+        requires held { AreColumns rooted.now.graph.now rooted.now.root (directions_by rooted.now) self.old }
         ensures node { result.node ≡ to }
         ensures aimed { AreAimed rooted.now.graph.now rooted.now.root rooted.now.directed.now self.new result }
     {
@@ -98,8 +98,8 @@ impl Columns {
         requires rooted { IsRooted rooted.now }
         requires to { IsNode rooted.now to }
         requires marks { IfSome marks (λ marks. length marks.now ≡ length rooted.now.graph.now.ids) }
-        requires held { AreHeld rooted.now.graph.now rooted.now.root (words_of rooted.now) self.old }
-        ensures held { AreHeld rooted.now.graph.now rooted.now.root (words_of rooted.now) self.new }
+        requires held { AreColumns rooted.now.graph.now rooted.now.root (directions_by rooted.now) self.old }
+        ensures held { AreColumns rooted.now.graph.now rooted.now.root (directions_by rooted.now) self.new }
         ensures place { slice_get self.new.targets.items result ≡ Some to }
     {
         match place_of(&self.targets, to) {
@@ -116,8 +116,8 @@ impl Columns {
     fn aim_tiles(&mut self, rooted: &Rooted)
         requires rooted { IsRooted rooted.now }
         requires within { (j t : ℕ) → slice_get self.old.targets.items j ≡ Some t → IsNode rooted.now t }
-        requires held { AreHeldFor rooted.now.graph.now rooted.now.root (words_of rooted.now) self.old [] }
-        ensures held { AreHeld rooted.now.graph.now rooted.now.root (words_of rooted.now) self.new }
+        requires held { AreColumnsFor rooted.now.graph.now rooted.now.root (directions_by rooted.now) self.old [] }
+        ensures held { AreColumns rooted.now.graph.now rooted.now.root (directions_by rooted.now) self.new }
         ensures targets { self.new.targets.items ≡ self.old.targets.items }
     {
         put_ways(
@@ -154,7 +154,7 @@ impl Columns {
         requires aimed { AreAimed rooted.now.graph.now rooted.now.root rooted.now.directed.now self.now to }
         requires source { IsNode rooted.now s }
         requires two { s ≢ to.node }
-        ensures { IsRowIn rooted.now.graph.now rooted.now.root (words_of rooted.now) s to.node result }
+        ensures { IsRowIn rooted.now.graph.now rooted.now.root (directions_by rooted.now) s to.node result }
     {
         let aim = self.aim_of(rooted, s, to);
         let row = self.aimed_row(rooted, s, to, aim)?;
@@ -168,7 +168,7 @@ impl Columns {
     fn aim_of(&self, rooted: &Rooted, s: NodeNo, to: Target) -> NodeNo
         requires aimed { AreAimed rooted.now.graph.now rooted.now.root rooted.now.directed.now self.now to }
         requires source { IsNode rooted.now s }
-        ensures { IsRowAim (words_of rooted.now) self.now.below.items s result }
+        ensures { IsRowAim (directions_by rooted.now) self.now.below.items s result }
     {
         if let Some(under) = self.below[s.get() as usize] {
             return under;
@@ -182,8 +182,8 @@ impl Columns {
         requires aimed { AreAimed rooted.now.graph.now rooted.now.root rooted.now.directed.now self.now to }
         requires source { IsNode rooted.now s }
         requires two { s ≢ to.node }
-        requires aim { IsRowAim (words_of rooted.now) self.now.below.items s aim }
-        ensures { IsNearRow rooted.now.graph.now rooted.now.root (words_of rooted.now) s aim result }
+        requires aim { IsRowAim (directions_by rooted.now) self.now.below.items s aim }
+        ensures { IsNearRow rooted.now.graph.now rooted.now.root (directions_by rooted.now) s aim result }
     {
         let source = self.common.source(rooted, s);
         if source.place.head == aim {
@@ -198,9 +198,9 @@ impl Columns {
     fn links_to(&self, rooted: &Rooted, s: NodeNo, to: Target, aim: NodeNo) -> FirstLinks
         requires aimed { AreAimed rooted.now.graph.now rooted.now.root rooted.now.directed.now self.now to }
         requires source { IsNode rooted.now s }
-        requires aim { IsRowAim (words_of rooted.now) self.now.below.items s aim }
-        requires away { (words_of rooted.now).head s ≢ aim }
-        ensures { AreFirstLinks rooted.now.graph.now (words_of rooted.now) s aim result }
+        requires aim { IsRowAim (directions_by rooted.now) self.now.below.items s aim }
+        requires away { (directions_by rooted.now).head s ≢ aim }
+        ensures { AreFirstLinks rooted.now.graph.now (directions_by rooted.now) s aim result }
     {
         let block = rooted.place(aim).block;
         if self.shared.wanted[block.get() as usize] {
@@ -264,13 +264,13 @@ fn put_ways(
     marks: &mut [bool],
 )
     requires rooted { IsRooted rooted.now }
-    requires soles { AreSoles rooted.now.graph.now (words_of rooted.now) soles.now }
+    requires soles { AreSoles rooted.now.graph.now (directions_by rooted.now) soles.now }
     requires within { (j t : ℕ) → slice_get targets.now j ≡ Some t → IsNode rooted.now t }
     requires room { length aims.old ≡ length rooted.now.graph.now.ids * length targets.now }
     requires a_mark_each { length marks.old ≡ length rooted.now.graph.now.ids }
     ensures room { length aims.new ≡ length aims.old }
     ensures a_mark_each { length marks.new ≡ length rooted.now.graph.now.ids }
-    ensures aims { AreBlockAims rooted.now.graph.now rooted.now.root (words_of rooted.now) targets.now aims.new marks.new }
+    ensures aims { AreBlockAims rooted.now.graph.now rooted.now.root (directions_by rooted.now) targets.now aims.new marks.new }
 {
     let width = targets.len();
     put_heads(rooted.graph, rooted.directed, width, aims);
@@ -294,7 +294,7 @@ fn put_way(
     marks: &mut [bool],
 )
     requires rooted { IsRooted rooted.now }
-    requires soles { AreSoles rooted.now.graph.now (words_of rooted.now) soles.now }
+    requires soles { AreSoles rooted.now.graph.now (directions_by rooted.now) soles.now }
     requires to { IsNode rooted.now to.node }
     requires place { to.at < width }
     requires room { length aims.old ≡ length rooted.now.graph.now.ids * width }
@@ -302,8 +302,8 @@ fn put_way(
     ensures room { length aims.new ≡ length aims.old }
     ensures a_mark_each { length marks.new ≡ length rooted.now.graph.now.ids }
     ensures way { ((y : ℕ) → IsNode rooted.now y
-        → aim_at aims.old width to.at ((words_of rooted.now).block y) ≡ (words_of rooted.now).head y)
-        → AreWayAims rooted.now.graph.now rooted.now.root (words_of rooted.now) to.node (aim_at aims.new width to.at) marks.new }
+        → aim_at aims.old width to.at ((directions_by rooted.now).block y) ≡ (directions_by rooted.now).head y)
+        → AreWayAims rooted.now.graph.now rooted.now.root (directions_by rooted.now) to.node (aim_at aims.new width to.at) marks.new }
     ensures others { (i k : ℕ) → i < width → i ≢ to.at
         → aim_at aims.new width i k ≡ aim_at aims.old width i k }
     ensures stay { (k : ℕ) → slice_get marks.old k ≡ Some true → slice_get marks.new k ≡ Some true }
@@ -323,7 +323,7 @@ fn put_below(rooted: &Rooted, to: NodeNo, below: &mut [Option<NodeNo>])
     requires rooted { IsRooted rooted.now }
     requires to { IsNode rooted.now to }
     requires one_each { length below.old ≡ length rooted.now.graph.now.ids }
-    ensures { AreBelow rooted.now.graph.now rooted.now.root (words_of rooted.now) to below.new }
+    ensures { AreBelow rooted.now.graph.now rooted.now.root (directions_by rooted.now) to below.new }
 {
     below.fill(None);
     let mut c = to;

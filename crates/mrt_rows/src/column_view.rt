@@ -4,10 +4,10 @@ ghost use Rattle.std.specs.Prelude.{◌≡◌, ◌<◌, IfOk, Some, length, slic
 ghost use Rattle.mrt_graph.specs.Column.{ColumnSound};
 ghost use Rattle.link_direction.specs.{Directions.Directions, Directions.Says, OrderedGadag.SaysOrdered};
 ghost use Rattle.mrt_rows.specs.ColumnOf.{IsColumnOf};
-ghost use Rattle.mrt_rows.specs.Held.{AreAimed};
+ghost use Rattle.mrt_rows.specs.AimedColumns.{AreAimed};
 ghost use Rattle.mrt_rows.specs.steps.TheColumn.{TheColumn, no_choice};
-ghost use Rattle.mrt_rows.specs.Said.{directions_of};
-ghost use Rattle.mrt_rows.specs.steps.Said.{words_of};
+ghost use Rattle.mrt_rows.specs.ListedDirections.{directions_of};
+ghost use Rattle.mrt_rows.specs.steps.ListedDirections.{directions_by};
 
 use crate::column::{Columns, Target};
 use crate::directed::Rooted;
@@ -23,13 +23,13 @@ pub struct ColumnView<'a> {
     rooted: Rooted<'a>,
     columns: &'a Columns,
     to: Target,
-    ghost column: { TheColumn rooted.graph.now rooted.root (words_of rooted) to.node } by { no_choice rooted.graph.now rooted.root (words_of rooted) to.node },
+    ghost column: { TheColumn rooted.graph.now rooted.root (directions_by rooted) to.node } by { no_choice rooted.graph.now rooted.root (directions_by rooted) to.node },
 }
 
 impl<'a> Model for ColumnView<'a> {
     ghost use Rattle.std.specs.Prelude.{List, Option};
     ghost use Rattle.mrt_graph.specs.declared.cert.Row.{Row};
-    ghost use Rattle.mrt_rows.specs.Held.{AreAimed};
+    ghost use Rattle.mrt_rows.specs.AimedColumns.{AreAimed};
 
     ghost Value = { List (Option Row) };
 

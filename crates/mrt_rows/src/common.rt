@@ -6,7 +6,7 @@ ghost use Rattle.inc_dec_spf.specs.declared.reach.Dir.TheVariants.{Down, Up};
 ghost use Rattle.inc_dec_spf.specs.{FirstLink.no_link, Turns.AreTurns};
 ghost use Rattle.mrt_rows.specs.Common.{AreCommon, AreHomes};
 ghost use Rattle.mrt_rows.specs.TilesAimed.{AreTiles};
-ghost use Rattle.mrt_rows.specs.steps.Said.{IsNode, IsRooted, words_of};
+ghost use Rattle.mrt_rows.specs.steps.ListedDirections.{IsNode, IsRooted, directions_by};
 ghost use Rattle.mrt_rows.specs.steps.Source.{IsSourceBy};
 ghost use Rattle.mrt_rows.specs.NearOf.{AreSoles, IsSoleOf};
 ghost use Rattle.mrt_rows.specs.steps.NearOf.{IsNearRow, IsPlaceOf};
@@ -47,7 +47,7 @@ impl Common {
     /// It takes time in proportion to the nodes and the links.
     pub fn new(alloc: Global, rooted: &Rooted) -> Result<Common, NoMemory>
         requires { IsRooted rooted.now }
-        ensures { IfOk result (AreCommon rooted.now.graph.now (words_of rooted.now)) }
+        ensures { IfOk result (AreCommon rooted.now.graph.now (directions_by rooted.now)) }
     {
         let count = rooted.graph.node_count() as usize;
         let by_order = nodes_by_turn(alloc, rooted.graph, rooted.directed, Dir::Up)?;
@@ -68,10 +68,10 @@ impl Common {
     /// Node s, with what its rows are made from.
     pub fn source(&self, rooted: &Rooted, s: NodeNo) -> Source
         requires rooted { IsRooted rooted.now }
-        requires common { AreCommon rooted.now.graph.now (words_of rooted.now) self.now }
+        requires common { AreCommon rooted.now.graph.now (directions_by rooted.now) self.now }
         requires node { IsNode rooted.now s }
         ensures node { result.node ≡ s }
-        ensures source { IsSourceBy rooted.now.graph.now (words_of rooted.now) result }
+        ensures source { IsSourceBy rooted.now.graph.now (directions_by rooted.now) result }
     {
         let at = s.get() as usize;
         Source {
@@ -92,14 +92,14 @@ impl Common {
         links: &FirstLinks,
     ) -> Option<Row>
         requires rooted { IsRooted rooted.now }
-        requires common { AreCommon rooted.now.graph.now (words_of rooted.now) self.now }
-        requires source { IsSourceBy rooted.now.graph.now (words_of rooted.now) source.now }
+        requires common { AreCommon rooted.now.graph.now (directions_by rooted.now) self.now }
+        requires source { IsSourceBy rooted.now.graph.now (directions_by rooted.now) source.now }
         requires target { IsNode rooted.now t }
         requires two { source.now.node ≢ t }
-        requires relation { (there : Place) × IsPlaceOf (words_of rooted.now) t there
+        requires relation { (there : Place) × IsPlaceOf (directions_by rooted.now) t there
             × IsRelation source.now.node source.now.place t there relation }
-        requires links { AreFirstLinks rooted.now.graph.now (words_of rooted.now) source.now.node t links.now }
-        ensures { IsNearRow rooted.now.graph.now rooted.now.root (words_of rooted.now) source.now.node t result }
+        requires links { AreFirstLinks rooted.now.graph.now (directions_by rooted.now) source.now.node t links.now }
+        ensures { IsNearRow rooted.now.graph.now rooted.now.root (directions_by rooted.now) source.now.node t result }
     {
         match relation {
             Relation::OneBlock => Some(member_row(links, &source.home)),
@@ -111,10 +111,10 @@ impl Common {
 
     /// Whether s may lie in a block of more than one link, which is its own or one that it heads; so for the root.
     pub fn is_among_more(&self, rooted: &Rooted, s: NodeNo) -> bool
-        requires common { AreCommon rooted.now.graph.now (words_of rooted.now) self.now }
+        requires common { AreCommon rooted.now.graph.now (directions_by rooted.now) self.now }
         requires node { IsNode rooted.now s }
         ensures { result ≡ false → (t : ℕ) → IsNode rooted.now t
-            → ¬ AreInCommonBlockOfMoreLinks rooted.now.graph.now (words_of rooted.now) s t }
+            → ¬ AreInCommonBlockOfMoreLinks rooted.now.graph.now (directions_by rooted.now) s t }
     {
         let at = s.get() as usize;
         if self.heads[at] {
@@ -134,12 +134,12 @@ fn homes_of(
     heads: &[bool],
 ) -> Result<Tiles, NoMemory>
     requires rooted { IsRooted rooted.now }
-    requires by_order { AreTurns rooted.now.graph.now (words_of rooted.now) Up by_order.now }
-    requires against_order { AreTurns rooted.now.graph.now (words_of rooted.now) Down against_order.now }
+    requires by_order { AreTurns rooted.now.graph.now (directions_by rooted.now) Up by_order.now }
+    requires against_order { AreTurns rooted.now.graph.now (directions_by rooted.now) Down against_order.now }
     requires a_mark_each { length heads.now ≡ length rooted.now.graph.now.ids }
-    requires heads { AreHeadsMarked rooted.now.graph.now (words_of rooted.now) heads.now }
+    requires heads { AreHeadsMarked rooted.now.graph.now (directions_by rooted.now) heads.now }
     ensures one_place { IfOk result (AreTiles rooted.now.graph.now 1) }
-    ensures homes { IfOk result (AreHomes rooted.now.graph.now (words_of rooted.now)) }
+    ensures homes { IfOk result (AreHomes rooted.now.graph.now (directions_by rooted.now)) }
 {
     let mut homes = Tiles::new(alloc, rooted, 1)?;
     put_heads(rooted.graph, rooted.directed, 1, &mut homes.aims);
@@ -153,9 +153,9 @@ fn take_soles(rooted: &Rooted, soles: &mut [LinkNo], heads: &mut [bool])
     requires rooted { IsRooted rooted.now }
     requires a_sole_each { length soles.old ≡ length rooted.now.graph.now.ids }
     requires a_mark_each { length heads.old ≡ length rooted.now.graph.now.ids }
-    ensures soles { AreSoles rooted.now.graph.now (words_of rooted.now) soles.new }
+    ensures soles { AreSoles rooted.now.graph.now (directions_by rooted.now) soles.new }
     ensures a_mark_each { length heads.new ≡ length rooted.now.graph.now.ids }
-    ensures heads { AreHeadsMarked rooted.now.graph.now (words_of rooted.now) heads.new }
+    ensures heads { AreHeadsMarked rooted.now.graph.now (directions_by rooted.now) heads.new }
 {
     for n in 0..rooted.graph.node_count() {
         let v = NodeNo::new(n);
@@ -169,7 +169,7 @@ fn take_soles(rooted: &Rooted, soles: &mut [LinkNo], heads: &mut [bool])
 fn sole_of(rooted: &Rooted, v: NodeNo) -> LinkNo
     requires rooted { IsRooted rooted.now }
     requires node { IsNode rooted.now v }
-    ensures { IsSoleOf rooted.now.graph.now (words_of rooted.now) v result }
+    ensures { IsSoleOf rooted.now.graph.now (directions_by rooted.now) v result }
 {
     let block = rooted.place(v).block;
     for end in rooted.graph.ends(v) {

@@ -5,7 +5,7 @@ ghost use Rattle.mrt_graph.specs.GraphInvariant.{IsTopology};
 ghost use Rattle.link_direction.specs.OrderedGadag.{SaysOrdered};
 ghost use Rattle.mrt_rows.specs.DirectedFrom.{IsDirectedFrom};
 ghost use Rattle.mrt_rows.specs.steps.NearOf.{IsPlaceOf};
-ghost use Rattle.mrt_rows.specs.steps.Said.{IsNode, IsRooted, words_of};
+ghost use Rattle.mrt_rows.specs.steps.ListedDirections.{IsNode, IsRooted, directions_by};
 
 use gadag_ears::ears;
 use link_direction::direct;
@@ -26,7 +26,7 @@ impl<'a> Rooted<'a> {
     pub fn place(&self, v: NodeNo) -> Place
         requires rooted { IsRooted self.now }
         requires node { IsNode self.now v }
-        ensures { IsPlaceOf (words_of self.now) v result }
+        ensures { IsPlaceOf (directions_by self.now) v result }
     {
         self.directed.place(v)
     }

@@ -5,12 +5,12 @@ ghost use Rattle.std.specs.Option.{option_map};
 ghost use Rattle.mrt_graph.specs.{declared.cert.Row.Row, Tags.carried};
 ghost use Rattle.link_direction.specs.{Directions.Directions, Directions.Says, OrderedGadag.SaysOrdered};
 ghost use Rattle.mrt_rows.specs.steps.ColumnOf.{IsRowIn};
-ghost use Rattle.mrt_rows.specs.Making.{IsMaking};
-ghost use Rattle.mrt_rows.specs.steps.Making.{IsOpenFor};
+ghost use Rattle.mrt_rows.specs.RowMaker.{IsRowMaker};
+ghost use Rattle.mrt_rows.specs.steps.RowMaker.{IsOpenFor};
 ghost use Rattle.mrt_rows.specs.Put.{AreFirstLinks};
 ghost use Rattle.mrt_rows.specs.RowsOf.{AreRowsOf, HasRow};
 ghost use Rattle.mrt_rows.specs.steps.NearOf.{IsNearRow, IsPlaceOf, near_first};
-ghost use Rattle.mrt_rows.specs.steps.Said.{IsNode, IsRooted, words_of};
+ghost use Rattle.mrt_rows.specs.steps.ListedDirections.{IsNode, IsRooted, directions_by};
 ghost use Rattle.mrt_rows.specs.steps.Source.{IsSourceBy};
 
 use crate::common::Common;
@@ -22,7 +22,7 @@ use std::alloc::Global;
 
 /// What the rows of all nodes have in common, and the first links of so many sources side by side: the fans are open from the
 /// nodes from number `first` on, from none where there is no such node.
-pub struct Making {
+pub struct RowMaker {
     pub common: Common,
     pub width: u16,
     pub first: u16,
@@ -30,7 +30,7 @@ pub struct Making {
     pub down: Fan,
 }
 
-impl Drop for Making {
+impl Drop for RowMaker {
     fn drop(self) {
         let Self {
             common: _,
@@ -42,18 +42,18 @@ impl Drop for Making {
     }
 }
 
-impl Making {
+impl RowMaker {
     /// What makes the rows of each source, so many of them side by side.
-    pub fn new(alloc: Global, rooted: &Rooted, width: u16) -> Result<Making, NoMemory>
+    pub fn new(alloc: Global, rooted: &Rooted, width: u16) -> Result<RowMaker, NoMemory>
         requires rooted { IsRooted rooted.now }
         requires some { 0 < width }
-        ensures made { IfOk result (IsMaking rooted.now.graph.now (words_of rooted.now)) }
-        ensures width { IfOk result (λ making. making.width ≡ width) }
+        ensures made { IfOk result (IsRowMaker rooted.now.graph.now (directions_by rooted.now)) }
+        ensures width { IfOk result (λ maker. maker.width ≡ width) }
     {
         let common = Common::new(alloc, rooted)?;
         let up = Fan::new(alloc, rooted.graph, width)?;
         let down = Fan::new(alloc, rooted.graph, width)?;
-        Ok(Making {
+        Ok(RowMaker {
             common,
             width,
             first: rooted.graph.node_count(),
@@ -65,11 +65,11 @@ impl Making {
     /// Opens the fans from so many nodes, s among them, unless they are open so or s lies in no block of more than one link.
     pub fn open_for(&mut self, rooted: &Rooted, s: NodeNo)
         requires rooted { IsRooted rooted.now }
-        requires made { IsMaking rooted.now.graph.now (words_of rooted.now) self.old }
+        requires made { IsRowMaker rooted.now.graph.now (directions_by rooted.now) self.old }
         requires node { IsNode rooted.now s }
         ensures width { self.new.width ≡ self.old.width }
-        ensures made { IsMaking rooted.now.graph.now (words_of rooted.now) self.new }
-        ensures open { IsOpenFor rooted.now.graph.now (words_of rooted.now) self.new s }
+        ensures made { IsRowMaker rooted.now.graph.now (directions_by rooted.now) self.new }
+        ensures open { IsOpenFor rooted.now.graph.now (directions_by rooted.now) self.new s }
     {
         if self.is_open_from(s) || !self.common.is_among_more(rooted, s) {
             return;
@@ -93,12 +93,12 @@ impl Making {
     /// The row of a source for t. `None` where they have no block in common.
     pub fn row(&self, rooted: &Rooted, source: &Source, t: NodeNo) -> Option<Row>
         requires rooted { IsRooted rooted.now }
-        requires made { IsMaking rooted.now.graph.now (words_of rooted.now) self.now }
-        requires open { IsOpenFor rooted.now.graph.now (words_of rooted.now) self.now source.now.node }
-        requires source { IsSourceBy rooted.now.graph.now (words_of rooted.now) source.now }
+        requires made { IsRowMaker rooted.now.graph.now (directions_by rooted.now) self.now }
+        requires open { IsOpenFor rooted.now.graph.now (directions_by rooted.now) self.now source.now.node }
+        requires source { IsSourceBy rooted.now.graph.now (directions_by rooted.now) source.now }
         requires target { IsNode rooted.now t }
         requires two { source.now.node ≢ t }
-        ensures { IsNearRow rooted.now.graph.now rooted.now.root (words_of rooted.now) source.now.node t result }
+        ensures { IsNearRow rooted.now.graph.now rooted.now.root (directions_by rooted.now) source.now.node t result }
     {
         let relation = relation_of(source.node, &source.place, t, &rooted.place(t));
         if relation.is_apart() {
@@ -111,12 +111,12 @@ impl Making {
     /// The first links of s to t, where the fans are open from it.
     fn links(&self, rooted: &Rooted, s: NodeNo, t: NodeNo) -> FirstLinks
         requires rooted { IsRooted rooted.now }
-        requires made { IsMaking rooted.now.graph.now (words_of rooted.now) self.now }
-        requires open { IsOpenFor rooted.now.graph.now (words_of rooted.now) self.now s }
+        requires made { IsRowMaker rooted.now.graph.now (directions_by rooted.now) self.now }
+        requires open { IsOpenFor rooted.now.graph.now (directions_by rooted.now) self.now s }
         requires source { IsNode rooted.now s }
         requires target { IsNode rooted.now t }
         requires two { s ≢ t }
-        ensures { AreFirstLinks rooted.now.graph.now (words_of rooted.now) s t result }
+        ensures { AreFirstLinks rooted.now.graph.now (directions_by rooted.now) s t result }
     {
         if !self.is_open_from(s) {
             let none = LinkNo::new(NO_LINK);
@@ -136,14 +136,14 @@ impl Making {
     /// and tells how many there are.
     pub fn put_near_rows(&self, rooted: &Rooted, s: NodeNo, room: &mut [Row]) -> usize
         requires rooted { IsRooted rooted.now }
-        requires made { IsMaking rooted.now.graph.now (words_of rooted.now) self.now }
-        requires open { IsOpenFor rooted.now.graph.now (words_of rooted.now) self.now s }
+        requires made { IsRowMaker rooted.now.graph.now (directions_by rooted.now) self.now }
+        requires open { IsOpenFor rooted.now.graph.now (directions_by rooted.now) self.now s }
         requires node { IsNode rooted.now s }
         requires room { length room.old ≡ length rooted.now.graph.now.ids }
         ensures room { length room.new ≡ length room.old }
         ensures within { result ≤ length room.new }
         ensures rows { (rows : ℕ → Option Row)
-            → ((t : ℕ) → IsNode rooted.now t → s ≢ t → HasRow rooted.now.graph.now rooted.now.root (words_of rooted.now) s rows t)
+            → ((t : ℕ) → IsNode rooted.now t → s ≢ t → HasRow rooted.now.graph.now rooted.now.root (directions_by rooted.now) s rows t)
             → rows s ≡ None → take result room.new ≡ near_first rows (length rooted.now.graph.now.ids) }
     {
         let source = self.common.source(rooted, s);
@@ -184,8 +184,8 @@ pub fn rows_of(
         root,
         directed: d,
     };
-    let mut making = Making::new(alloc, &rooted, 1)?;
-    making.open_for(&rooted, source);
+    let mut maker = RowMaker::new(alloc, &rooted, 1)?;
+    maker.open_for(&rooted, source);
     let link = LinkNo::new(0);
     let none_yet = Row {
         blue: link,
@@ -193,7 +193,7 @@ pub fn rows_of(
         tag: Tag::Carried,
     };
     let mut rows = vec![in alloc; none_yet; count]?;
-    put_rows(&rooted, &making, source, &mut rows);
+    put_rows(&rooted, &maker, source, &mut rows);
     rows.remove(source.get() as usize);
     Ok(rows)
 }
@@ -202,23 +202,23 @@ pub fn rows_of(
 ///
 /// A row may be carried from the row for the carrier. The carrier is the destination's head, which has a lower order, so
 /// that its row is there already; or, for the root, whose turn comes first, the head of the source: its row is put before all.
-fn put_rows(rooted: &Rooted, making: &Making, s: NodeNo, rows: &mut [Row])
+fn put_rows(rooted: &Rooted, maker: &RowMaker, s: NodeNo, rows: &mut [Row])
     requires rooted { IsRooted rooted.now }
-    requires made { IsMaking rooted.now.graph.now (words_of rooted.now) making.now }
-    requires open { IsOpenFor rooted.now.graph.now (words_of rooted.now) making.now s }
+    requires made { IsRowMaker rooted.now.graph.now (directions_by rooted.now) maker.now }
+    requires open { IsOpenFor rooted.now.graph.now (directions_by rooted.now) maker.now s }
     requires node { IsNode rooted.now s }
     requires one_each { length rows.old ≡ length rooted.now.graph.now.ids }
     ensures one_each { length rows.new ≡ length rooted.now.graph.now.ids }
     ensures rows { (t : ℕ) → IsNode rooted.now t → s ≢ t
-        → IsRowIn rooted.now.graph.now rooted.now.root (words_of rooted.now) s t (slice_get rows.new t) }
+        → IsRowIn rooted.now.graph.now rooted.now.root (directions_by rooted.now) s t (slice_get rows.new t) }
 {
-    let source = making.common.source(rooted, s);
+    let source = maker.common.source(rooted, s);
     let home = source.place.head.get() as usize;
     rows[home] = row_home(&source);
-    for t in &making.common.by_order {
+    for t in &maker.common.by_order {
         if *t != s {
             let from = carried_to(rooted, &source, *t, rows);
-            let near = making.row(rooted, &source, *t);
+            let near = maker.row(rooted, &source, *t);
             rows[t.get() as usize] = near.unwrap_or(from);
         }
     }
@@ -227,14 +227,14 @@ fn put_rows(rooted: &Rooted, making: &Making, s: NodeNo, rows: &mut [Row])
 /// The row for `t` as it is carried: from that for the carrier.
 fn carried_to(rooted: &Rooted, source: &Source, t: NodeNo, rows: &[Row]) -> Row
     requires rooted { IsRooted rooted.now }
-    requires source { IsPlaceOf (words_of rooted.now) source.now.node source.now.place }
+    requires source { IsPlaceOf (directions_by rooted.now) source.now.node source.now.place }
     requires node { IsNode rooted.now source.now.node }
     requires target { IsNode rooted.now t }
     requires one_each { length rows.now ≡ length rooted.now.graph.now.ids }
     ensures to_other { t ≢ rooted.now.root
-        → Some result ≡ option_map carried (slice_get rows.now ((words_of rooted.now).head t)) }
+        → Some result ≡ option_map carried (slice_get rows.now ((directions_by rooted.now).head t)) }
     ensures to_root { t ≡ rooted.now.root
-        → Some result ≡ option_map carried (slice_get rows.now ((words_of rooted.now).head source.now.node)) }
+        → Some result ≡ option_map carried (slice_get rows.now ((directions_by rooted.now).head source.now.node)) }
 {
     let by = carrier_of(rooted.root, &source.place, t, &rooted.place(t));
     rows[by.get() as usize].carried()

@@ -2,11 +2,13 @@
 
 ghost use Rattle.std.specs.Prelude.{◌≡◌, ◌<◌, [], IfOk, length};
 ghost use Rattle.mrt_graph.specs.{declared.cert.CertFile.CertFile, GraphInvariant.IsTopology};
-ghost use Rattle.mrt_rows.specs.{CertOf.IsCertOf, Making.MakeRows, NearOf.near_rows_of};
+ghost use Rattle.mrt_rows.specs.CertOf.{IsCertOf};
+ghost use Rattle.mrt_rows.specs.RowMaker.{MakeRows};
+ghost use Rattle.mrt_rows.specs.NearOf.{near_rows_of};
 
 use crate::certificate::{all_links, all_nodes};
 use crate::directed::{Rooted, directions};
-use crate::of_source::Making;
+use crate::of_source::RowMaker;
 use crate::rows_law::columns_are_of_one_certificate;
 use mrt_graph::{CertLink, CertNode, Directed, Graph, LinkNo, NoMemory, NodeNo, Row, Tag};
 use std::alloc::Global;
@@ -19,7 +21,7 @@ const SOURCES: u16 = 64;
 pub struct SourceRows {
     root: NodeNo,
     directed: Directed,
-    making: Making,
+    maker: RowMaker,
     room: Vec<Row>,
     count: usize,
 }
@@ -29,7 +31,7 @@ impl Drop for SourceRows {
         let Self {
             root: _,
             directed: _,
-            making: _,
+            maker: _,
             room: _,
             count: _,
         } = self;
@@ -43,7 +45,7 @@ impl Model for SourceRows {
 
     ghost Value = { RowsFound };
 
-    ghost view = { λ rows. rows_found rows.root rows.directed rows.making (length rows.room.items)
+    ghost view = { λ rows. rows_found rows.root rows.directed rows.maker (length rows.room.items)
         (take rows.count rows.room.items) };
 
     ghost invariant = { λ rows. rows.count ≤ length rows.room.items };
@@ -68,7 +70,7 @@ impl SourceRows {
             root,
             directed: &directed,
         };
-        let making = Making::new(alloc, &rooted, SOURCES)?;
+        let maker = RowMaker::new(alloc, &rooted, SOURCES)?;
         let link = LinkNo::new(0);
         let none_yet = Row {
             blue: link,
@@ -79,7 +81,7 @@ impl SourceRows {
         Ok(SourceRows {
             root,
             directed,
-            making,
+            maker,
             room,
             count: 0,
         })
@@ -103,8 +105,8 @@ impl SourceRows {
             root: self.root,
             directed: &self.directed,
         };
-        self.making.open_for(&rooted, s);
-        self.count = self.making.put_near_rows(&rooted, s, &mut self.room);
+        self.maker.open_for(&rooted, s);
+        self.count = self.maker.put_near_rows(&rooted, s, &mut self.room);
     }
 
     /// The words of the graph's certificate on all nodes.

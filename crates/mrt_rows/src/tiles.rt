@@ -4,7 +4,7 @@ ghost use Rattle.std.specs.Prelude.{◌≡◌, ◌<◌, ◌*◌, ℕ, IfOk, IsTr
 ghost use Rattle.inc_dec_spf.specs.declared.reach.Dir.TheVariants.{Down, Up};
 ghost use Rattle.inc_dec_spf.specs.Turns.{AreTurns};
 ghost use Rattle.mrt_rows.specs.Put.{AreHeadsMarked};
-ghost use Rattle.mrt_rows.specs.steps.Said.{IsRooted, words_of};
+ghost use Rattle.mrt_rows.specs.steps.ListedDirections.{IsRooted, directions_by};
 ghost use Rattle.mrt_rows.specs.TilesAimed.{AreShared, AreTiles, AreTilesAimed, HaveLinksAt, HavePlace};
 
 use crate::directed::Rooted;
@@ -64,16 +64,16 @@ impl Tiles {
         heads: &[bool],
     )
         requires rooted { IsRooted rooted.now }
-        requires by_order { AreTurns rooted.now.graph.now (words_of rooted.now) Up by_order.now }
-        requires against_order { AreTurns rooted.now.graph.now (words_of rooted.now) Down against_order.now }
+        requires by_order { AreTurns rooted.now.graph.now (directions_by rooted.now) Up by_order.now }
+        requires against_order { AreTurns rooted.now.graph.now (directions_by rooted.now) Down against_order.now }
         requires a_mark_each { length heads.now ≡ length rooted.now.graph.now.ids }
-        requires heads { AreHeadsMarked rooted.now.graph.now (words_of rooted.now) heads.now }
+        requires heads { AreHeadsMarked rooted.now.graph.now (directions_by rooted.now) heads.now }
         requires tiles { AreTiles rooted.now.graph.now self.old.up.width self.old }
         ensures tiles { (places : ℕ) → AreTiles rooted.now.graph.now places self.old
             → AreTiles rooted.now.graph.now places self.new }
         ensures aims { self.new.aims.items ≡ self.old.aims.items }
         ensures wanted { self.new.wanted.items ≡ self.old.wanted.items }
-        ensures aimed { AreTilesAimed rooted.now.graph.now (words_of rooted.now) self.new }
+        ensures aimed { AreTilesAimed rooted.now.graph.now (directions_by rooted.now) self.new }
     {
         let up = Aiming {
             graph: rooted.graph,

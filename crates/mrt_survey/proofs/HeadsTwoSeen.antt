@@ -1,7 +1,7 @@
 -- Nodes that are looked at in turn, until two of different blocks have one head.
 use Rattle.std.proofs.Common.{◌≡◌, ◌<◌, ℕ, Option, Some, None}
 use Rattle.mrt_graph.specs.Certificate.{Certificate}
-use Rattle.mrt_graph.specs.CertWords.{block_of}
+use Rattle.mrt_graph.specs.CertFields.{block_of}
 use Rattle.mrt_survey.specs.BlockHeads.{IsHeadOf}
 
 -- x is the head of another node, of block k

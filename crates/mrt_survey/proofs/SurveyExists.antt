@@ -6,7 +6,7 @@ use Rattle.std.proofs.lemmas.Bool.{cases_eq}
 use Rattle.std.proofs.lemmas.Option.{same_Some}
 use Rattle.mrt_graph.specs.AcceptedFor.{IsAcceptedAt}
 use Rattle.mrt_graph.specs.Certificate.{Certificate}
-use Rattle.mrt_graph.specs.CertWords.{block_of, head_of}
+use Rattle.mrt_graph.specs.CertFields.{block_of, head_of}
 use Rattle.mrt_graph.specs.Roles.{is_sole}
 use Rattle.mrt_graph.specs.Topology.{Topology}
 use Rattle.mrt_graph.proofs.ListTests.{there}

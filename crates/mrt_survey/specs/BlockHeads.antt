@@ -1,7 +1,7 @@
 -- Which nodes are the heads of blocks.
 use Rattle.std.specs.Prelude.{◌≡◌, ◌≢◌, ℕ, Some}
 use Rattle.mrt_graph.specs.Certificate.{Certificate}
-use Rattle.mrt_graph.specs.CertWords.{block_of, head_of}
+use Rattle.mrt_graph.specs.CertFields.{block_of, head_of}
 
 -- x is the head of another node, a
 pub record IsHeadOf (c : Certificate) (x a : ℕ) : Type 0 where

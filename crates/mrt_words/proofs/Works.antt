@@ -5,7 +5,7 @@ use Rattle.mrt_words.specs.declared.task.Task.TheVariants.{Fabric, OfRouter}
 use Rattle.mrt_words.specs.FileBytes.{IsLastRead}
 use Rattle.mrt_words.specs.Files.{IsReadAs, script_file, script_limit, task_file}
 use Rattle.mrt_words.specs.Form.{IsTaskWithin, Task}
-use Rattle.mrt_words.specs.Kept.{IsWorkWithin, IsWorkFor, Work}
+use Rattle.mrt_words.specs.Work.{IsWorkWithin, IsWorkFor, Work}
 
 -- a script is within its limit, and a task is as it has to be
 pub work_within : (held : Option Files) (task : Task) (last : List ℕ) (work : Work) → IsTaskWithin task

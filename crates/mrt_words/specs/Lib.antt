@@ -3,7 +3,7 @@ pub mod CertSpelling
 pub mod FileBytes
 pub mod Files
 pub mod Form
-pub mod Kept
 pub mod Reading
 pub mod Spellings
+pub mod Work
 pub mod steps

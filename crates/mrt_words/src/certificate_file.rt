@@ -4,7 +4,7 @@ ghost use Rattle.std.specs.Prelude.{◌≡◌, ◌≤◌, ◌<◌, ◌-◌, ◌^
 ghost use Rattle.mrt_io.specs.Left.{IsLeftOf};
 ghost use Rattle.cert_format.specs.Stream.{fed};
 ghost use Rattle.mrt_words.specs.Files.{IsReadAs};
-ghost use Rattle.mrt_words.specs.Kept.{IsCertRead};
+ghost use Rattle.mrt_words.specs.Work.{IsCertRead};
 ghost use Rattle.mrt_words.specs.steps.Pieces.{IsFedOn};
 ghost use Rattle.mrt_words.specs.steps.Reading.{IsStopped};
 ghost use Rattle.mrt_words.specs.Reading.{ReadsFiles};

@@ -1,7 +1,9 @@
 //! The files that a form names, once they were read.
 
 ghost use Rattle.std.specs.Prelude.{◌≤◌, IfOk, vec_len};
-ghost use Rattle.mrt_words.specs.{FileBytes.FileBytes, FileBytes.AreRead, Kept.AreBytesOf, Kept.flood_bytes, Reading.ReadsFiles};
+ghost use Rattle.mrt_words.specs.FileBytes.{FileBytes, AreRead};
+ghost use Rattle.mrt_words.specs.Work.{AreBytesOf, flood_bytes};
+ghost use Rattle.mrt_words.specs.Reading.{ReadsFiles};
 ghost use Rattle.mrt_words.specs.Files.{files_in, flood_names, profile_limit, script_limit, task_names, updates_limit};
 
 use crate::form::{FileForm, FloodForm};

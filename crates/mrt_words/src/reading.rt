@@ -2,7 +2,9 @@
 
 ghost use Rattle.std.specs.Prelude.{◌≡◌, ◌<◌, ◌-◌, ◌^◌, [], ◌∷◌, ℕ, List, Option};
 ghost use Rattle.std.specs.Option.{option_map, option_to_list};
-ghost use Rattle.mrt_words.specs.{FileBytes.IsLastRead, FileBytes.IsProfileRead, Kept.IsWorkFor, Reading.ReadsFiles};
+ghost use Rattle.mrt_words.specs.FileBytes.{IsLastRead, IsProfileRead};
+ghost use Rattle.mrt_words.specs.Work.{IsWorkFor};
+ghost use Rattle.mrt_words.specs.Reading.{ReadsFiles};
 ghost use Rattle.mrt_words.specs.Files.{IsReadAs, profile_file, task_file};
 
 use crate::certificate_file::read_certificate_file;

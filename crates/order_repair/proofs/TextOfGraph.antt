@@ -15,7 +15,7 @@ use Rattle.link_direction.proofs.FromEarsFacts.{gadag_facts}
 use Rattle.link_direction.proofs.Laws.{says_ordered}
 use Rattle.link_direction.proofs.OneAnswer.{one_answer}
 use Rattle.mrt_rows.specs.DirectedFrom.{IsDirectedFrom}
-use Rattle.mrt_rows.specs.Said.{directions_of}
+use Rattle.mrt_rows.specs.ListedDirections.{directions_of}
 use Rattle.mrt_rows.proofs.Rooting.{og_of, rooted_by}
 use Rattle.order_repair.specs.OrderText.{IsOrderText, IsTextFrom}
 use Rattle.order_repair.proofs.OneText.{one_text}

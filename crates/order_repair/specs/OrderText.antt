@@ -13,7 +13,7 @@ use Rattle.text_parts.specs.Parts.{AreParts, IsHeaded}
 use Rattle.link_direction.specs.Directions.{Directions}
 use Rattle.inc_dec_spf.specs.LeastPath.{HaveCommonBlockOfMoreLinks}
 use Rattle.mrt_rows.specs.DirectedFrom.{IsDirectedFrom}
-use Rattle.mrt_rows.specs.Said.{directions_of}
+use Rattle.mrt_rows.specs.ListedDirections.{directions_of}
 use Rattle.order_repair.specs.Failed.{LiesIn}
 use Rattle.order_repair.specs.OrderChoice.{IsOrderChoice}
 

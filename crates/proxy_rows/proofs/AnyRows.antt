@@ -15,15 +15,15 @@ use Rattle.proxy_rows.specs.declared.attachment.Attachment.{Attachment}
 use Rattle.proxy_rows.specs.declared.proxy_row.Out.{Out}
 use Rattle.proxy_rows.specs.declared.side.Side.{Side}
 use Rattle.proxy_rows.specs.declared.side.Side.TheVariants.{Low, High}
-use Rattle.proxy_rows.specs.declared.words.Words.{Words}
+use Rattle.proxy_rows.specs.declared.labelled_graph.LabelledGraph.{LabelledGraph}
 use Rattle.proxy_rows.specs.Attachment.{IsAttachment}
-use Rattle.proxy_rows.specs.steps.Words.{AreAccepted, AreMarks, AreReadWith, IsGround, IsOn, with_rows}
-use Rattle.proxy_rows.specs.Words.{ReadFrom}
+use Rattle.proxy_rows.specs.steps.LabelledGraph.{AreAccepted, AreMarks, AreReadWith, IsGround, IsOn, with_rows}
+use Rattle.proxy_rows.specs.LabelledGraph.{ReadFrom}
 use Rattle.proxy_rows.specs.ProxyRows.{IsHeadRed, Closing, OneLink}
 use Rattle.proxy_rows.specs.Sides.{IsIn, Router, Onward, goes_on}
 use Rattle.proxy_rows.proofs.Grounds.{counts, head_within}
 
-module _ (words : Words) (at : Attachment) (one other : List Row) where
+module _ (words : LabelledGraph) (at : Attachment) (one other : List Row) where
   goes : (side : Side) (s v : ℕ) → goes_on (with_rows words one) side s v ≡ true → goes_on (with_rows words other) side s v ≡ true
   goes Low s v on = on
   goes High s v on = on
@@ -39,14 +39,14 @@ module _ (words : Words) (at : Attachment) (one other : List Row) where
   red_too _ (OneLink e of lone) = OneLink e of lone
 
 -- what marks a side by the words alone does so whatever the rows are
-pub marks_too : (words : Words) (at : Attachment) (side : Side) (marks : List Bool) → ((s : ℕ) → IsMarked marks s ↔ IsOn words at side s) → AreMarks words at side marks
+pub marks_too : (words : LabelledGraph) (at : Attachment) (side : Side) (marks : List Bool) → ((s : ℕ) → IsMarked marks s ↔ IsOn words at side s) → AreMarks words at side marks
 marks_too words at side marks are rest s = (λ marked. on_side words at [] rest side s ((are s).0 marked), λ is. (are s).1 (on_side words at rest [] side s is))
 
 -- a certificate's words on nodes and links, with its rows, are the certificate
-pub whole : (words : Words) (c : Certificate) → c.nodes ≡ words.nodes.now → c.links ≡ words.links.now → with_rows words c.rows ≡ c
+pub whole : (words : LabelledGraph) (c : Certificate) → c.nodes ≡ words.nodes.now → c.links ≡ words.links.now → with_rows words c.rows ≡ c
 whole words c nodes links = λ i. record { nodes = sym nodes i; links = sym links i; rows = c.rows }
 
-pub read_with : (words : Words) (at : Attachment) (rows : Rows) → IsTopology words.graph.now
+pub read_with : (words : LabelledGraph) (at : Attachment) (rows : Rows) → IsTopology words.graph.now
     → (read : ReadFrom words.graph.now words.nodes.now words.links.now at rows) → AreReadWith words at rows read.cert.rows
 read_with words at rows kept read =
     let same = sym (whole words read.cert read.nodes_are read.links_are) in
@@ -72,11 +72,11 @@ read_of g c nodes links a b at same_nodes same_links accepted attached = record 
 }
 
 -- words that are read with rows are accepted
-pub accepted_of : (words : Words) (at : Attachment) (rows : Rows) → (rest : List Row) × AreReadWith words at rows rest → AreAccepted words at
+pub accepted_of : (words : LabelledGraph) (at : Attachment) (rows : Rows) → (rest : List Row) × AreReadWith words at rows rest → AreAccepted words at
 accepted_of words at rows read = record { rest = read.0; stands = read.1.stands }
 
 -- each other node has a row for the head
-pub row_given : (words : Words) (at : Attachment) (rows : Rows) (rest : List Row) → AreReadWith words at rows rest → (s : ℕ) → s < length words.graph.now.ids → s ≢ at.head
+pub row_given : (words : LabelledGraph) (at : Attachment) (rows : Rows) (rest : List Row) → AreReadWith words at rows rest → (s : ℕ) → s < length words.graph.now.ids → s ≢ at.head
     → IsSome (rows s at.head)
 row_given words at rows rest read s within differ =
     let g = words.graph.now in

@@ -6,11 +6,11 @@ use Rattle.std.proofs.lemmas.Option.{slice_get_within}
 use Rattle.std.specs.Option.{option_map, unwrap_or}
 use Rattle.mrt_graph.specs.declared.cert.CertNode.{CertNode}
 use Rattle.mrt_graph.specs.Certificate.{Certificate, certificate_of}
-use Rattle.mrt_graph.specs.CertWords.{head_of}
+use Rattle.mrt_graph.specs.CertFields.{head_of}
 use Rattle.mrt_graph.specs.Related.{are_unrelated, is_common_block}
 use Rattle.mrt_graph.specs.Topology.{Topology}
 use Rattle.mrt_graph.proofs.AcceptedBlocks.{blocks}
-use Rattle.mrt_graph.proofs.Blocks.{Words, Blocks}
+use Rattle.mrt_graph.proofs.Blocks.{LabelledGraph, Blocks}
 use Rattle.mrt_graph.proofs.Relations.{unrelated_holds, unrelated_tells}
 use Rattle.mrt_graph.proofs.TestFacts.{number_is}
 use Rattle.mrt_graph.proofs.WordsOf.{words_of}
@@ -19,7 +19,7 @@ use Rattle.mrt_graph.specs.AcceptedFor.{IsAcceptedFor}
 use Rattle.proxy_rows.specs.Attachment.{IsAttachment, IsHeadOf}
 
 -- the words of an accepted certificate
-abbrev pub words : (g : Topology) (c : Certificate) → IsAcceptedFor g c → Words
+abbrev pub words : (g : Topology) (c : Certificate) → IsAcceptedFor g c → LabelledGraph
 words g c accepted = words_of g.links accepted.root c
 
 pub blocks_of : (g : Topology) (c : Certificate) (accepted : IsAcceptedFor g c) → Blocks (words g c accepted)

@@ -9,7 +9,7 @@ use Rattle.mrt_graph.specs.Topology.{Topology}
 use Rattle.mrt_graph.proofs.ListTests.{all_at}
 use Rattle.proxy_rows.specs.declared.attachment.Attachment.{Attachment}
 use Rattle.proxy_rows.specs.steps.Steps.{HasNoEnd, NoneBefore}
-use Rattle.proxy_rows.specs.steps.Words.{IsGround}
+use Rattle.proxy_rows.specs.steps.LabelledGraph.{IsGround}
 use Rattle.proxy_rows.proofs.Grounds.{counts}
 
 -- one end more that does not have it

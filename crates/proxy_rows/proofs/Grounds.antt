@@ -8,13 +8,13 @@ use Rattle.mrt_graph.specs.declared.cert.CertLink.{CertLink}
 use Rattle.mrt_graph.specs.declared.cert.CertNode.{CertNode}
 use Rattle.mrt_graph.specs.BothThere.{is_less}
 use Rattle.mrt_graph.specs.Certificate.{Certificate}
-use Rattle.mrt_graph.specs.CertWords.{block_of, head_of, link_block, order_of}
+use Rattle.mrt_graph.specs.CertFields.{block_of, head_of, link_block, order_of}
 use Rattle.mrt_graph.specs.declared.link.Link.{Link}
 use Rattle.mrt_graph.specs.Leads.{far_node, leads}
 use Rattle.mrt_graph.specs.Rules.{GraphRule}
 use Rattle.mrt_graph.specs.SameGraph.{SameCounts}
 use Rattle.mrt_graph.specs.Topology.{Topology}
-use Rattle.mrt_graph.proofs.Blocks.{Words, Blocks, Member, Common, Peers, ToHead, FromHead, At, Inner, Top}
+use Rattle.mrt_graph.proofs.Blocks.{LabelledGraph, Blocks, Member, Common, Peers, ToHead, FromHead, At, Inner, Top}
 use Rattle.mrt_graph.proofs.ListTests.{there}
 use Rattle.mrt_graph.proofs.RowFacts.{Rows}
 use Rattle.mrt_graph.proofs.RowsHold.{rows_hold}
@@ -23,7 +23,7 @@ use Rattle.mrt_graph.proofs.TestFacts.{both_pass, common_block, less_numbers, nu
 use Rattle.proxy_rows.specs.declared.attachment.Attachment.{Attachment}
 use Rattle.proxy_rows.specs.declared.side.Side.{Side}
 use Rattle.proxy_rows.specs.declared.side.Side.TheVariants.{Low, High}
-use Rattle.proxy_rows.specs.steps.Words.{IsGround}
+use Rattle.proxy_rows.specs.steps.LabelledGraph.{IsGround}
 use Rattle.proxy_rows.specs.Sides.{IsMember, IsOfBlock, goes_on, router_of}
 use Rattle.proxy_rows.proofs.Attaching.{blocks_of, node_there, words}
 
@@ -41,7 +41,7 @@ link_there g e u v onward = go (slice_get g.links e) refl onward
     go (Some link) is onward' = slice_get_within g.links e link is
 
 module _ (g : Topology) (c : Certificate) (at : Attachment) (ground : IsGround g c at) where
-  abbrev pub w : Words
+  abbrev pub w : LabelledGraph
   w = words g c ground.accepted
 
   pub b : Blocks w

@@ -9,14 +9,14 @@ use Rattle.mrt_graph.specs.declared.cert.Color.TheVariants.{Blue, Red}
 use Rattle.mrt_graph.specs.declared.cert.Row.{Row}
 use Rattle.mrt_graph.specs.declared.link.End.{End}
 use Rattle.mrt_graph.specs.Certificate.{Certificate}
-use Rattle.mrt_graph.specs.CertWords.{order_of}
+use Rattle.mrt_graph.specs.CertFields.{order_of}
 use Rattle.mrt_graph.specs.FirstEnd.{IsFirstEnd}
 use Rattle.mrt_graph.specs.Foldable.{in_chain}
 use Rattle.mrt_graph.specs.GraphInvariant.{IsTopology}
 use Rattle.mrt_graph.specs.Related.{are_unrelated}
 use Rattle.mrt_graph.specs.Rows.{link_of_color}
 use Rattle.mrt_graph.specs.Topology.{Topology}
-use Rattle.mrt_graph.proofs.Blocks.{Words, Common, Peers, ToHead, FromHead, Related, InOne, Under, Over}
+use Rattle.mrt_graph.proofs.Blocks.{LabelledGraph, Common, Peers, ToHead, FromHead, Related, InOne, Under, Over}
 use Rattle.mrt_graph.proofs.TestFacts.{common_block, less_numbers, unrelated_apart}
 use Rattle.proxy_rows.specs.declared.attachment.Attachment.{Attachment}
 use Rattle.proxy_rows.specs.declared.proxy_row.Out.{Out}
@@ -25,7 +25,7 @@ use Rattle.proxy_rows.specs.declared.proxy_row.ProxyRow.{ProxyRow}
 use Rattle.proxy_rows.specs.declared.side.Side.TheVariants.{Low, High}
 use Rattle.mrt_graph.specs.AcceptedFor.{IsAcceptedFor}
 use Rattle.proxy_rows.specs.Attachment.{IsAttachment}
-use Rattle.proxy_rows.specs.steps.Words.{IsGround}
+use Rattle.proxy_rows.specs.steps.LabelledGraph.{IsGround}
 use Rattle.proxy_rows.specs.declared.standing.Standing.{Standing}
 use Rattle.proxy_rows.specs.declared.standing.Standing.TheVariants as places
 use Rattle.proxy_rows.specs.ProxyRows.{AreProxyRows, AreRowsOf, IsBlue, IsEntry, First, None as none_of_it, IsFirstOut, Here, Over, IsLinkFor, IsLinkIn, IsOnward, IsPlainToLow, IsProxyRow, IsRed}
@@ -145,12 +145,12 @@ one_answer g c a b xs ys kept accepted first second =
     (subst (λ (at : Attachment). AreRowsOf g c at xs) same first.rows) second.rows
 
 -- two routers with an attachment are related
-related_too : (w : Words) (u v k : ℕ) → Common w u v k → Related w u v
+related_too : (w : LabelledGraph) (u v k : ℕ) → Common w u v k → Related w u v
 related_too w u v k (Peers same is) = InOne same
 related_too w u v k (ToHead head is) = Under head
 related_too w u v k (FromHead head is) = Over head
 
-related_turned : (w : Words) (u v : ℕ) → Related w u v → Related w v u
+related_turned : (w : LabelledGraph) (u v : ℕ) → Related w u v → Related w v u
 related_turned w u v (InOne same) = InOne (sym same)
 related_turned w u v (Under head) = Over head
 related_turned w u v (Over head) = Under head

@@ -7,7 +7,7 @@ use Rattle.mrt_graph.specs.declared.cert.Color.{Color}
 use Rattle.mrt_graph.specs.declared.cert.Color.TheVariants.{Blue, Red}
 use Rattle.mrt_graph.specs.declared.link.End.{End}
 use Rattle.mrt_graph.specs.Certificate.{Certificate}
-use Rattle.mrt_graph.specs.CertWords.{block_of, has_role, link_block}
+use Rattle.mrt_graph.specs.CertFields.{block_of, has_role, link_block}
 use Rattle.mrt_graph.specs.FirstEnd.{IsFirstEnd}
 use Rattle.mrt_graph.specs.GraphInvariant.{IsTopology}
 use Rattle.mrt_graph.specs.Related.{are_unrelated}
@@ -29,7 +29,7 @@ use Rattle.proxy_rows.specs.declared.side.Side.TheVariants.{Low, High}
 use Rattle.mrt_graph.specs.AcceptedFor.{IsAcceptedFor}
 use Rattle.proxy_rows.specs.Attachment.{IsAttachment}
 use Rattle.proxy_rows.specs.steps.Steps.{HasNoEnd, NoneBefore}
-use Rattle.proxy_rows.specs.steps.Words.{IsGround}
+use Rattle.proxy_rows.specs.steps.LabelledGraph.{IsGround}
 use Rattle.proxy_rows.specs.declared.standing.Standing.{Standing}
 use Rattle.proxy_rows.specs.declared.standing.Standing.TheVariants as places
 use Rattle.proxy_rows.specs.ProxyRows.{AreProxyRows, AreRowsOf, IsBlue, IsFirstOut, IsHeadBlue, IsLinkFor, IsOnward, IsPlainToLow, IsProxyRow, IsRed, IsSideOut, Here, Over}

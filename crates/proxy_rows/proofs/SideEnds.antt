@@ -1,7 +1,7 @@
 -- The ends that proxy rows ask for are there.
 use Rattle.std.proofs.Common.{◌≡◌, ◌≢◌, ◌<◌, ℕ, true, false, length, sym, ap, subst, arith}
 use Rattle.mrt_graph.specs.Certificate.{Certificate}
-use Rattle.mrt_graph.specs.CertWords.{has_role}
+use Rattle.mrt_graph.specs.CertFields.{has_role}
 use Rattle.mrt_graph.specs.GraphInvariant.{IsTopology}
 use Rattle.mrt_graph.specs.Roles.{is_plain}
 use Rattle.mrt_graph.specs.Topology.{Topology}
@@ -10,7 +10,7 @@ use Rattle.proxy_rows.specs.declared.attachment.Attachment.{Attachment}
 use Rattle.proxy_rows.specs.declared.side.Side.{Side}
 use Rattle.proxy_rows.specs.declared.side.Side.TheVariants.{Low}
 use Rattle.proxy_rows.specs.steps.Steps.{HasNoEnd, IsNotPlain}
-use Rattle.proxy_rows.specs.steps.Words.{IsGround}
+use Rattle.proxy_rows.specs.steps.LabelledGraph.{IsGround}
 use Rattle.proxy_rows.specs.ProxyRows.{IsOnward, IsPlainToLow}
 use Rattle.proxy_rows.specs.Sides.{IsIn, Router, Onward, IsOfBlock, goes_on, router_of}
 use Rattle.proxy_rows.proofs.BlockRows.{to_high, to_low}

@@ -10,7 +10,7 @@ use Rattle.proxy_rows.specs.declared.attachment.Attachment.{Attachment}
 use Rattle.proxy_rows.specs.declared.side.Side.TheVariants.{Low, High}
 use Rattle.proxy_rows.specs.declared.standing.Standing.{Standing}
 use Rattle.proxy_rows.specs.declared.standing.Standing.TheVariants as places
-use Rattle.proxy_rows.specs.steps.Words.{IsGround}
+use Rattle.proxy_rows.specs.steps.LabelledGraph.{IsGround}
 use Rattle.proxy_rows.specs.ProxyRows.{BelongsTo}
 use Rattle.proxy_rows.specs.Sides.{IsIn, IsMember}
 use Rattle.proxy_rows.specs.Standing.{IsStanding, standing_by}

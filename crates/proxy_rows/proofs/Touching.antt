@@ -21,7 +21,7 @@ use Rattle.proxy_rows.specs.declared.proxy_row.Out.{Out}
 use Rattle.proxy_rows.specs.declared.proxy_row.Out.TheVariants as outs
 use Rattle.proxy_rows.specs.declared.proxy_row.ProxyRow.{ProxyRow}
 use Rattle.proxy_rows.specs.declared.side.Side.TheVariants.{Low, High}
-use Rattle.proxy_rows.specs.steps.Words.{IsGround}
+use Rattle.proxy_rows.specs.steps.LabelledGraph.{IsGround}
 use Rattle.proxy_rows.specs.declared.standing.Standing.{Standing}
 use Rattle.proxy_rows.specs.declared.standing.Standing.TheVariants as places
 use Rattle.proxy_rows.specs.ProxyRows.{AreProxyRows, IsBlue, IsFirstOut, IsHeadRed, IsLinkFor, IsOnward, IsPlainToLow, IsRed, Here, Over}

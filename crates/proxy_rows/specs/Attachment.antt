@@ -2,7 +2,7 @@
 use Rattle.std.specs.Prelude.{◌≡◌, ◌⊎◌, ℕ, true, Some}
 use Rattle.mrt_graph.specs.BothThere.{is_less}
 use Rattle.mrt_graph.specs.Certificate.{Certificate}
-use Rattle.mrt_graph.specs.CertWords.{block_of, head_of, order_of}
+use Rattle.mrt_graph.specs.CertFields.{block_of, head_of, order_of}
 use Rattle.mrt_graph.specs.Related.{is_common_block}
 use Rattle.proxy_rows.specs.declared.attachment.Attachment.{Attachment}
 

@@ -5,7 +5,7 @@ use Rattle.mrt_graph.specs.declared.cert.Color.TheVariants.{Blue, Red}
 use Rattle.mrt_graph.specs.declared.cert.Row.{Row}
 use Rattle.mrt_graph.specs.declared.link.End.{End}
 use Rattle.mrt_graph.specs.Certificate.{Certificate, row_of}
-use Rattle.mrt_graph.specs.CertWords.{has_role, links_of}
+use Rattle.mrt_graph.specs.CertFields.{has_role, links_of}
 use Rattle.mrt_graph.specs.FirstEnd.{IsFirstEnd}
 use Rattle.mrt_graph.specs.Foldable.{in_chain}
 use Rattle.mrt_graph.specs.Roles.{is_closing, is_plain}

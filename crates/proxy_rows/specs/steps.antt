@@ -1,3 +1,3 @@
+pub mod LabelledGraph
 pub mod Steps
 pub mod Touches
-pub mod Words

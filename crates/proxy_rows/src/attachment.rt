@@ -4,7 +4,7 @@ ghost use Rattle.std.specs.Prelude.{◌≡◌, ◌≢◌, ◌<◌, ◌≤◌, �
 ghost use Rattle.mrt_graph.specs.{AcceptedFor.IsAcceptedFor, Certificate.Certificate, Related.are_unrelated, Topology.Topology};
 ghost use Rattle.proxy_rows.specs.Attachment.{IsAttachment};
 
-use crate::words::node_at;
+use crate::labelled_graph::node_at;
 use mrt_graph::{CertNode, NodeNo, are_unrelated};
 
 /// The router with the lower order and the other one, their common block and its head.

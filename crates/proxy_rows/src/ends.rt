@@ -2,14 +2,18 @@
 
 ghost use Rattle.std.specs.Prelude.{◌≡◌, ◌==◌, ◌<◌, ◌↔◌, ℕ, IfNone, IfSome, IsTrue, List, find, length};
 ghost use Rattle.std.specs.Option.{option_map};
-ghost use Rattle.mrt_graph.specs.{declared.cert.Row.Row, CertWords.has_role, FirstEnd.IsFirstEnd, Roles.is_plain, Search.IsMarked};
+ghost use Rattle.mrt_graph.specs.declared.cert.Row.{Row};
+ghost use Rattle.mrt_graph.specs.CertFields.{has_role};
+ghost use Rattle.mrt_graph.specs.FirstEnd.{IsFirstEnd};
+ghost use Rattle.mrt_graph.specs.Roles.{is_plain};
+ghost use Rattle.mrt_graph.specs.Search.{IsMarked};
 ghost use Rattle.proxy_rows.specs.{declared.side.Side.TheVariants.Low, ProxyRows.IsOnward, ProxyRows.IsPlainToLow, Sides.IsOfBlock};
 ghost use Rattle.proxy_rows.specs.steps.Steps.{HasNoEnd, IsNotPlain, IsWanted, NoneBefore, side_of};
-ghost use Rattle.proxy_rows.specs.steps.Words.{AreAccepted, AreMarks, with_rows, without_rows};
+ghost use Rattle.proxy_rows.specs.steps.LabelledGraph.{AreAccepted, AreMarks, with_rows, without_rows};
 
 use crate::attachment::Attachment;
+use crate::labelled_graph::{LabelledGraph, link_at};
 use crate::side::{Side, goes_on};
-use crate::words::{Words, link_at};
 use mrt_graph::{End, LinkNo, NodeNo, Role};
 
 /// What is asked of an end of a node.
@@ -25,7 +29,7 @@ pub enum Wanted {
 
 /// The first end of `v` that has what is asked for, by the marks of the side that is asked for.
 pub fn first_end(
-    words: &Words,
+    words: &LabelledGraph,
     at: &Attachment,
     wanted: Wanted,
     marks: &[bool],
@@ -52,7 +56,7 @@ pub fn first_end(
 
 /// Whether an end of `v` has what is asked for.
 fn is_wanted(
-    words: &Words,
+    words: &LabelledGraph,
     at: &Attachment,
     wanted: Wanted,
     marks: &[bool],
@@ -75,7 +79,7 @@ fn is_wanted(
 }
 
 /// Whether an end is over a plain link of the block to a node of Low.
-fn is_plain_to_low(words: &Words, at: &Attachment, low: &[bool], end: &End) -> bool
+fn is_plain_to_low(words: &LabelledGraph, at: &Attachment, low: &[bool], end: &End) -> bool
     requires link { end.now.link < length words.now.links.now }
     requires to { end.now.to < length low.now }
     requires marked { AreMarks words.now at.now Low low.now }
@@ -86,7 +90,7 @@ fn is_plain_to_low(words: &Words, at: &Attachment, low: &[bool], end: &End) -> b
 }
 
 /// Whether an end is over a link of the block that is not plain.
-fn is_not_plain(words: &Words, at: &Attachment, end: &End) -> bool
+fn is_not_plain(words: &LabelledGraph, at: &Attachment, end: &End) -> bool
     requires link { end.now.link < length words.now.links.now }
     ensures { (rest : List Row) → IsTrue result ↔ IsNotPlain (with_rows words.now rest) at.now end.now }
 {
@@ -95,7 +99,7 @@ fn is_not_plain(words: &Words, at: &Attachment, end: &End) -> bool
 
 /// Whether an end of `s` is over a link of the block to a node of the side, to which one goes on.
 fn is_onward(
-    words: &Words,
+    words: &LabelledGraph,
     at: &Attachment,
     side: Side,
     marks: &[bool],
@@ -115,7 +119,7 @@ fn is_onward(
 }
 
 /// Whether a link is of the block.
-fn is_of_block(words: &Words, at: &Attachment, e: LinkNo) -> bool
+fn is_of_block(words: &LabelledGraph, at: &Attachment, e: LinkNo) -> bool
     requires within { e < length words.now.links.now }
     ensures { IsTrue result ↔ IsOfBlock (without_rows words.now) at.now e }
 {
@@ -123,7 +127,7 @@ fn is_of_block(words: &Words, at: &Attachment, e: LinkNo) -> bool
 }
 
 /// Whether a link is plain.
-fn is_plain(words: &Words, e: LinkNo) -> bool
+fn is_plain(words: &LabelledGraph, e: LinkNo) -> bool
     requires within { e < length words.now.links.now }
     ensures { result ≡ has_role is_plain (without_rows words.now) e }
 {

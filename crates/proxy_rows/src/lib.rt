@@ -4,6 +4,7 @@
 
 mod attachment;
 mod ends;
+mod labelled_graph;
 mod marking;
 mod proxy_error;
 mod proxy_law;
@@ -13,7 +14,6 @@ mod side;
 mod standing;
 mod text;
 mod text_law;
-mod words;
 
 pub use attachment::{Attachment, attach};
 pub use proxy_error::ProxyError;

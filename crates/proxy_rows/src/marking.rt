@@ -4,11 +4,11 @@ ghost use Rattle.std.specs.Prelude.{◌≡◌, ◌<◌, ◌↔◌, ℕ, IfOk, Is
 ghost use Rattle.mrt_graph.specs.Search.{Enters, IsMarked};
 ghost use Rattle.proxy_rows.specs.Sides.{IsMember};
 ghost use Rattle.proxy_rows.specs.steps.Steps.{AreEndsWithin, LeadsTo, LeadsToMember, OneLeadsTo};
-ghost use Rattle.proxy_rows.specs.steps.Words.{AreAccepted, AreMarks, without_rows};
+ghost use Rattle.proxy_rows.specs.steps.LabelledGraph.{AreAccepted, AreMarks, without_rows};
 
 use crate::attachment::Attachment;
+use crate::labelled_graph::{LabelledGraph, link_at, node_at};
 use crate::side::{Side, goes_on, router_of};
-use crate::words::{Words, link_at, node_at};
 use mrt_graph::{End, NoMemory, NodeNo, NodeSearch};
 use std::alloc::Global;
 
@@ -17,7 +17,7 @@ use std::alloc::Global;
 /// A search from the router of the side, so it takes time in proportion to nodes and links.
 pub fn side_marks(
     alloc: Global,
-    words: &Words,
+    words: &LabelledGraph,
     at: &Attachment,
     side: Side,
 ) -> Result<Vec<bool>, NoMemory>
@@ -41,7 +41,7 @@ pub fn side_marks(
 
 /// Enters all members to which the ends of `v` lead, from which one goes on to `v`.
 fn visit(
-    words: &Words,
+    words: &LabelledGraph,
     at: &Attachment,
     side: Side,
     v: NodeNo,
@@ -59,7 +59,14 @@ fn visit(
 }
 
 /// Enters the member to which an end of `v` leads, if one goes on from it to `v`.
-fn pass(words: &Words, at: &Attachment, side: Side, v: NodeNo, end: &End, search: &mut NodeSearch)
+fn pass(
+    words: &LabelledGraph,
+    at: &Attachment,
+    side: Side,
+    v: NodeNo,
+    end: &End,
+    search: &mut NodeSearch,
+)
     requires from { v < length words.now.nodes.now }
     requires marks { length search.old.marks ≡ length words.now.nodes.now }
     requires link { end.now.link < length words.now.links.now }
@@ -72,7 +79,7 @@ fn pass(words: &Words, at: &Attachment, side: Side, v: NodeNo, end: &End, search
 }
 
 /// Whether an end of `v` is over a link of the block to a member from which one goes on to `v`.
-fn leads_to_member(words: &Words, at: &Attachment, side: Side, v: NodeNo, end: &End) -> bool
+fn leads_to_member(words: &LabelledGraph, at: &Attachment, side: Side, v: NodeNo, end: &End) -> bool
     requires from { v < length words.now.nodes.now }
     requires link { end.now.link < length words.now.links.now }
     requires to { end.now.to < length words.now.nodes.now }
@@ -83,7 +90,7 @@ fn leads_to_member(words: &Words, at: &Attachment, side: Side, v: NodeNo, end: &
 }
 
 /// Whether a node is a member of the block.
-pub fn is_member(words: &Words, at: &Attachment, s: NodeNo) -> bool
+pub fn is_member(words: &LabelledGraph, at: &Attachment, s: NodeNo) -> bool
     requires within { s < length words.now.nodes.now }
     ensures { IsTrue result ↔ IsMember (without_rows words.now) at.now s }
 {

@@ -2,19 +2,22 @@
 
 ghost use Rattle.std.specs.Prelude.{◌≡◌, ◌≢◌, ◌<◌, ◌+◌, ◌↔◌, ℕ, true, Err, IfOk, List, length};
 ghost use Rattle.mrt_graph.specs.{declared.cert.Row.Row, AcceptedFor.IsAcceptedFor, GraphInvariant.IsTopology, Related.are_unrelated, Rows.Rows, Search.IsMarked, Sound.SoundFor};
-ghost use Rattle.proxy_rows.specs.{declared.attachment.Attachment.Attachment, declared.side.Side.TheVariants.Low, declared.side.Side.TheVariants.High, Attachment.IsAttachment, Words.ReadFrom};
+ghost use Rattle.proxy_rows.specs.declared.attachment.Attachment.{Attachment};
+ghost use Rattle.proxy_rows.specs.declared.side.Side.TheVariants.{Low, High};
+ghost use Rattle.proxy_rows.specs.Attachment.{IsAttachment};
+ghost use Rattle.proxy_rows.specs.LabelledGraph.{ReadFrom};
 ghost use Rattle.proxy_rows.specs.GraphWith.{AreRowsWith, links_with, new_node};
 ghost use Rattle.proxy_rows.specs.ProxyRows.{AreProxyRows, AreRowsOf, IsHeadBlue, IsHeadRed, IsProxyRow, IsSideOut};
-ghost use Rattle.proxy_rows.specs.steps.Words.{AreAccepted, AreMarks, AreReadWith, IsOn, with_rows};
+ghost use Rattle.proxy_rows.specs.steps.LabelledGraph.{AreAccepted, AreMarks, AreReadWith, IsOn, with_rows};
 
 use crate::attachment::{Attachment, attach};
 use crate::ends::{Wanted, first_end};
+use crate::labelled_graph::LabelledGraph;
 use crate::marking::side_marks;
 use crate::proxy_error::ProxyError;
 use crate::proxy_row::{Out, ProxyRow};
 use crate::side::{Side, router_of};
 use crate::standing::{Standing, stands};
-use crate::words::Words;
 use mrt_graph::{Cert, CertLink, CertNode, Graph, NoMemory, NodeNo, RowsOf};
 use std::alloc::Global;
 
@@ -73,7 +76,7 @@ pub fn proxy_rows_at<R: RowsOf>(
     ensures rows { (read : ReadFrom g.now nodes.now links.now at.now (R.rows rows.now))
         → IfOk result (λ rows. AreProxyRows g.now read.cert read.a read.b rows.items) }
 {
-    let words = Words {
+    let words = LabelledGraph {
         graph: g,
         nodes,
         links,
@@ -84,7 +87,7 @@ pub fn proxy_rows_at<R: RowsOf>(
 /// The rows, by the words and the attachment.
 fn rows_by<R: RowsOf>(
     alloc: Global,
-    words: &Words,
+    words: &LabelledGraph,
     at: &Attachment,
     rows: &R,
     count: u16,
@@ -108,7 +111,7 @@ fn rows_by<R: RowsOf>(
 
 /// The row of a node.
 fn row<R: RowsOf>(
-    words: &Words,
+    words: &LabelledGraph,
     at: &Attachment,
     rows: &R,
     low: &[bool],
@@ -152,7 +155,7 @@ fn row<R: RowsOf>(
 }
 
 /// Blue at the head.
-fn head_blue(words: &Words, at: &Attachment, low: &[bool]) -> Out
+fn head_blue(words: &LabelledGraph, at: &Attachment, low: &[bool]) -> Out
     requires ground { AreAccepted words.now at.now }
     requires low_count { length low.now ≡ length words.now.graph.now.ids }
     requires low { AreMarks words.now at.now Low low.now }
@@ -169,7 +172,7 @@ fn head_blue(words: &Words, at: &Attachment, low: &[bool]) -> Out
 }
 
 /// Red at the head: the closing link of the block, or its one link.
-fn head_red(words: &Words, at: &Attachment, low: &[bool]) -> Out
+fn head_red(words: &LabelledGraph, at: &Attachment, low: &[bool]) -> Out
     requires ground { AreAccepted words.now at.now }
     requires low_count { length low.now ≡ length words.now.graph.now.ids }
     requires low { AreMarks words.now at.now Low low.now }
@@ -182,7 +185,7 @@ fn head_red(words: &Words, at: &Attachment, low: &[bool]) -> Out
 }
 
 /// Out of a node of a side.
-fn side_out(words: &Words, at: &Attachment, side: Side, marks: &[bool], s: NodeNo) -> Out
+fn side_out(words: &LabelledGraph, at: &Attachment, side: Side, marks: &[bool], s: NodeNo) -> Out
     requires ground { AreAccepted words.now at.now }
     requires count { length marks.now ≡ length words.now.graph.now.ids }
     requires marked { AreMarks words.now at.now side marks.now }

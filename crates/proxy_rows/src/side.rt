@@ -2,10 +2,10 @@
 
 ghost use Rattle.std.specs.Prelude.{◌≡◌, ◌<◌, length};
 ghost use Rattle.proxy_rows.specs.Sides.{goes_on, router_of};
-ghost use Rattle.proxy_rows.specs.steps.Words.{without_rows};
+ghost use Rattle.proxy_rows.specs.steps.LabelledGraph.{without_rows};
 
 use crate::attachment::Attachment;
-use crate::words::{Words, node_at};
+use crate::labelled_graph::{LabelledGraph, node_at};
 use mrt_graph::NodeNo;
 
 /// The two sides of the block of two routers: Low ascends to the one with the lower order, High descends to the other one.
@@ -26,7 +26,7 @@ pub fn router_of(at: &Attachment, side: Side) -> NodeNo
 }
 
 /// Whether one goes on from `s` to `v`, on a side.
-pub fn goes_on(words: &Words, side: Side, s: NodeNo, v: NodeNo) -> bool
+pub fn goes_on(words: &LabelledGraph, side: Side, s: NodeNo, v: NodeNo) -> bool
     requires from { s < length words.now.nodes.now }
     requires to { v < length words.now.nodes.now }
     ensures { result ≡ goes_on (without_rows words.now) side s v }

@@ -4,12 +4,12 @@ ghost use Rattle.std.specs.Prelude.{◌≡◌, ◌<◌, ◌↔◌, ℕ, List, le
 ghost use Rattle.mrt_graph.specs.{declared.cert.Row.Row, Search.IsMarked};
 ghost use Rattle.proxy_rows.specs.{declared.side.Side.TheVariants.Low, declared.side.Side.TheVariants.High};
 ghost use Rattle.proxy_rows.specs.Standing.{IsStanding, standing_by};
-ghost use Rattle.proxy_rows.specs.steps.Words.{AreMarks, with_rows};
+ghost use Rattle.proxy_rows.specs.steps.LabelledGraph.{AreMarks, with_rows};
 
 use crate::attachment::Attachment;
 use crate::ends::is_marked;
+use crate::labelled_graph::LabelledGraph;
 use crate::marking::is_member;
-use crate::words::Words;
 use mrt_graph::NodeNo;
 
 /// Where a node stands to the block of two routers: it is its head, or a member on Low or on High, or another one, or none
@@ -24,7 +24,13 @@ pub enum Standing {
 }
 
 /// Where a node stands, by the marks of both sides.
-pub fn stands(words: &Words, at: &Attachment, low: &[bool], high: &[bool], s: NodeNo) -> Standing
+pub fn stands(
+    words: &LabelledGraph,
+    at: &Attachment,
+    low: &[bool],
+    high: &[bool],
+    s: NodeNo,
+) -> Standing
     requires low_count { s < length low.now }
     requires low { AreMarks words.now at.now Low low.now }
     requires high_count { s < length high.now }

@@ -1,7 +1,11 @@
 //! The text on a prefix that is attached to two routers.
 
 ghost use Rattle.std.specs.Prelude.{◌≡◌, ◌≢◌, ◌<◌, ◌↔◌, true, Err, IfOk, Some, length, slice_get};
-ghost use Rattle.mrt_graph.specs.{Certificate.Certificate, CertWords.order_of, GraphInvariant.IsTopology, Related.are_unrelated, AcceptedFor.IsAcceptedFor};
+ghost use Rattle.mrt_graph.specs.Certificate.{Certificate};
+ghost use Rattle.mrt_graph.specs.CertFields.{order_of};
+ghost use Rattle.mrt_graph.specs.GraphInvariant.{IsTopology};
+ghost use Rattle.mrt_graph.specs.Related.{are_unrelated};
+ghost use Rattle.mrt_graph.specs.AcceptedFor.{IsAcceptedFor};
 ghost use Rattle.text_parts.specs.steps.Adds.{Adds};
 ghost use Rattle.text_parts.specs.Parts.{AreParts};
 ghost use Rattle.proxy_rows.specs.ProxyRows.{AreProxyRows};

@@ -8,7 +8,7 @@ use Rattle.std.proofs.lemmas.Option.{slice_get-get_or, slice_get_within}
 use Rattle.mrt_graph.specs.TextLines.{is_passed_over}
 use Rattle.text_parts.specs.declared.line_error.LineError.{LineError}
 use Rattle.text_parts.specs.declared.line_error.LineError.TheVariants as errors
-use Rattle.text_parts.specs.LinesTold.{IsBeginning, IsFirstWrong, NoFirst, Wrong, told}
+use Rattle.text_parts.specs.LinesRead.{IsBeginning, IsFirstWrong, NoFirst, Wrong, lines_read}
 use Rattle.text_parts.specs.TextRead.{Reads}
 use Rattle.text_parts.specs.TextRule.{IsFirstFault, IsText, OfEnd, OfLine, TextRule, said_by, with_line}
 use Rattle.text_parts.proofs.LinesTaken.{either, fault_stays, never_both, one_fault, one_text, take_next}
@@ -25,27 +25,27 @@ told_stays rule fault (line ∷ lines) = told_stays rule fault lines
 
 -- lines say what those of them say that are not passed over
 by_told : {S W F : Type 0} (rule : TextRule S W F) (here : Result S F) (lines : List (List ℕ))
-    → fold (with_line rule) here lines ≡ fold (with_told rule) here (told lines)
+    → fold (with_line rule) here lines ≡ fold (with_told rule) here (lines_read lines)
 by_told rule here [] = refl
-by_told rule (Err fault) (line ∷ lines) = fault_stays rule fault lines ∙ sym (told_stays rule fault (told (line ∷ lines)))
+by_told rule (Err fault) (line ∷ lines) = fault_stays rule fault lines ∙ sym (told_stays rule fault (lines_read (line ∷ lines)))
 by_told rule (Ok said) (line ∷ lines) = elim (cases_Bool (is_passed_over line)) [
   | inl passed ↦ rw passed (by_told rule (Ok said) lines)
   | inr other ↦ rw other (by_told rule (rule.after said line) lines)
 ]
 
 pub said_by_told : {S W F : Type 0} (rule : TextRule S W F) (lines : List (List ℕ))
-    → said_by rule lines ≡ fold (with_told rule) (Ok rule.start) (told lines)
+    → said_by rule lines ≡ fold (with_told rule) (Ok rule.start) (lines_read lines)
 said_by_told rule lines = by_told rule (Ok rule.start) lines
 
 -- none is told exactly where all are passed over
-pub none_told : (lines : List (List ℕ)) → list_all is_passed_over lines ≡ true → told lines ≡ []
+pub none_told : (lines : List (List ℕ)) → list_all is_passed_over lines ≡ true → lines_read lines ≡ []
 none_told [] all = refl
 none_told (first ∷ lines) all = elim (cases_Bool (is_passed_over first)) [
   | inl passed ↦ rw passed (none_told lines (rw passed at all))
   | inr other ↦ absurd (false≢true (rw other at all))
 ]
 
-pub all_passed : (lines : List (List ℕ)) → told lines ≡ [] → list_all is_passed_over lines ≡ true
+pub all_passed : (lines : List (List ℕ)) → lines_read lines ≡ [] → list_all is_passed_over lines ≡ true
 all_passed [] none = refl
 all_passed (first ∷ lines) none = elim (cases_Bool (is_passed_over first)) [
   | inl passed ↦ rw passed (all_passed lines (rw passed at none))
@@ -189,7 +189,7 @@ module _ {S W F : Type 0} {rule : TextRule S W F} {Is : List (List ℕ) → W �
     fault_is_told (Err (errors.Fault place other)) reads number fault first =
         let one = one_fault rule lines place number other fault reads ((means.faults lines number fault).1 first) in
         let same : errors.Fault place other ≡ errors.Fault number fault = cc in
-        inl (ap (λ (told : LineError F). Err (error told)) same)
+        inl (ap (λ (lines_read : LineError F). Err (error lines_read)) same)
     fault_is_told (Err errors.NoMemory) reads number fault first = inr refl
 
     pub fault_is_first : ((one other : LineError F) → error one ≡ error other → one ≡ other)
@@ -197,8 +197,8 @@ module _ {S W F : Type 0} {rule : TextRule S W F} {Is : List (List ℕ) → W �
         → result_map_both (λ (t : W). t) error read ≡ Err (error (errors.Fault number fault)) → IsFault lines number fault
     fault_is_first same (Ok text) reads number fault is = absurd cc
     fault_is_first same (Err one) reads number fault is =
-        let told : one ≡ errors.Fault number fault = same one (errors.Fault number fault) cc in
-        (means.faults lines number fault).0 (subst (λ (e : LineError F). Reads {W = W} rule lines (Err e)) told reads)
+        let lines_read : one ≡ errors.Fault number fault = same one (errors.Fault number fault) cc in
+        (means.faults lines number fault).0 (subst (λ (e : LineError F). Reads {W = W} rule lines (Err e)) lines_read reads)
 
     pub reading_tells : ((one other : LineError F) → error one ≡ error other → one ≡ other) → (read : Result W (LineError F)) → Reads rule lines read
         → (named : Result W E) → named ≡ result_map_both (λ (text : W). text) error read → ReadingTells Is IsFault lines error named

@@ -1,5 +1,5 @@
 pub mod Hops
-pub mod LinesTold
+pub mod LinesRead
 pub mod Parts
 pub mod TextRead
 pub mod TextRule

@@ -36,12 +36,12 @@ pub record FirstRead (test : Rule → ℕ → ℕ → Bool) (n : ℕ) (read : �
   pub earlier : (other : Rule) → rule_number other < fault.rule → (x y : ℕ) → read x y → test other x y ≡ true
 
 -- what is kept of the pairs that are read: their first fault; none where each rule holds
-abbrev pub Kept : (Rule → ℕ → ℕ → Bool) → ℕ → (ℕ → ℕ → Type 0) → Option Fault → Type 0
-Kept test n read kept = MatchOption kept ((rule : Rule) (x y : ℕ) → read x y → test rule x y ≡ true) (FirstRead test n read)
+abbrev pub IsFirstSoFar : (Rule → ℕ → ℕ → Bool) → ℕ → (ℕ → ℕ → Type 0) → Option Fault → Type 0
+IsFirstSoFar test n read kept = MatchOption kept ((rule : Rule) (x y : ℕ) → read x y → test rule x y ≡ true) (FirstRead test n read)
 
 -- the same of a certificate's rows
 abbrev pub KeptRows : Topology → ℕ → Certificate → (ℕ → ℕ → Type 0) → Option Fault → Type 0
-KeptRows g root c read kept = Kept (row_test g root c) (length c.nodes) read kept
+KeptRows g root c read kept = IsFirstSoFar (row_test g root c) (length c.nodes) read kept
 
 -- the rows of the sources below s
 abbrev pub Before : Certificate → ℕ → ℕ → ℕ → Type 0

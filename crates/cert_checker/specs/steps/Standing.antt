@@ -1,7 +1,7 @@
 -- A table of a link for each block, and what links and nodes keep where that is the block's one link or its closing link.
 use Rattle.std.specs.Prelude.{◌≡◌, ◌==◌, ◌&&◌, ◌||◌, ◌≤◌, ℕ, Bool, false, List, Option, Some, None, length, slice_get, if◌then◌else◌}
 use Rattle.std.specs.Option.{option_and_then, option_map_or}
-use Rattle.cert_checker.specs.steps.Told.{tells}
+use Rattle.cert_checker.specs.steps.KeyTable.{has_number}
 use Rattle.mrt_graph.specs.declared.cert.CertLink.{CertLink}
 use Rattle.mrt_graph.specs.declared.cert.CertNode.{CertNode}
 use Rattle.mrt_graph.specs.declared.cert.Role.{Role}
@@ -24,7 +24,7 @@ standing c table k = option_and_then (slice_get c.links) (slice_get table k)
 abbrev pub link_fits : Certificate → List ℕ → ℕ → Bool
 link_fits c table e =
     option_map_or
-    (λ link. tells table (Some link.block) (Some e)
+    (λ link. has_number table (Some link.block) (Some e)
     || option_map_or (λ other. is_plain link.role && is_closing other.role) (standing c table link.block) false)
     (slice_get c.links e) false
 

@@ -14,8 +14,8 @@ use Rattle.cert_format.specs.declared.error.CertFault.{CertFault}
 use Rattle.cert_format.specs.declared.error.CertKind.{CertKind}
 use Rattle.cert_format.specs.declared.error.CertKind.TheVariants.{Heads}
 use Rattle.cert_format.specs.declared.header.Header.{Header}
-use Rattle.cert_format.specs.declared.kept.Kept.{Kept}
-use Rattle.cert_format.specs.declared.kept.Mark.{Mark}
+use Rattle.cert_format.specs.declared.parts_read.PartsRead.{PartsRead}
+use Rattle.cert_format.specs.declared.parts_read.Mark.{Mark}
 use Rattle.cert_format.specs.declared.state.State.{State}
 use Rattle.cert_format.specs.CertText.{cert_text, header_text, link_text, node_text, row_text}
 use Rattle.cert_format.specs.FirstFault.{first_fault}
@@ -34,7 +34,7 @@ pub record Parts : Type 0 where
   pub rows : List Row
   pub kin : Option Kin
 
-abbrev pub parts_of : Kept → Parts
+abbrev pub parts_of : PartsRead → Parts
 parts_of kept =
     record { header = kept.header; nodes = kept.nodes.items; links = kept.links.items; rows = kept.rows.items; kin = kept.relatives }
 

@@ -6,7 +6,7 @@ use Rattle.mrt_graph.specs.declared.cert.CertNode.{CertNode}
 use Rattle.mrt_graph.specs.GraphInvariant.{IsTopology}
 use Rattle.mrt_graph.specs.Topology.{Topology}
 use Rattle.mrt_rows.specs.CertOf.{IsCertOf}
-use Rattle.mrt_rows.specs.Making.{MakeRows}
+use Rattle.mrt_rows.specs.RowMaker.{MakeRows}
 use Rattle.mrt_rows.specs.RowsFound.{RowsFound}
 use Rattle.cert_format.specs.CertText.{header_text}
 use Rattle.cert_format.specs.Limits.{IsCertFile}

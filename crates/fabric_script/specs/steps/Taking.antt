@@ -12,20 +12,20 @@ use Rattle.fabric_script.specs.declared.script_error.ScriptError.TheVariants.{Fa
 use Rattle.fabric_script.specs.ScriptLines.{event_in, start_in}
 
 -- what lines say: the first of them, if there was one, and the events after it
-pub record Said : Type 0 where
+pub record TakenLines : Type 0 where
   pub start : Option Start
   pub events : List ScriptEvent
 
-abbrev pub said : Option Start → List ScriptEvent → Said
-said start events = record { start = start; events = events }
+abbrev pub taken_lines : Option Start → List ScriptEvent → TakenLines
+taken_lines start events = record { start = start; events = events }
 
-abbrev pub nothing_said : Said
-nothing_said = said None []
+abbrev pub no_lines_taken : TakenLines
+no_lines_taken = taken_lines None []
 
 -- what is said after one more line: the first one says the router and the room, and each later one an event
-abbrev pub after_told : Option Start → List ScriptEvent → List ℕ → Option Said
-after_told None events line = option_map (λ start. said (Some start) events) (start_in line)
-after_told (Some start) events line = option_map (λ event. said (Some start) (events ++ event ∷ [])) (event_in line)
+abbrev pub after_line : Option Start → List ScriptEvent → List ℕ → Option TakenLines
+after_line None events line = option_map (λ start. taken_lines (Some start) events) (start_in line)
+after_line (Some start) events line = option_map (λ event. taken_lines (Some start) (events ++ event ∷ [])) (event_in line)
 
 -- the script that ends there; there is none without a first line
 abbrev pub script_of : Option Start → List ScriptEvent → Option Script
@@ -37,10 +37,10 @@ abbrev pub wrong : Unit {0}
 wrong = tt
 
 -- how a script is read
-abbrev pub script_rule : TextRule Said Script (Unit {0})
+abbrev pub script_rule : TextRule TakenLines Script (Unit {0})
 script_rule = record {
-  start = nothing_said;
-  after = λ so_far line. ok_or (after_told so_far.start so_far.events line) wrong;
+  start = no_lines_taken;
+  after = λ so_far line. ok_or (after_line so_far.start so_far.events line) wrong;
   ends = λ so_far. ok_or (script_of so_far.start so_far.events) wrong;
 }
 

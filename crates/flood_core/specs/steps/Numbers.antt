@@ -5,7 +5,7 @@ use Rattle.std.specs.Option.{is_some}
 use Rattle.ospf_lsa.specs.declared.lsa.Body.TheVariants.{Other}
 use Rattle.ospf_lsa.specs.declared.lsa.Lsa.{Lsa}
 use Rattle.lsdb.specs.Entries.{Database, Entry}
-use Rattle.flood_core.specs.declared.held.Held.{Held}
+use Rattle.flood_core.specs.declared.database_copy.DatabaseCopy.{DatabaseCopy}
 use Rattle.flood_core.specs.declared.numbered_update.NumberedUpdate.{NumberedUpdate}
 use Rattle.flood_core.specs.declared.receiver.Receiver.{Receiver}
 use Rattle.flood_core.specs.declared.store.Store.{Store}
@@ -38,14 +38,14 @@ abbrev pub lsas_by : List Lsa → List ℕ → List Lsa
 lsas_by lsas numbers = map (lsa_in lsas) numbers
 
 -- what is held with the place of a differing instance, if none was noted
-abbrev pub noted_in : Held → ℕ → Held
+abbrev pub noted_in : DatabaseCopy → ℕ → DatabaseCopy
 noted_in held at = record held { differing = if is_some held.differing then held.differing else Some at }
 
 -- an entry, whose LSA has its place in this database; a database; a router
-abbrev pub entry_in : List Lsa → Held → Entry
+abbrev pub entry_in : List Lsa → DatabaseCopy → Entry
 entry_in lsas held = record { lsa = arrived held.at (lsa_in lsas held.number); differing = held.differing }
 
-abbrev pub entries_by : List Lsa → List Held → List Entry
+abbrev pub entries_by : List Lsa → List DatabaseCopy → List Entry
 entries_by lsas held = map (entry_in lsas) held
 
 abbrev pub database_in : List Lsa → Store → Database

@@ -13,15 +13,15 @@ use Rattle.flood_script.specs.Deliveries.{deliveries_in}
 use Rattle.flood_script.specs.FloodLines.{line_in, routers_in}
 
 -- what lines say: how many routers there are, if a line said so, and the lines after it
-pub record Said : Type 0 where
+pub record TakenLines : Type 0 where
   pub routers : Option ℕ
   pub lines : List FloodLine
 
-abbrev pub said : Option ℕ → List FloodLine → Said
-said routers lines = record { routers = routers; lines = lines }
+abbrev pub taken_lines : Option ℕ → List FloodLine → TakenLines
+taken_lines routers lines = record { routers = routers; lines = lines }
 
-abbrev pub nothing_said : Said
-nothing_said = said None []
+abbrev pub no_lines_taken : TakenLines
+no_lines_taken = taken_lines None []
 
 -- whether a line may follow these, where there are so many routers: there are at most 65,535 deliveries, and the routers that
 -- are compared are among them
@@ -30,14 +30,14 @@ may_follow count lines (Deliver packet router) = nat_lt (deliveries_in lines) 65
 may_follow count lines (Same one other router) = nat_lt one count && nat_lt other count
 
 -- after one more line that may follow
-abbrev pub after_more : ℕ → List FloodLine → FloodLine → Option Said
+abbrev pub after_more : ℕ → List FloodLine → FloodLine → Option TakenLines
 after_more count lines line =
-    if may_follow count lines line then Some (said (Some count) (lines ++ line ∷ [])) else None
+    if may_follow count lines line then Some (taken_lines (Some count) (lines ++ line ∷ [])) else None
 
 -- what is said after one more line: the first one says how many routers there are, and each later one a line that may follow
-abbrev pub after_told : Option ℕ → List FloodLine → List ℕ → Option Said
-after_told None lines line = option_map (λ count. said (Some count) lines) (routers_in line)
-after_told (Some count) lines line = option_and_then (after_more count lines) (line_in line)
+abbrev pub after_line : Option ℕ → List FloodLine → List ℕ → Option TakenLines
+after_line None lines line = option_map (λ count. taken_lines (Some count) lines) (routers_in line)
+after_line (Some count) lines line = option_and_then (after_more count lines) (line_in line)
 
 -- the script that ends there; there is none without a first line
 abbrev pub script_of : Option ℕ → List FloodLine → Option FloodScript
@@ -49,10 +49,10 @@ abbrev pub wrong : Unit {0}
 wrong = tt
 
 -- how a script is read
-abbrev pub flood_rule : TextRule Said FloodScript (Unit {0})
+abbrev pub flood_rule : TextRule TakenLines FloodScript (Unit {0})
 flood_rule = record {
-  start = nothing_said;
-  after = λ so_far line. ok_or (after_told so_far.routers so_far.lines line) wrong;
+  start = no_lines_taken;
+  after = λ so_far line. ok_or (after_line so_far.routers so_far.lines line) wrong;
   ends = λ so_far. ok_or (script_of so_far.routers so_far.lines) wrong;
 }
 

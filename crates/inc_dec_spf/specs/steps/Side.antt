@@ -48,7 +48,7 @@ pub record IsRowPut (x width : ℕ) (row : ℕ → ℕ) (all all' : List ℕ) : 
   pub elsewhere : (i : ℕ) → (i < x * width) ⊎ (x * width + width ≤ i) → slice_index all' i ≡ slice_index all i
 
 -- over the end at place `place`: Begins says of which cost there are ways that begin with the end at a place
-pub record IsFirstWay (Begins : ℕ → ℕ → Type 0) (ends : List End) (count cost link : ℕ) : Type 0 where
+pub record IsFirstOverEnds (Begins : ℕ → ℕ → Type 0) (ends : List End) (count cost link : ℕ) : Type 0 where
   pub place : ℕ
   pub before : place < count
   pub end : End
@@ -59,8 +59,8 @@ pub record IsFirstWay (Begins : ℕ → ℕ → Type 0) (ends : List End) (count
 
 -- the least cost of the ways that begin with one of the first ends, and the link of the first that begins one of it; far
 -- and no link where no way does
-pub record IsLeastWay (Begins : ℕ → ℕ → Type 0) (ends : List End) (count cost link : ℕ) : Type 0 where
+pub record IsLeastOverEnds (Begins : ℕ → ℕ → Type 0) (ends : List End) (count cost link : ℕ) : Type 0 where
   pub most : cost ≤ far
-  pub reached : cost < far → IsFirstWay Begins ends count cost link
+  pub reached : cost < far → IsFirstOverEnds Begins ends count cost link
   pub unreached : far ≤ cost → link ≡ no_link
   pub least : (place other : ℕ) → place < count → Begins place other → cost ≤ other

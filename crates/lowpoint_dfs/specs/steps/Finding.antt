@@ -3,7 +3,7 @@ use Rattle.std.specs.Prelude.{◌≡◌, ◌<◌, ◌≤◌, ◌==◌, ◌+◌, 
 use Rattle.mrt_graph.specs.declared.link.End.{End}
 use Rattle.mrt_graph.specs.declared.tree.TreeNode.{TreeNode}
 use Rattle.mrt_graph.specs.Topology.{Topology}
-use Rattle.mrt_graph.specs.TreeWords.{search_number}
+use Rattle.mrt_graph.specs.TreeFields.{search_number}
 use Rattle.lowpoint_dfs.specs.SearchOrder.{IsDone, IsSearchOrder}
 
 -- a node with its number and its parent link; its lowpoint is its own number at first

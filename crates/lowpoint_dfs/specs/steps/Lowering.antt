@@ -3,7 +3,7 @@ use Rattle.std.specs.Prelude.{◌≡◌, ◌≢◌, ◌<◌, ◌≤◌, ◌+◌,
 use Rattle.mrt_graph.specs.declared.link.End.{End}
 use Rattle.mrt_graph.specs.declared.tree.TreeNode.{TreeNode}
 use Rattle.mrt_graph.specs.Topology.{Topology}
-use Rattle.mrt_graph.specs.TreeWords.{search_number, parent_link, low_of, low_link}
+use Rattle.mrt_graph.specs.TreeFields.{search_number, parent_link, low_of, low_link}
 use Rattle.lowpoint_dfs.specs.declared.lowpoints.Lowest.{Lowest}
 use Rattle.lowpoint_dfs.specs.Lowpoint.{offer}
 use Rattle.lowpoint_dfs.specs.Subtree.{parent_of}

@@ -6,7 +6,7 @@ use Rattle.mrt_graph.specs.declared.cert.CertNode.{CertNode}
 use Rattle.mrt_graph.specs.declared.cert.Row.{Row}
 use Rattle.mrt_graph.specs.declared.cert.Tag.TheVariants.{Carried}
 use Rattle.mrt_graph.specs.Certificate.{Certificate, IsCertificate, certificate_of}
-use Rattle.mrt_graph.specs.CertWords.{head_of}
+use Rattle.mrt_graph.specs.CertFields.{head_of}
 use Rattle.mrt_graph.specs.Kin.{Kin, kin_of}
 use Rattle.mrt_graph.specs.Related.{are_unrelated}
 use Rattle.mrt_graph.specs.steps.RelatedPairs.{by_pairs}

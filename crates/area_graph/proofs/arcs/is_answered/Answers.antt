@@ -1,6 +1,6 @@
 use Rattle.std.proofs.Common.{◌∙◌, rules}
 use Rattle.std.proofs.lemmas.Bool.{eq-eqb, ne_eqb}
-use Rattle.area_graph.proofs.Ways.{is_arc_at, is_arc_past}
+use Rattle.area_graph.proofs.EntriesInOrder.{is_arc_at, is_arc_past}
 use Rattle.area_graph.proofs.arcs.is_answered.Goals as goal
 
 pub returns-then-back-entry : goal.returns-then-back-entry

@@ -1,7 +1,7 @@
 use Rattle.std.proofs.Common.{◌≡◌, Ok}
 use Rattle.mrt_graph.specs.declared.cert.CertFile.{CertFile}
 use Rattle.mrt_rows.specs.CertOf.{IsCertOf}
-use Rattle.mrt_rows.specs.Making.{MakeRows}
+use Rattle.mrt_rows.specs.RowMaker.{MakeRows}
 use Rattle.cert_format.specs.Putting.{Puts}
 use Rattle.cert_stream.proofs.Nears.{text_before}
 use Rattle.cert_stream.proofs.rows.put_rows.Given as goal

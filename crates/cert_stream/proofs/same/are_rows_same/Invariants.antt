@@ -1,7 +1,7 @@
 use Rattle.std.proofs.Common.{◌≡◌}
 use Rattle.mrt_graph.specs.declared.cert.CertFile.{CertFile}
 use Rattle.mrt_rows.specs.CertOf.{IsCertOf}
-use Rattle.mrt_rows.specs.Making.{MakeRows}
+use Rattle.mrt_rows.specs.RowMaker.{MakeRows}
 use Rattle.cert_stream.specs.steps.Same.{HaveSameRows}
 use Rattle.cert_stream.proofs.same.are_rows_same.Given as goal
 

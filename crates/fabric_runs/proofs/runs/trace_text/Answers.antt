@@ -2,7 +2,7 @@ use Rattle.std.proofs.Common.{subst, sym}
 use Rattle.fabric.specs.Served.{IsServedBy}
 use Rattle.fabric.specs.Viewed.{FabricSeen, parts_of, parts_with}
 use Rattle.fabric_runs.specs.NamedEvents.{spot_of}
-use Rattle.fabric_runs.proofs.TraceTold.{trace_told, unstepped}
+use Rattle.fabric_runs.proofs.TracePrinted.{trace_told, unstepped}
 use Rattle.fabric_runs.proofs.runs.trace_text.Goals as goal
 
 pub tell_steps-requires-clause-unstepped : goal.tell_steps-requires-clause-unstepped

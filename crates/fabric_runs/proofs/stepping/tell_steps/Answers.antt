@@ -3,8 +3,8 @@ use Rattle.std.proofs.lemmas.Bool.{true≢false}
 use Rattle.area_graph.specs.Parts.{AreaParts}
 use Rattle.fabric.specs.declared.event.Event.TheVariants.{Step}
 use Rattle.fabric.specs.Viewed.{FabricTables, parts_of}
-use Rattle.fabric_runs.specs.steps.Told.{IsTold}
-use Rattle.fabric_runs.proofs.StepsTold.{ended_at_last, no_steps, one_more, stepped}
+use Rattle.fabric_runs.specs.steps.Printed.{IsPrinted}
+use Rattle.fabric_runs.proofs.StepsPrinted.{ended_at_last, no_steps, one_more, stepped}
 use Rattle.fabric_runs.proofs.stepping.tell_steps.Goals as goal
 
 pub loop-init : goal.loop-init
@@ -25,7 +25,7 @@ loop-preserved g c = record {
   stepped = one_more (parts_of g.R.RowsOf.rows c.args.fabric.now.tables) c.args.fabric.now.state c.loop.fabric.state c.tell_one.new.fabric.state c.loop.counter
       c.args.text.now.items c.loop.text.items c.tell_one.new.text.items c.loop.invariant.stepped
       (λ ended. true≢false (sym (c.has_ended.ensures.1 ended) ∙ c.if-has_ended.false))
-      (subst (λ (t : FabricTables g.row.R.Denot). IsTold (parts_of g.R.RowsOf.rows t) c.loop.fabric.state (Step 0 ∷ []) c.tell_one.new.fabric.state c.loop.text.items
+      (subst (λ (t : FabricTables g.row.R.Denot). IsPrinted (parts_of g.R.RowsOf.rows t) c.loop.fabric.state (Step 0 ∷ []) c.tell_one.new.fabric.state c.loop.text.items
       c.tell_one.new.text.items) c.loop.invariant.tables c.in_ok-tell_one.ensures.told);
 }
 

@@ -1,6 +1,6 @@
 use Rattle.std.proofs.Common.{◌≡◌}
 use Rattle.fabric.specs.Viewed.{parts_of}
-use Rattle.fabric_runs.proofs.StepsTold.{HasStepped}
+use Rattle.fabric_runs.proofs.StepsPrinted.{HasStepped}
 use Rattle.fabric_runs.proofs.stepping.tell_steps.Given as goal
 
 abbrev pub invariant-loop : goal.invariant-loop

@@ -8,11 +8,11 @@ use Rattle.fabric_script.proofs.reading.read_script.Goals as goal
 pub returns : goal.returns
 returns c =
     let tells = reading_tells script_means (text_lines c.args.bytes.now) error_of (one_line_error error_of (λ number place same. cc) (λ number same. cc))
-    c.text_of.result c.text_of.ensures c.told.result c.told.ensures in
+    c.text_of.result c.text_of.ensures c.script_or_fault.result c.script_or_fault.ensures in
     record {
       found = tells.found;
       only = tells.only;
-      room = read_has_room (text_lines c.args.bytes.now) c.told.result tells.found;
+      room = read_has_room (text_lines c.args.bytes.now) c.script_or_fault.result tells.found;
       fault = λ line. tells.fault line wrong;
       faulty = λ line. tells.faulty line wrong;
     }

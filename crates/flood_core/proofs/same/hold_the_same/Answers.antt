@@ -3,26 +3,26 @@ use Rattle.std.specs.List.{AllByRecursion}
 use Rattle.std.proofs.lemmas.Bool.{true≢false}
 use Rattle.lsdb.specs.Orders.{without_place}
 use Rattle.ospf_lsa.specs.declared.lsa.Lsa.{Lsa}
-use Rattle.flood_core.specs.declared.held.Held.{Held}
+use Rattle.flood_core.specs.declared.database_copy.DatabaseCopy.{DatabaseCopy}
 use Rattle.flood_core.specs.steps.Numbers.{lsa_in}
 use Rattle.flood_core.proofs.Numbered.{all_at, lsa_read}
 use Rattle.flood_core.proofs.SameLsas.{one_differs, same_all, same_more}
 use Rattle.flood_core.proofs.same.hold_the_same.Goals as goal
 
 -- an LSA that a place of a store has, as it was read by its number
-lsa_at : (lsas : List Lsa) (held : List Held) (place : ℕ) (h : Held) (x : Lsa) → AllByRecursion (λ h. h.number < length lsas) held
+lsa_at : (lsas : List Lsa) (held : List DatabaseCopy) (place : ℕ) (h : DatabaseCopy) (x : Lsa) → AllByRecursion (λ h. h.number < length lsas) held
     → place < length held → h ≡ get_or held place h → x ≡ get_or lsas h.number x → x ≡ lsa_in lsas h.number
 lsa_at lsas held place h x numbers within there is =
-    lsa_read lsas h.number x (all_at (λ (h : Held). h.number < length lsas) held place h numbers within there) is
+    lsa_read lsas h.number x (all_at (λ (h : DatabaseCopy). h.number < length lsas) held place h numbers within there) is
 
 pub bounds-lsas-index : goal.bounds-lsas-index
 bounds-lsas-index c =
-    all_at (λ (h : Held). h.number < length c.args.lsas.now) c.args.store.now.held.items c.loop-place.place c.index.result.now
+    all_at (λ (h : DatabaseCopy). h.number < length c.args.lsas.now) c.args.store.now.held.items c.loop-place.place c.index.result.now
     c.requires.stored.numbers (omega arith) c.index.ensures
 
 pub bounds-others-index : goal.bounds-others-index
 bounds-others-index c =
-    all_at (λ (h : Held). h.number < length c.args.others.now) c.args.other.now.held.items c.loop-place.place c.index-in-loop-place.result.now
+    all_at (λ (h : DatabaseCopy). h.number < length c.args.others.now) c.args.other.now.held.items c.loop-place.place c.index-in-loop-place.result.now
     c.requires.other_stored.numbers (omega arith) c.index-in-loop-place.ensures
 
 pub returns-then-not-are_alike : goal.returns-then-not-are_alike

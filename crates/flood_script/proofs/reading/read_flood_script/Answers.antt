@@ -22,14 +22,14 @@ pub returns : goal.returns
 returns c =
     let lines = text_lines c.args.bytes.now in
     let tells = reading_tells script_means lines error_of (one_line_error error_of (λ number place same. cc) (λ number same. cc))
-    c.text_of.result c.text_of.ensures c.told.result c.told.ensures in
+    c.text_of.result c.text_of.ensures c.script_or_fault.result c.script_or_fault.ensures in
     record {
       found = tells.found;
       only = tells.only;
       fault = λ line. tells.fault line wrong;
       faulty = λ line. tells.faulty line wrong;
-      some = so (λ script. 1 ≤ script.routers) lines (λ script is. (counted lines script is).0) c.told.result tells.found;
-      at_most = so (λ script. script.routers ≤ 64) lines (λ script is. (counted lines script is).1) c.told.result tells.found;
-      few = so (λ script. deliveries_in script.lines ≤ 65535) lines (λ script is. is.few) c.told.result tells.found;
-      among = so (λ script. AllByRecursion (IsAmong script.routers) script.lines) lines (λ script is. is.among) c.told.result tells.found;
+      some = so (λ script. 1 ≤ script.routers) lines (λ script is. (counted lines script is).0) c.script_or_fault.result tells.found;
+      at_most = so (λ script. script.routers ≤ 64) lines (λ script is. (counted lines script is).1) c.script_or_fault.result tells.found;
+      few = so (λ script. deliveries_in script.lines ≤ 65535) lines (λ script is. is.few) c.script_or_fault.result tells.found;
+      among = so (λ script. AllByRecursion (IsAmong script.routers) script.lines) lines (λ script is. is.among) c.script_or_fault.result tells.found;
     }

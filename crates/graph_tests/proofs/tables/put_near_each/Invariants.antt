@@ -1,4 +1,4 @@
-use Rattle.mrt_rows.specs.Making.{MakeRows}
+use Rattle.mrt_rows.specs.RowMaker.{MakeRows}
 use Rattle.graph_tests.proofs.tables.put_near_each.Given as goal
 
 abbrev pub invariant-loop-n : goal.invariant-loop-n

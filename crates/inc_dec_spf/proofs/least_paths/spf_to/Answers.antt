@@ -19,7 +19,7 @@ use Rattle.inc_dec_spf.specs.HasDirections.{AreDirections, HasDirections}
 use Rattle.inc_dec_spf.specs.LeastPath.{IsHop}
 use Rattle.inc_dec_spf.specs.Rest.{far}
 use Rattle.inc_dec_spf.specs.Turns.{AreTurns}
-use Rattle.inc_dec_spf.specs.steps.Ways.{AreLeast, AreReady, sought}
+use Rattle.inc_dec_spf.specs.steps.PathsOverEnds.{AreLeast, AreReady, sought}
 use Rattle.link_direction.proofs.ClosedBlocks.{IsOrdered}
 use Rattle.inc_dec_spf.proofs.AllMarked.{all_marked}
 use Rattle.inc_dec_spf.proofs.OwnWays.{all_ready}
@@ -87,15 +87,15 @@ aimed_at aiming root w is s t within t_within same = record {
         let at : k * 1 + 0 ≡ k = omega arith in
         ap (λ (xs : List ℕ). get_or xs (k * 1 + 0) 0) same ∙ ap (λ (i : ℕ). get_or (replicate n t) i 0) at ∙ get_or-replicate n k t 0 below
 
-pub take_own_ways-requires-clause-aiming : goal.take_own_ways-requires-clause-aiming
-take_own_ways-requires-clause-aiming c =
+pub take_own_paths-requires-clause-aiming : goal.take_own_paths-requires-clause-aiming
+take_own_paths-requires-clause-aiming c =
     aiming_is _ c.against.result c.in_ok-turns.turns.items c.in_ok-aims.aims.items c.in_ok-wanted.wanted.items c.node_count-count.ensures.kept c.requires.directed
     c.against.ensures c.as_slice.ensures.value c.as_slice-2.ensures.value c.as_slice-3.ensures.value
     (sym c.in_ok-wanted.wanted.ok.0 ∙ c.in_ok-wanted.ensures.len ∙ c.node_count-count.ensures.count)
     (sym c.in_ok-aims.aims.ok.0 ∙ c.in_ok-aims.ensures.len ∙ c.node_count-count.ensures.count) c.in_ok-turns.ensures
 
-pub take_own_ways-requires-clause-rows : goal.take_own_ways-requires-clause-rows
-take_own_ways-requires-clause-rows c =
+pub take_own_paths-requires-clause-rows : goal.take_own_paths-requires-clause-rows
+take_own_paths-requires-clause-rows c =
     let count = c.node_count-count.result in
     let blank : c.deref_mut.result.now ≡ replicate count far = c.deref_mut.ensures.value ∙ c.in_ok-all.ensures.items_if_clones_equal (λ y same. same) in
     rw blank (record { one_each = one_row count (length c.args.g.now.ids) c.node_count-count.ensures.count; most = far_costs count })
@@ -105,30 +105,30 @@ loop-n-init c =
     let made : length c.in_ok-hops.hops.items ≡ c.node_count-count.result = sym c.in_ok-hops.hops.ok.0 ∙ c.in_ok-hops.ensures.len in
     record {
       one_each = made ∙ c.node_count-count.ensures.count;
-      one_cost = c.take_own_ways.auto.costs;
-      one_link = c.take_own_ways.auto.links;
+      one_cost = c.take_own_paths.auto.costs;
+      one_link = c.take_own_paths.auto.links;
       done = λ root s w hop are below. absurd (none_early s below);
     }
 
-pub take_ways-requires-clause-aiming : goal.take_ways-requires-clause-aiming
-take_ways-requires-clause-aiming c =
+pub take_paths-requires-clause-aiming : goal.take_paths-requires-clause-aiming
+take_paths-requires-clause-aiming c =
     rw c.loop-n.invariant.one_cost
     (aiming_is _ c.against.result c.in_ok-turns.turns.items c.in_ok-aims.aims.items c.in_ok-wanted.wanted.items c.node_count-count.ensures.kept c.requires.directed
     c.against.ensures c.as_slice.ensures.value c.as_slice-2.ensures.value c.as_slice-3.ensures.value
     (sym c.in_ok-wanted.wanted.ok.0 ∙ c.in_ok-wanted.ensures.len ∙ c.node_count-count.ensures.count)
     (sym c.in_ok-aims.aims.ok.0 ∙ c.in_ok-aims.ensures.len ∙ c.node_count-count.ensures.count) c.in_ok-turns.ensures)
 
-pub take_ways-requires-clause-node : goal.take_ways-requires-clause-node
-take_ways-requires-clause-node c =
+pub take_paths-requires-clause-node : goal.take_paths-requires-clause-node
+take_paths-requires-clause-node c =
     inside c.new-s.result c.loop-n.n c.node_count-count.result (length c.args.g.now.ids) c.new-s.ensures c.loop-n-test.true c.node_count-count.ensures.count
 
-pub take_ways-requires-clause-one_link_each : goal.take_ways-requires-clause-one_link_each
-take_ways-requires-clause-one_link_each c = c.loop-n.invariant.one_link ∙ sym c.loop-n.invariant.one_cost
+pub take_paths-requires-clause-one_link_each : goal.take_paths-requires-clause-one_link_each
+take_paths-requires-clause-one_link_each c = c.loop-n.invariant.one_link ∙ sym c.loop-n.invariant.one_cost
 
-pub take_ways-requires-clause-rows : goal.take_ways-requires-clause-rows
-take_ways-requires-clause-rows c =
-    let all = c.deref.ensures.value ∙ with_items_is c.in_ok-all.all c.take_own_ways.new.all_costs (c.take_own_ways.auto.all_costs ∙ c.deref_mut.ensures.len) in
-    rw (c.loop-n.invariant.one_cost, all) c.take_own_ways.ensures.rows
+pub take_paths-requires-clause-rows : goal.take_paths-requires-clause-rows
+take_paths-requires-clause-rows c =
+    let all = c.deref.ensures.value ∙ with_items_is c.in_ok-all.all c.take_own_paths.new.all_costs (c.take_own_paths.auto.all_costs ∙ c.deref_mut.ensures.len) in
+    rw (c.loop-n.invariant.one_cost, all) c.take_own_paths.ensures.rows
 
 pub loop-n-preserved : goal.loop-n-preserved
 loop-n-preserved c =
@@ -140,26 +140,26 @@ loop-n-preserved c =
     let n = c.loop-n.n in
     let hops = c.loop-n.hops.items in
     let new = c.hop_by.result in
-    let costs = c.take_ways.new.costs in
-    let links = c.take_ways.new.links in
-    let all = c.deref.ensures.value ∙ with_items_is c.in_ok-all.all c.take_own_ways.new.all_costs (c.take_own_ways.auto.all_costs ∙ c.deref_mut.ensures.len) in
+    let costs = c.take_paths.new.costs in
+    let links = c.take_paths.new.links in
+    let all = c.deref.ensures.value ∙ with_items_is c.in_ok-all.all c.take_own_paths.new.all_costs (c.take_own_paths.auto.all_costs ∙ c.deref_mut.ensures.len) in
     let aiming : Aiming = record { graph = c.args.g; directed = c.args.d; dir = dir; turns = c.as_slice.result; aims = c.as_slice-2.result; wanted = c.as_slice-3.result } in
     let marks : c.in_ok-wanted.wanted.items ≡ replicate c.node_count-count.result true = c.in_ok-wanted.ensures.items_if_clones_equal (λ y same. same) in
     let aims : c.in_ok-aims.aims.items ≡ replicate c.node_count-count.result t = c.in_ok-aims.ensures.items_if_clones_equal (λ y same. same) in
     let within : s < length g.ids = inside s n c.node_count-count.result (length g.ids) c.new-s.ensures c.loop-n-test.true c.node_count-count.ensures.count in
     record {
       one_each = length-set hops n new ∙ c.loop-n.invariant.one_each;
-      one_cost = c.take_ways.auto.costs ∙ c.loop-n.invariant.one_cost;
-      one_link = c.take_ways.auto.links ∙ c.loop-n.invariant.one_link;
+      one_cost = c.take_paths.auto.costs ∙ c.loop-n.invariant.one_cost;
+      one_link = c.take_paths.auto.links ∙ c.loop-n.invariant.one_link;
       done = λ root v w hop are below at. elim (cases_eq v n) [
         | inl same ↦
             let is : IsOrdered g root w = record { kept = kept; ordered = are.ordered } in
             let ends = list_of_ends g s kept within in
             let it = aimed_at aiming root w is s t within c.requires.target (c.as_slice-2.ensures.value ∙ aims ∙ ap (λ (m : ℕ). replicate m t) c.node_count-count.ensures.count) in
-            let ready = all_ready aiming root w 1 c.take_own_ways.new.all_costs c.take_own_ways.new.all_links s is (λ y y_within. c.take_own_ways.ensures.own root y w are y_within) in
+            let ready = all_ready aiming root w 1 c.take_own_paths.new.all_costs c.take_own_paths.new.all_links s is (λ y y_within. c.take_own_paths.ensures.own root y w are y_within) in
             let ready_all = subst (λ (xs : List ℕ). AreReady aiming w false 1 xs s) (sym all) ready in
             let least = (subst (λ (m : ℕ). AreLeast aiming w false m s ends.0 (length ends.0) costs links) c.loop-n.invariant.one_cost
-            (c.take_ways.ensures.least root w ends.0 are
+            (c.take_paths.ensures.least root w ends.0 are
             (subst (λ (m : ℕ). AreReady aiming w false m c.deref.result.now s) (sym c.loop-n.invariant.one_cost) ready_all) ends.1)).each 0 first_place in
             let found = least_hop (sought aiming w) root is false s t (aim_at aiming.aims.now 1 0) _ _ ends.0 ends.1 (λ own two. absurd (false≢true own)) (λ k h share. (
               (λ own. absurd (false≢true own)),
@@ -167,7 +167,7 @@ loop-n-preserved c =
                   (counted k (length g.ids) c.node_count-count.result (block_of_two (length g.ids) root w is.ordered.heads.block_within s t k h within c.requires.target share.common) c.node_count-count.ensures.count)),
               it.aimed k h share.common,
             )) (λ u k h u_within apart common own onward. it.alone u k h u_within apart common (onward refl)) least in
-            let link = get_or_default_zero links 0 c.index-links-0.result (subst (λ (m : ℕ). 0 < m) (sym (c.take_ways.auto.links ∙ c.loop-n.invariant.one_link)) first_place) in
+            let link = get_or_default_zero links 0 c.index-links-0.result (subst (λ (m : ℕ). 0 < m) (sym (c.take_paths.auto.links ∙ c.loop-n.invariant.one_link)) first_place) in
             let now = subst (λ (x : ℕ). slice_get (set hops n new) x ≡ Some hop) same at in
             let new_is : new ≡ hop = same_Some new hop (sym (set_there hops n new (inside n s (length g.ids) (length hops) (sym c.new-s.ensures) within (sym c.loop-n.invariant.one_each))) ∙ now) in
             subst (λ (o : Option Hop). IsHop g w dir v t o) new_is

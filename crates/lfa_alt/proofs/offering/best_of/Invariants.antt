@@ -8,5 +8,5 @@ invariant-loop-number l = record {
   same : l.searches ≡ l.fn.searches;
   one_each : length l.near.known.items ≡ length l.searches.ids;
   near : AreDistancesFrom l.searches.arcs l.near.at l.near.known.items;
-  best : AreBest l.searches l.fn.source l.destinations l.ways l.number l.best.items;
+  best : AreBest l.searches l.fn.source l.destinations l.paths l.number l.best.items;
 }

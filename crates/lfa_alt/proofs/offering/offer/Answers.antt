@@ -19,7 +19,7 @@ loop-t-preserved c = record {
         let same : c.index-destinations-t.result ≡ entry =
         c.index-destinations-t.is ∙ get_or_from_slice_get c.args.destinations.now i entry c.index-destinations-t.result (rw here at stands) in
         rw here
-        (better_there (Offers area c.args.source i entry c.args.way.now) c.loop-t.best.items i c.candidate_for.result c.better.result old new c.index.result.now
+        (better_there (Offers area c.args.source i entry c.args.path.now) c.loop-t.best.items i c.candidate_for.result c.better.result old new c.index.result.now
         (c.loop-t.invariant.later i (omega arith) ∙ (rw here at was)) c.index.ensures c.better.ensures (rw here at is)
         (rw same at (c.candidate_for.ensures area are (rw same (destinations.each i entry (rw here at stands))))))
   ];

@@ -3,7 +3,7 @@ use Rattle.std.proofs.lemmas.Bool.{cases_lt, ltb-true, ltb-false}
 use Rattle.std.proofs.lemmas.Option.{same_Some, slice_get-get_or}
 use Rattle.mrt_graph.specs.declared.link.End.{End}
 use Rattle.mrt_graph.specs.declared.tree.TreeNode.{TreeNode}
-use Rattle.mrt_graph.specs.TreeWords.{search_number}
+use Rattle.mrt_graph.specs.TreeFields.{search_number}
 use Rattle.lowpoint_dfs.specs.steps.Finding.{LeadToFound}
 use Rattle.lowpoint_dfs.proofs.finding.first_outside.Goals as goal
 

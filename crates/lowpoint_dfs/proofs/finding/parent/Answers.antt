@@ -4,7 +4,7 @@ use Rattle.std.specs.Option.{option_and_then}
 use Rattle.std.proofs.lemmas.Option.{slice_get-get_or}
 use Rattle.mrt_graph.specs.declared.tree.TreeNode.{TreeNode}
 use Rattle.mrt_graph.specs.Leads.{leads}
-use Rattle.mrt_graph.specs.TreeWords.{parent_link}
+use Rattle.mrt_graph.specs.TreeFields.{parent_link}
 use Rattle.lowpoint_dfs.proofs.ParentsFirst.{parent_over}
 use Rattle.lowpoint_dfs.proofs.finding.parent.Goals as goal
 

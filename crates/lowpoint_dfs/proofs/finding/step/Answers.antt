@@ -1,6 +1,6 @@
 use Rattle.std.proofs.Common.{◌≡◌, ◌<◌, ◌∙◌, ℕ, List, Some, length, refl, sym, ap, subst, arith}
 use Rattle.std.proofs.lemmas.Bool.{eqb-true, eqb-false}
-use Rattle.mrt_graph.specs.TreeWords.{search_number}
+use Rattle.mrt_graph.specs.TreeFields.{search_number}
 use Rattle.mrt_graph.specs.declared.tree.TreeNode.{TreeNode}
 use Rattle.std.proofs.lemmas.Option.{same_Some}
 use Rattle.lowpoint_dfs.specs.Subtree.{parent_of}

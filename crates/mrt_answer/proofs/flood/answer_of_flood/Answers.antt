@@ -7,7 +7,7 @@ use Rattle.flood_verdict.specs.Says.{Says}
 use Rattle.mrt_island.specs.declared.setting.Setting.{Setting}
 use Rattle.mrt_exit.specs.Steps.{IsAnswer, Step, ◌▸◌}
 use Rattle.mrt_words.specs.FileBytes.{FileBytes}
-use Rattle.mrt_words.specs.Kept.{flood_bytes}
+use Rattle.mrt_words.specs.Work.{flood_bytes}
 use Rattle.mrt_words.proofs.HandedOn.{if_ok}
 use Rattle.mrt_answer.specs.Forms.{delivered}
 use Rattle.mrt_answer.specs.Reading.{deliveries_of, profile_of, updates_of}

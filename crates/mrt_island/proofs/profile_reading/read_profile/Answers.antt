@@ -16,5 +16,5 @@ one_error lines.NoMemory lines.NoMemory same = refl
 
 pub returns : goal.returns
 returns c =
-    let tells = reading_tells profile_means (text_lines c.args.bytes.now) error_of one_error c.text_of.result c.text_of.ensures c.told.result c.told.ensures in
+    let tells = reading_tells profile_means (text_lines c.args.bytes.now) error_of one_error c.text_of.result c.text_of.ensures c.profile_or_fault.result c.profile_or_fault.ensures in
     record { found = tells.found; only = tells.only; fault = tells.fault; faulty = tells.faulty }

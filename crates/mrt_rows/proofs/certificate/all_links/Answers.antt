@@ -2,7 +2,7 @@ use Rattle.std.proofs.Common.{◌≡◌, ◌∙◌, ℕ, List, Some, length, sli
 use Rattle.std.proofs.lemmas.Option.{slice_get_within}
 use Rattle.mrt_graph.specs.declared.cert.CertLink.{CertLink}
 use Rattle.mrt_rows.specs.CertOf.{link_words}
-use Rattle.mrt_rows.specs.Said.{directions_of}
+use Rattle.mrt_rows.specs.ListedDirections.{directions_of}
 use Rattle.mrt_rows.proofs.PushedWords.{one_word_more}
 use Rattle.mrt_rows.proofs.certificate.all_links.Goals as goal
 

@@ -1,7 +1,7 @@
 use Rattle.std.proofs.Common.{◌≡◌, ◌≤◌, ◌<◌, ℕ, Some, length, slice_get, vec_capacity}
 use Rattle.mrt_graph.specs.declared.link.Link.{Link}
 use Rattle.mrt_rows.specs.CertOf.{link_words}
-use Rattle.mrt_rows.specs.Said.{directions_of}
+use Rattle.mrt_rows.specs.ListedDirections.{directions_of}
 use Rattle.mrt_rows.proofs.certificate.all_links.Given as goal
 
 abbrev pub invariant-loop-e : goal.invariant-loop-e

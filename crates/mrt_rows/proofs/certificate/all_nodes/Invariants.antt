@@ -1,7 +1,7 @@
 use Rattle.std.proofs.Common.{◌≡◌, ◌≤◌, ◌<◌, ℕ, Some, length, slice_get, vec_capacity}
 use Rattle.mrt_graph.specs.declared.node_id.NodeId.{NodeId}
 use Rattle.mrt_rows.specs.CertOf.{node_words}
-use Rattle.mrt_rows.specs.Said.{directions_of}
+use Rattle.mrt_rows.specs.ListedDirections.{directions_of}
 use Rattle.mrt_rows.proofs.certificate.all_nodes.Given as goal
 
 abbrev pub invariant-loop-n : goal.invariant-loop-n

@@ -6,7 +6,7 @@ use Rattle.mrt_graph.specs.declared.cert.Row.{Row}
 use Rattle.mrt_rows.specs.ColumnOf.{IsColumnOf}
 use Rattle.mrt_rows.specs.steps.ColumnOf.{IsRowIn}
 use Rattle.mrt_rows.specs.steps.RowsOf.{row_among}
-use Rattle.mrt_rows.specs.steps.Said.{words_of}
+use Rattle.mrt_rows.specs.steps.ListedDirections.{directions_by}
 use Rattle.mrt_rows.proofs.Rooting.{og_of}
 use Rattle.mrt_rows.proofs.RowsOfColumns.{all_of_columns, row_in_column}
 use Rattle.mrt_rows.proofs.certificate.all_rows.Goals as goal
@@ -33,7 +33,7 @@ loop-n-preserved c =
     let rooted = c.args.rooted.now in
     let g = rooted.graph.now in
     let root = rooted.root in
-    let w = words_of rooted in
+    let w = directions_by rooted in
     let og = og_of c.requires in
     let count_is : c.node_count-count.result ≡ length g.ids = c.node_count-count.ensures.count in
     let n = c.loop-n.n in

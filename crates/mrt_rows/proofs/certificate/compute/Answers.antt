@@ -1,7 +1,7 @@
 use Rattle.std.proofs.Common.{sym, subst}
 use Rattle.mrt_graph.specs.Certificate.{Certificate}
 use Rattle.mrt_rows.specs.CertOf.{Tells, file_of}
-use Rattle.mrt_rows.specs.Said.{directions_of}
+use Rattle.mrt_rows.specs.ListedDirections.{directions_of}
 use Rattle.mrt_rows.proofs.CertAccepted.{cert_accepted}
 use Rattle.mrt_rows.proofs.CertMade.{cert_kept, cert_tells}
 use Rattle.mrt_rows.proofs.Rooting.{og_of, rooted_by}

@@ -1,7 +1,7 @@
 use Rattle.std.proofs.Common.{rules, ◌≡◌, ◌∙◌, ◌<◌, ℕ, List, Option, Some, None, length, set, sym, ap, subst, arith}
 use Rattle.std.specs.Prelude.{replicate}
 use Rattle.std.proofs.lemmas.List.{length-replicate, length-set}
-use Rattle.mrt_rows.specs.steps.Said.{words_of}
+use Rattle.mrt_rows.specs.steps.ListedDirections.{directions_by}
 use Rattle.mrt_rows.proofs.Climbing.{IsClimbed, all_climbed, begun, one_climbed}
 use Rattle.mrt_rows.proofs.NearFound.{differ_by, same_by}
 use Rattle.mrt_rows.proofs.Rooting.{og_of}
@@ -13,12 +13,12 @@ loop-c-init c =
     record {
       one_each = ap (λ (xs : List (Option ℕ)). length xs) blank ∙ length-replicate (length c.args.below.now) None ∙ c.requires.one_each;
       within = c.requires.to;
-      climbed = begun c.args.rooted.now.graph.now c.args.rooted.now.root (words_of c.args.rooted.now) c.args.to (length c.args.below.now) c.fill.new.self blank;
+      climbed = begun c.args.rooted.now.graph.now c.args.rooted.now.root (directions_by c.args.rooted.now) c.args.to (length c.args.below.now) c.fill.new.self blank;
     }
 
 pub loop-c-smaller : goal.loop-c-smaller
 loop-c-smaller c =
-    let w = words_of c.args.rooted.now in
+    let w = directions_by c.args.rooted.now in
     let at = c.loop-c.c in
     let other = differ_by at c.args.rooted.now.root c.ne.result c.ne.ensures c.loop-c-test.true in
     omega (arith, ap w.order c.place-head.ensures.head, c.requires.rooted.ordered.heads.lower at c.loop-c.invariant.within other)
@@ -27,7 +27,7 @@ pub loop-c-preserved : goal.loop-c-preserved
 loop-c-preserved c =
     let rooted = c.args.rooted.now in
     let g = rooted.graph.now in
-    let w = words_of rooted in
+    let w = directions_by rooted in
     let at = c.loop-c.c in
     let below = c.loop-c.below in
     let within = c.loop-c.invariant.within in

@@ -2,7 +2,7 @@ use Rattle.std.proofs.Common.{◌≡◌, ◌∙◌, ◌<◌, ◌+◌, ◌*◌, �
 use Rattle.std.proofs.lemmas.List.{length-set}
 use Rattle.inc_dec_spf.specs.BlockAims.{aim_at}
 use Rattle.inc_dec_spf.proofs.SideBySide.{row_within}
-use Rattle.mrt_rows.specs.steps.Said.{words_of}
+use Rattle.mrt_rows.specs.steps.ListedDirections.{directions_by}
 use Rattle.mrt_rows.proofs.NearFound.{differ_by, same_by}
 use Rattle.mrt_rows.proofs.Rooting.{og_of}
 use Rattle.mrt_rows.proofs.SoleRows.{none_of_more, sole_at}
@@ -14,7 +14,7 @@ loop-to-init c = record {
   room = refl;
   a_mark_each = c.requires.a_mark_each;
   within = c.requires.to;
-  gone = λ heads. none_gone c.args.rooted.now.graph.now c.args.rooted.now.root (words_of c.args.rooted.now) c.args.to.node
+  gone = λ heads. none_gone c.args.rooted.now.graph.now c.args.rooted.now.root (directions_by c.args.rooted.now) c.args.to.node
       (aim_at c.args.aims.now c.args.width c.args.to.at) c.args.marks.now heads;
   others = λ i k below other. refl;
   stay = λ k at. at;
@@ -22,7 +22,7 @@ loop-to-init c = record {
 
 pub loop-to-smaller : goal.loop-to-smaller
 loop-to-smaller c =
-    let w = words_of c.args.rooted.now in
+    let w = directions_by c.args.rooted.now in
     let at = c.loop-to.c in
     let other = differ_by at c.args.rooted.now.root c.ne.result c.ne.ensures c.loop-to-test.true in
     omega (arith, ap w.order c.place-place.ensures.head, c.requires.rooted.ordered.heads.lower at c.loop-to.invariant.within other)
@@ -73,7 +73,7 @@ pub loop-to-preserved : goal.loop-to-preserved
 loop-to-preserved c =
     let rooted = c.args.rooted.now in
     let g = rooted.graph.now in
-    let w = words_of rooted in
+    let w = directions_by rooted in
     let at = c.loop-to.c in
     let aims = c.loop-to.aims in
     let j = c.args.to.at in

@@ -3,7 +3,7 @@ use Rattle.std.proofs.lemmas.Bool.{cases_eq}
 use Rattle.std.proofs.lemmas.Option.{same_Some, slice_get_read, slice_get_within}
 use Rattle.inc_dec_spf.specs.BlockAims.{aim_at}
 use Rattle.mrt_rows.specs.Chain.{AreWayAims}
-use Rattle.mrt_rows.specs.steps.Said.{words_of}
+use Rattle.mrt_rows.specs.steps.ListedDirections.{directions_by}
 use Rattle.mrt_rows.proofs.Rooting.{are_directions, has_directions}
 use Rattle.mrt_rows.proofs.WayAims.{way_aims_too}
 use Rattle.mrt_rows.proofs.column.put_ways.Goals as goal
@@ -17,7 +17,7 @@ loop-at-init c = record {
   a_mark_each = c.fill.ensures.len ∙ c.requires.a_mark_each;
   done = λ i t below. absurd (omega (arith, below));
   ahead = λ i y low high y_within.
-      (c.put_heads.ensures.heads c.args.rooted.now.root (words_of c.args.rooted.now) (are_directions c.requires.rooted)).each i y high y_within;
+      (c.put_heads.ensures.heads c.args.rooted.now.root (directions_by c.args.rooted.now) (are_directions c.requires.rooted)).each i y high y_within;
 }
 
 pub put_way-requires-clause-to : goal.put_way-requires-clause-to
@@ -32,7 +32,7 @@ pub loop-at-preserved : goal.loop-at-preserved
 loop-at-preserved c =
     let rooted = c.args.rooted.now in
     let g = rooted.graph.now in
-    let w = words_of rooted in
+    let w = directions_by rooted in
     let j = c.loop-at.at in
     let width = length c.args.targets.now in
     let after = c.put_way.new.aims in

@@ -2,7 +2,7 @@ use Rattle.std.proofs.Common.{◌∙◌, ◌*◌, ℕ, Bool, true, List, length,
 use Rattle.std.proofs.lemmas.List.{length-replicate, with_items_is}
 use Rattle.inc_dec_spf.specs.BlockAims.{aim_at}
 use Rattle.inc_dec_spf.proofs.AllMarked.{all_marked}
-use Rattle.mrt_rows.specs.steps.Said.{words_of}
+use Rattle.mrt_rows.specs.steps.ListedDirections.{directions_by}
 use Rattle.mrt_rows.proofs.AimsOfRows.{common_within, home_aim}
 use Rattle.mrt_rows.proofs.Rooting.{are_directions, has_directions, og_of}
 use Rattle.mrt_rows.proofs.TileLinks.{tile_links}
@@ -44,7 +44,7 @@ pub returns-clause-homes : goal.returns-clause-homes
 returns-clause-homes c =
     let rooted = c.args.rooted.now in
     let g = rooted.graph.now in
-    let w = words_of rooted in
+    let w = directions_by rooted in
     let og = og_of c.requires.rooted in
     let made = c.in_ok-homes.ensures in
     let aims = with_items_is c.in_ok-homes.homes.aims c.put_heads.new.aims (c.put_heads.ensures.room ∙ c.deref_mut.ensures.len) in

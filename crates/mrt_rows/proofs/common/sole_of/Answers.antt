@@ -4,7 +4,7 @@ use Rattle.std.proofs.lemmas.Option.{same_Some, slice_get_read, slice_get_within
 use Rattle.mrt_graph.specs.declared.link.End.{End}
 use Rattle.mrt_graph.proofs.EndsAt.{end_leads}
 use Rattle.mrt_rows.specs.NearOf.{IsSoleOf}
-use Rattle.mrt_rows.specs.steps.Said.{words_of}
+use Rattle.mrt_rows.specs.steps.ListedDirections.{directions_by}
 use Rattle.mrt_rows.proofs.OrderedGraphs.{within}
 use Rattle.mrt_rows.proofs.Rooting.{og_of}
 use Rattle.mrt_rows.proofs.SoleRows.{block_says, mark_says, none_is, sole_is}
@@ -16,7 +16,7 @@ returns-then-eq c =
     let rooted = c.args.rooted.now in
     let g = rooted.graph.now in
     let d = rooted.directed.now in
-    let w = words_of rooted in
+    let w = directions_by rooted in
     let is = c.requires.rooted in
     let ends = c.ends-end-items.result.now in
     let end = c.end-item.result in
@@ -33,7 +33,7 @@ loop-end-preserved c = λ j end below at sole in_block. elim (cases_eq j c.loop-
       let rooted = c.args.rooted.now in
       let g = rooted.graph.now in
       let d = rooted.directed.now in
-      let w = words_of rooted in
+      let w = directions_by rooted in
       let is = c.requires.rooted in
       let ends = c.ends-end-items.result.now in
       let item = c.end-item.result in
@@ -57,6 +57,6 @@ pub returns : goal.returns
 returns c =
     let rooted = c.args.rooted.now in
     let ends = c.ends-end-items.result.now in
-    subst (λ (link : ℕ). IsSoleOf rooted.graph.now (words_of rooted) c.args.v link) (sym c.new.ensures)
+    subst (λ (link : ℕ). IsSoleOf rooted.graph.now (directions_by rooted) c.args.v link) (sym c.new.ensures)
     (none_is (og_of c.requires.rooted) c.args.v c.requires.node ends c.ends-end-items.ensures.value
     (λ j end at. c.loop-end.invariant j end (omega (arith, slice_get_within ends j end at, c.loop-end-test.false)) at))

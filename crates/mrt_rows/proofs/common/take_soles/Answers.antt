@@ -4,7 +4,7 @@ use Rattle.std.proofs.lemmas.List.{length-set}
 use Rattle.std.proofs.lemmas.Option.{same_Some, slice_get_within}
 use Rattle.mrt_graph.proofs.ListPlaces.{set_elsewhere, set_there}
 use Rattle.mrt_rows.specs.NearOf.{IsSoleOf}
-use Rattle.mrt_rows.specs.steps.Said.{words_of}
+use Rattle.mrt_rows.specs.steps.ListedDirections.{directions_by}
 use Rattle.mrt_rows.proofs.SoleRows.{none_of_more}
 use Rattle.mrt_rows.proofs.common.take_soles.Goals as goal
 
@@ -17,7 +17,7 @@ mark-requires c =
 pub loop-n-preserved : goal.loop-n-preserved
 loop-n-preserved c =
     let g = c.args.rooted.now.graph.now in
-    let w = words_of c.args.rooted.now in
+    let w = directions_by c.args.rooted.now in
     let n = c.loop-n.n in
     let soles = c.loop-n.soles in
     let sole = c.sole_of-sole.result in

@@ -5,9 +5,9 @@ use Rattle.std.specs.Option.{option_map}
 use Rattle.mrt_graph.specs.declared.cert.Row.{Row}
 use Rattle.mrt_graph.specs.Tags.{carried}
 use Rattle.mrt_graph.proofs.ListPlaces.{set_there}
-use Rattle.mrt_rows.specs.steps.Making.{IsOpenFor}
+use Rattle.mrt_rows.specs.steps.RowMaker.{IsOpenFor}
 use Rattle.mrt_rows.specs.steps.NearOf.{IsNearRow}
-use Rattle.mrt_rows.specs.steps.Said.{words_of}
+use Rattle.mrt_rows.specs.steps.ListedDirections.{directions_by}
 use Rattle.mrt_rows.proofs.Filling.{filled, filling_home, filling_on, filling_past}
 use Rattle.mrt_rows.proofs.NearFound.{differ_by, same_by}
 use Rattle.mrt_rows.proofs.Rooting.{og_of}
@@ -26,7 +26,7 @@ bounds-rows-home c =
 pub carried_to-from-requires-clause-target : goal.carried_to-from-requires-clause-target
 carried_to-from-requires-clause-target c =
     c.requires.made.common.by_order.within c.loop-t.t-index c.t-item.result
-    (turn_at c.args.making.now.common.by_order.items c.deref-t-items.result.now c.loop-t.t-index c.t-item.result c.deref-t-items.ensures.value
+    (turn_at c.args.maker.now.common.by_order.items c.deref-t-items.result.now c.loop-t.t-index c.t-item.result c.deref-t-items.ensures.value
     c.loop-t-test.true c.t-item.is)
 
 pub carried_to-from-requires-clause-source : goal.carried_to-from-requires-clause-source
@@ -38,12 +38,12 @@ carried_to-from-requires-clause-node c = c.source-source.ensures.source.within
 pub row-near-requires-clause-target : goal.row-near-requires-clause-target
 row-near-requires-clause-target c =
     c.requires.made.common.by_order.within c.loop-t.t-index c.t-item.result
-    (turn_at c.args.making.now.common.by_order.items c.deref-t-items.result.now c.loop-t.t-index c.t-item.result c.deref-t-items.ensures.value
+    (turn_at c.args.maker.now.common.by_order.items c.deref-t-items.result.now c.loop-t.t-index c.t-item.result c.deref-t-items.ensures.value
     c.loop-t-test.true c.t-item.is)
 
 pub row-near-requires-clause-open : goal.row-near-requires-clause-open
 row-near-requires-clause-open c =
-    subst (λ (v : ℕ). IsOpenFor c.args.rooted.now.graph.now (words_of c.args.rooted.now) c.args.making.now v) (sym c.source-source.ensures.node)
+    subst (λ (v : ℕ). IsOpenFor c.args.rooted.now.graph.now (directions_by c.args.rooted.now) c.args.maker.now v) (sym c.source-source.ensures.node)
     c.requires.open
 
 pub row-near-requires-clause-two : goal.row-near-requires-clause-two
@@ -53,7 +53,7 @@ row-near-requires-clause-two c = λ same.
 pub bounds-rows-get : goal.bounds-rows-get
 bounds-rows-get c =
     let within = c.requires.made.common.by_order.within c.loop-t.t-index c.t-item.result
-    (turn_at c.args.making.now.common.by_order.items c.deref-t-items.result.now c.loop-t.t-index c.t-item.result c.deref-t-items.ensures.value
+    (turn_at c.args.maker.now.common.by_order.items c.deref-t-items.result.now c.loop-t.t-index c.t-item.result c.deref-t-items.ensures.value
     c.loop-t-test.true c.t-item.is) in
     omega (arith, within, c.get.ensures.value, c.loop-t.invariant.one_each)
 
@@ -61,7 +61,7 @@ pub loop-t-init : goal.loop-t-init
 loop-t-init c =
     let g = c.args.rooted.now.graph.now in
     let root = c.args.rooted.now.root in
-    let w = words_of c.args.rooted.now in
+    let w = directions_by c.args.rooted.now in
     let s = c.args.s in
     let by = c.source-source.ensures.source in
     let node = c.source-source.ensures.node in
@@ -79,7 +79,7 @@ loop-t-init c =
             rooted.ordered.heads.head_within c.source-source.result.node by.within,
             c.requires.one_each,
           ))) in
-          filling_home (og_of rooted) s within c.args.making.now.common.by_order.items rows (λ other.
+          filling_home (og_of rooted) s within c.args.maker.now.common.by_order.items rows (λ other.
           subst (λ (o : Option Row). IsNearRow g root w s (w.head s) o) (sym put)
           (subst (λ (v : ℕ). IsNearRow g root w v (w.head v) (Some row)) node
           (c.row_home.ensures g root w rooted.kept rooted.ordered by (λ same. other (sym node ∙ same)))));
@@ -90,9 +90,9 @@ loop-t-preserved c = elim c.if-ne.branch [
   | then-ne b ↦
       let g = c.args.rooted.now.graph.now in
       let root = c.args.rooted.now.root in
-      let w = words_of c.args.rooted.now in
+      let w = directions_by c.args.rooted.now in
       let s = c.args.s in
-      let nodes = c.args.making.now.common.by_order.items in
+      let nodes = c.args.maker.now.common.by_order.items in
       let t = c.t-item.result in
       let rows = c.loop-t.rows in
       let row : Row = unwrap_or b.row-near.result b.carried_to-from.result in
@@ -116,7 +116,7 @@ loop-t-preserved c = elim c.if-ne.branch [
         one_each = c.loop-t.invariant.one_each;
         filling = λ rooted within.
             let s = c.args.s in
-            let nodes = c.args.making.now.common.by_order.items in
+            let nodes = c.args.maker.now.common.by_order.items in
             let t = c.t-item.result in
             let at = turn_at nodes c.deref-t-items.result.now c.loop-t.t-index t c.deref-t-items.ensures.value c.loop-t-test.true c.t-item.is in
             filling_past (og_of rooted) s within nodes c.requires.made.common.by_order c.loop-t.t-index t at c.loop-t.rows
@@ -126,6 +126,6 @@ loop-t-preserved c = elim c.if-ne.branch [
 
 pub returns-clause-rows : goal.returns-clause-rows
 returns-clause-rows c = λ t t_within two.
-    filled (og_of c.requires.rooted) c.args.s c.requires.node c.args.making.now.common.by_order.items c.requires.made.common.by_order
+    filled (og_of c.requires.rooted) c.args.s c.requires.node c.args.maker.now.common.by_order.items c.requires.made.common.by_order
     c.loop-t.t-index c.loop-t.rows (subst (λ (xs : List ℕ). length xs ≤ c.loop-t.t-index) c.deref-t-items.ensures.value c.loop-t-test.false)
     (c.loop-t.invariant.filling c.requires.rooted c.requires.node) t t_within two

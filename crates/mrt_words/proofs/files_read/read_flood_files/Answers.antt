@@ -1,7 +1,7 @@
 use Rattle.std.proofs.Common.{[], ◌∷◌, Ok, Err, subst}
 use Rattle.mrt_words.specs.FileBytes.{AreRead}
 use Rattle.mrt_words.specs.Files.{NamedFile, IsReadAs, flood_names}
-use Rattle.mrt_words.specs.Kept.{flood_bytes}
+use Rattle.mrt_words.specs.Work.{flood_bytes}
 use Rattle.mrt_words.specs.Reading.{ReadsFiles}
 use Rattle.mrt_words.proofs.Readings.{errs, first_is, first_stops, last_reads, profile_is, profile_stops, reads_none, reads_ok}
 use Rattle.mrt_words.proofs.files_read.read_flood_files.Goals as goal

@@ -4,7 +4,7 @@ use Rattle.mrt_graph.specs.Topology.{Topology}
 use Rattle.link_direction.specs.OrderedGadag.{SaysOrdered}
 use Rattle.inc_dec_spf.specs.HasDirections.{HasDirections}
 use Rattle.inc_dec_spf.proofs.SameDirections.{directions_are}
-use Rattle.mrt_rows.specs.Said.{directions_of}
+use Rattle.mrt_rows.specs.ListedDirections.{directions_of}
 use Rattle.mrt_rows.proofs.Rooting.{rooted_by}
 use Rattle.order_repair.specs.Source.{AreHops}
 use Rattle.order_repair.proofs.text.order_text.Goals as goal

@@ -2,7 +2,7 @@ use Rattle.std.proofs.Common.{◌∙◌, length, refl, sym, arith}
 use Rattle.std.proofs.lemmas.Bool.{both_ways}
 use Rattle.std.proofs.lemmas.Option.{slice_get_read}
 use Rattle.proxy_rows.specs.steps.Steps.{IsWanted}
-use Rattle.proxy_rows.specs.steps.Words.{with_rows}
+use Rattle.proxy_rows.specs.steps.LabelledGraph.{with_rows}
 use Rattle.proxy_rows.proofs.FirstEnds.{end_within, none_at_all, none_more}
 use Rattle.proxy_rows.proofs.Grounds.{counts}
 use Rattle.proxy_rows.proofs.ends.first_end.Goals as goal

@@ -7,7 +7,7 @@ use Rattle.mrt_graph.proofs.ListTests.{all_at}
 use Rattle.mrt_graph.proofs.Searching.{Searches, searches_begun, searches_ended, searches_onward}
 use Rattle.proxy_rows.specs.Sides.{IsMember, router_of}
 use Rattle.proxy_rows.specs.steps.Steps.{StepsTo}
-use Rattle.proxy_rows.specs.steps.Words.{with_rows, without_rows}
+use Rattle.proxy_rows.specs.steps.LabelledGraph.{with_rows, without_rows}
 use Rattle.proxy_rows.proofs.AnyRows.{marks_too}
 use Rattle.proxy_rows.proofs.Grounds.{counts, member_within, router_within}
 use Rattle.proxy_rows.proofs.Stepping.{none_is, side_is, steps_of}

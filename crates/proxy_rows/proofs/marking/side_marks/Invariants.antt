@@ -3,7 +3,7 @@ use Rattle.mrt_graph.specs.Search.{left_of}
 use Rattle.mrt_graph.proofs.Searching.{Searches}
 use Rattle.proxy_rows.specs.Sides.{router_of}
 use Rattle.proxy_rows.specs.steps.Steps.{StepsTo}
-use Rattle.proxy_rows.specs.steps.Words.{without_rows}
+use Rattle.proxy_rows.specs.steps.LabelledGraph.{without_rows}
 use Rattle.proxy_rows.proofs.marking.side_marks.Given as goal
 
 abbrev pub invariant-loop-v : goal.invariant-loop-v

@@ -2,7 +2,7 @@ use Rattle.std.proofs.Common.{◌≡◌, ◌∙◌, ℕ, length, subst, arith}
 use Rattle.std.proofs.lemmas.Option.{slice_get_read}
 use Rattle.std.proofs.Common.{refl}
 use Rattle.mrt_graph.specs.Search.{Enters}
-use Rattle.proxy_rows.specs.steps.Words.{without_rows}
+use Rattle.proxy_rows.specs.steps.LabelledGraph.{without_rows}
 use Rattle.proxy_rows.proofs.Stepping.{LeadsBelow, all_ends, first_end, next_end}
 use Rattle.proxy_rows.proofs.marking.visit.Goals as goal
 

@@ -1,5 +1,5 @@
 use Rattle.mrt_graph.specs.Search.{Enters}
-use Rattle.proxy_rows.specs.steps.Words.{without_rows}
+use Rattle.proxy_rows.specs.steps.LabelledGraph.{without_rows}
 use Rattle.proxy_rows.proofs.Stepping.{LeadsBelow}
 use Rattle.proxy_rows.proofs.marking.visit.Given as goal
 

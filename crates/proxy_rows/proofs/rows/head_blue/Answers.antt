@@ -1,7 +1,7 @@
 use Rattle.std.proofs.Common.{◌∙◌, sym, arith}
 use Rattle.std.proofs.lemmas.Bool.{eqb-false, eqb-true}
 use Rattle.proxy_rows.specs.ProxyRows.{Here, Over}
-use Rattle.proxy_rows.specs.steps.Words.{with_rows}
+use Rattle.proxy_rows.specs.steps.LabelledGraph.{with_rows}
 use Rattle.proxy_rows.proofs.Grounds.{counts, head_within}
 use Rattle.proxy_rows.proofs.SideEnds.{head_end}
 use Rattle.proxy_rows.proofs.rows.head_blue.Goals as goal

@@ -1,6 +1,6 @@
 use Rattle.std.proofs.Common.{arith}
 use Rattle.proxy_rows.specs.declared.proxy_row.Out.TheVariants as outs
-use Rattle.proxy_rows.specs.steps.Words.{with_rows}
+use Rattle.proxy_rows.specs.steps.LabelledGraph.{with_rows}
 use Rattle.proxy_rows.proofs.AnyRows.{red_too}
 use Rattle.proxy_rows.proofs.Grounds.{counts, head_within}
 use Rattle.proxy_rows.proofs.HeadLinks.{red_if_not_plain}

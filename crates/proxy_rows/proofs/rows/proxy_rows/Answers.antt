@@ -3,7 +3,7 @@ use Rattle.mrt_graph.specs.Certificate.{row_of}
 use Rattle.mrt_graph.specs.Rules.{GraphRule}
 use Rattle.proxy_rows.specs.declared.attachment.Attachment.{Attachment}
 use Rattle.proxy_rows.specs.ProxyRows.{AreRowsOf}
-use Rattle.proxy_rows.specs.Words.{ReadFrom}
+use Rattle.proxy_rows.specs.LabelledGraph.{ReadFrom}
 use Rattle.proxy_rows.proofs.AnyRows.{read_of}
 use Rattle.proxy_rows.proofs.OneAnswer.{one_attachment}
 use Rattle.proxy_rows.proofs.ProxySound.{sound}

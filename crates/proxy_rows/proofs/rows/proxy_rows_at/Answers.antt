@@ -1,15 +1,15 @@
 use Rattle.std.proofs.Common.{subst}
 use Rattle.std.proofs.lemmas.Result.{IfOk-weaker}
 use Rattle.mrt_graph.specs.Certificate.{Certificate}
-use Rattle.proxy_rows.specs.declared.words.Words.{Words}
+use Rattle.proxy_rows.specs.declared.labelled_graph.LabelledGraph.{LabelledGraph}
 use Rattle.proxy_rows.specs.ProxyRows.{AreProxyRows, AreRowsOf}
-use Rattle.proxy_rows.specs.steps.Words.{with_rows}
+use Rattle.proxy_rows.specs.steps.LabelledGraph.{with_rows}
 use Rattle.proxy_rows.proofs.AnyRows.{read_with, whole}
 use Rattle.proxy_rows.proofs.rows.proxy_rows_at.Goals as goal
 
 pub rows_by-requires : goal.rows_by-requires
 rows_by-requires g c =
-    let words : Words = record { graph = c.args.g; nodes = c.args.nodes; links = c.args.links } in
+    let words : LabelledGraph = record { graph = c.args.g; nodes = c.args.nodes; links = c.args.links } in
     record {
       read = (c.requires.read.cert.rows, read_with words c.args.at.now (g.R.RowsOf.rows c.args.rows.now) c.node_count.ensures.kept c.requires.read);
       count = c.node_count.ensures.count;
@@ -17,7 +17,7 @@ rows_by-requires g c =
 
 pub returns-clause-rows : goal.returns-clause-rows
 returns-clause-rows g c read =
-    let words : Words = record { graph = c.args.g; nodes = c.args.nodes; links = c.args.links } in
+    let words : LabelledGraph = record { graph = c.args.g; nodes = c.args.nodes; links = c.args.links } in
     let graph = c.args.g.now in
     let at = c.args.at.now in
     let rest = read.cert.rows in

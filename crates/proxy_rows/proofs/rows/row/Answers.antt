@@ -2,7 +2,7 @@ use Rattle.std.proofs.Common.{◌<◌, ◌∙◌, [], length, refl, sym, arith}
 use Rattle.std.proofs.lemmas.Bool.{eqb-false, eqb-true}
 use Rattle.mrt_graph.specs.declared.cert.Color.TheVariants.{Blue, Red}
 use Rattle.proxy_rows.specs.declared.standing.Standing.TheVariants.{Head, OnHigh, OnLow, Other, Outside}
-use Rattle.proxy_rows.specs.steps.Words.{with_rows, without_rows}
+use Rattle.proxy_rows.specs.steps.LabelledGraph.{with_rows, without_rows}
 use Rattle.proxy_rows.proofs.AnyRows.{accepted_of, row_given}
 use Rattle.proxy_rows.proofs.Grounds.{counts}
 use Rattle.proxy_rows.proofs.OutsideRows.{outside_link}

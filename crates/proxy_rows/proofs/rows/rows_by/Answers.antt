@@ -4,7 +4,7 @@ use Rattle.mrt_graph.proofs.ListPlaces.{pushed_at}
 use Rattle.proxy_rows.specs.declared.proxy_row.ProxyRow.{ProxyRow}
 use Rattle.proxy_rows.specs.declared.side.Side.TheVariants.{Low, High}
 use Rattle.proxy_rows.specs.ProxyRows.{IsProxyRow}
-use Rattle.proxy_rows.specs.steps.Words.{AreMarks, with_rows}
+use Rattle.proxy_rows.specs.steps.LabelledGraph.{AreMarks, with_rows}
 use Rattle.proxy_rows.proofs.AnyRows.{accepted_of}
 use Rattle.proxy_rows.proofs.rows.rows_by.Goals as goal
 

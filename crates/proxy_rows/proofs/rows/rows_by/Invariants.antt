@@ -2,7 +2,7 @@ use Rattle.std.proofs.Common.{◌≡◌, ◌≤◌, ℕ, List, Some, length, sli
 use Rattle.mrt_graph.specs.declared.cert.Row.{Row}
 use Rattle.proxy_rows.specs.declared.proxy_row.ProxyRow.{ProxyRow}
 use Rattle.proxy_rows.specs.ProxyRows.{IsProxyRow}
-use Rattle.proxy_rows.specs.steps.Words.{AreReadWith, with_rows}
+use Rattle.proxy_rows.specs.steps.LabelledGraph.{AreReadWith, with_rows}
 use Rattle.proxy_rows.proofs.rows.rows_by.Given as goal
 
 abbrev pub invariant-loop-s : goal.invariant-loop-s

@@ -1,7 +1,7 @@
 use Rattle.std.proofs.Common.{◌∙◌, [], sym}
 use Rattle.std.proofs.lemmas.Bool.{eqb-false, eqb-true}
 use Rattle.proxy_rows.specs.ProxyRows.{Here, Over}
-use Rattle.proxy_rows.specs.steps.Words.{without_rows}
+use Rattle.proxy_rows.specs.steps.LabelledGraph.{without_rows}
 use Rattle.proxy_rows.proofs.SideEnds.{side_end}
 use Rattle.proxy_rows.proofs.rows.side_out.Goals as goal
 

@@ -2,7 +2,7 @@ use Rattle.std.proofs.Common.{◌<◌, ◌≤◌, ℕ, Option, length, sym, ap, 
 use Rattle.std.proofs.lemmas.List.{length-map}
 use Rattle.ospf_lsa.specs.declared.lsa.Lsa.{Lsa}
 use Rattle.lsdb.specs.Installing.{IsBehind}
-use Rattle.flood_core.specs.declared.held.Held.{Held}
+use Rattle.flood_core.specs.declared.database_copy.DatabaseCopy.{DatabaseCopy}
 use Rattle.flood_core.specs.Runs.{last_number}
 use Rattle.flood_core.specs.steps.Numbers.{entries_by, entry_in}
 use Rattle.flood_core.proofs.Copies.{behind_last, copied_all, copied_more, kept_copy}
@@ -11,7 +11,7 @@ use Rattle.flood_core.proofs.store.Store.copied.Goals as goal
 
 pub copy_of-requires : goal.copy_of-requires
 copy_of-requires c =
-    all_at (λ (h : Held). h.number < length c.args.lsas.now) c.args.self.now.held.items c.loop-place.place c.index.result.now
+    all_at (λ (h : DatabaseCopy). h.number < length c.args.lsas.now) c.args.self.now.held.items c.loop-place.place c.index.result.now
     c.requires.numbers (omega arith) c.index.ensures
 
 pub install-requires-clause-kept : goal.install-requires-clause-kept

@@ -3,7 +3,7 @@ use Rattle.std.specs.List.{AllByRecursion}
 use Rattle.mrt_graph.proofs.Members.{all_append}
 use Rattle.lsdb.specs.Entries.{Database, Entry}
 use Rattle.lsdb.specs.Keys.{key_of}
-use Rattle.flood_core.specs.declared.held.Held.{Held}
+use Rattle.flood_core.specs.declared.database_copy.DatabaseCopy.{DatabaseCopy}
 use Rattle.flood_core.specs.steps.Numbers.{entries_by}
 use Rattle.flood_core.specs.steps.SharedStore.{IsSharedStore}
 use Rattle.flood_core.proofs.Numbered.{all_at, lsa_read}
@@ -22,8 +22,8 @@ meet-requires-clause-there c =
     let within = there_by lsas c.args.self.now.keys.keys c.args.self.now.held.items c.in_ok-place.place c.in_ok-place.is_new
     c.args.self.now.greatest c.args.number c.of.result is c.requires.stored.entries c.in_ok-place.ensures.added
     c.if-is_new.false c.in_ok-place.ensures.index in
-    all_at (λ (h : Held). h.number < length lsas) c.reserve.new.self.items c.in_ok-place.place c.index_mut.result.now
-    (subst (λ (hs : List Held). AllByRecursion (λ (h : Held). h.number < length lsas) hs) (sym c.reserve.ensures.items)
+    all_at (λ (h : DatabaseCopy). h.number < length lsas) c.reserve.new.self.items c.in_ok-place.place c.index_mut.result.now
+    (subst (λ (hs : List DatabaseCopy). AllByRecursion (λ (h : DatabaseCopy). h.number < length lsas) hs) (sym c.reserve.ensures.items)
     c.requires.stored.numbers)
     (omega (arith, within, ap length c.reserve.ensures.items)) c.index_mut.ensures.value
 
@@ -34,17 +34,17 @@ returns-then-is_new c =
     let new = new_by lsas c.args.self.now.keys.keys c.args.self.now.held.items c.in_ok-place.is_new c.args.self.now.greatest
     c.args.number c.args.at c.of.result c.new.result is c.requires.stored.entries c.in_ok-place.ensures.added
     c.if-is_new.true c.new.ensures in
-    let items = c.push_reserved.ensures.items ∙ ap (λ (hs : List Held). hs ++ c.new.result ∷ []) c.reserve.ensures.items in
+    let items = c.push_reserved.ensures.items ∙ ap (λ (hs : List DatabaseCopy). hs ++ c.new.result ∷ []) c.reserve.ensures.items in
     record {
       change = new.told;
       after = ap (with_greatest c.args.at) (ap (entries_by lsas) items ∙ new.turns);
       stored = record {
-        entries = subst (λ (hs : List Held). IsSharedStore c.insert_full.new.self.keys (entries_by lsas hs) (Some c.args.at)) (sym items)
+        entries = subst (λ (hs : List DatabaseCopy). IsSharedStore c.insert_full.new.self.keys (entries_by lsas hs) (Some c.args.at)) (sym items)
             (new.kept c.insert_full.new.self.keys c.args.self.now.greatest c.requires.stored.entries c.in_ok-place.ensures.keys
             c.requires.behind c.requires.small c.requires.kept);
-        numbers = subst (λ (hs : List Held). AllByRecursion (λ (h : Held). h.number < length lsas) hs) (sym items)
-            (all_append (λ (h : Held). h.number < length lsas) c.args.self.now.held.items (c.new.result ∷ [])
-            c.requires.stored.numbers (subst (λ (h : Held). h.number < length lsas) (sym c.new.ensures) c.requires.number, tt));
+        numbers = subst (λ (hs : List DatabaseCopy). AllByRecursion (λ (h : DatabaseCopy). h.number < length lsas) hs) (sym items)
+            (all_append (λ (h : DatabaseCopy). h.number < length lsas) c.args.self.now.held.items (c.new.result ∷ [])
+            c.requires.stored.numbers (subst (λ (h : DatabaseCopy). h.number < length lsas) (sym c.new.ensures) c.requires.number, tt));
       };
     }
 
@@ -66,8 +66,8 @@ returns c =
       stored = record {
         entries = met.kept c.insert_full.new.self.keys c.args.self.now.greatest c.requires.stored.entries
             c.in_ok-place.ensures.keys c.requires.behind c.requires.kept;
-        numbers = all_set (λ (h : Held). h.number < length lsas) c.reserve.new.self.items c.in_ok-place.place c.meet.new.self
-            (subst (λ (hs : List Held). AllByRecursion (λ (h : Held). h.number < length lsas) hs) (sym c.reserve.ensures.items)
+        numbers = all_set (λ (h : DatabaseCopy). h.number < length lsas) c.reserve.new.self.items c.in_ok-place.place c.meet.new.self
+            (subst (λ (hs : List DatabaseCopy). AllByRecursion (λ (h : DatabaseCopy). h.number < length lsas) hs) (sym c.reserve.ensures.items)
             c.requires.stored.numbers)
             c.meet.ensures.within;
       };

@@ -4,20 +4,20 @@ use Rattle.std.proofs.lemmas.Bool.{cases_Bool, cases_eq, false≢true}
 use Rattle.std.proofs.lemmas.List.{with_items_is}
 use Rattle.std.proofs.lemmas.Option.{same_Some, slice_get-get_or}
 use Rattle.mrt_graph.proofs.EndsAt.{list_of_ends}
-use Rattle.inc_dec_spf.specs.steps.Aiming.{HaveOwnWays}
+use Rattle.inc_dec_spf.specs.steps.Aiming.{HaveOwnPaths}
 use Rattle.inc_dec_spf.specs.Aiming.{IsAiming}
 use Rattle.inc_dec_spf.specs.FirstLink.{HasLinksAt}
 use Rattle.inc_dec_spf.specs.steps.Side.{AreCosts, IsRowPut}
 use Rattle.inc_dec_spf.specs.TileEntries.{TileEntries}
-use Rattle.inc_dec_spf.specs.steps.Ways.{AreLeast, AreReady}
+use Rattle.inc_dec_spf.specs.steps.PathsOverEnds.{AreLeast, AreReady}
 use Rattle.link_direction.proofs.ClosedBlocks.{IsOrdered}
 use Rattle.inc_dec_spf.proofs.FirstLinks.{links_kept, links_stay}
 use Rattle.inc_dec_spf.proofs.OwnWays.{all_ready}
 use Rattle.inc_dec_spf.proofs.tile.Tile.aim.Goals as goal
 use Rattle.inc_dec_spf.proofs.tile.Tile.aim.Goals.{then-heads-n, else-heads-n}
 
-pub take_own_ways-requires-clause-aiming : goal.take_own_ways-requires-clause-aiming
-take_own_ways-requires-clause-aiming c =
+pub take_own_paths-requires-clause-aiming : goal.take_own_paths-requires-clause-aiming
+take_own_paths-requires-clause-aiming c =
     subst (λ (n : ℕ). IsAiming c.args.aiming.now n)
     (sym (ap (λ (xs : List ℕ). length xs) c.deref_mut-3.ensures.value ∙ ap (λ (e : TileEntries). e.width) c.self.view_is)) c.requires.aiming
 
@@ -29,27 +29,27 @@ loop-n-init c =
     let width = c.args.self.now.width in
     let view_width = ap (λ (e : TileEntries). e.width) c.self.view_is in
     let wide : many ≡ width = ap (λ (xs : List ℕ). length xs) c.deref_mut-3.ensures.value ∙ view_width in
-    let all_costs = with_items_is tile.all_costs c.take_own_ways.new.all_costs (c.take_own_ways.auto.all_costs ∙ c.deref_mut.ensures.len) in
-    let all_links = with_items_is tile.all_links c.take_own_ways.new.all_links (c.take_own_ways.auto.all_links ∙ c.deref_mut-2.ensures.len) in
-    let costs = with_items_is tile.costs c.take_own_ways.new.costs (c.take_own_ways.auto.costs ∙ c.deref_mut-3.ensures.len) in
-    let links = with_items_is tile.links c.take_own_ways.new.links (c.take_own_ways.auto.links ∙ c.deref_mut-4.ensures.len) in
-    let costs_now = (with_items tile.all_costs c.take_own_ways.new.all_costs).items in
-    let links_now = (with_items tile.all_links c.take_own_ways.new.all_links).items in
-    let own : HaveOwnWays aiming width costs_now links_now = subst (λ (n : ℕ). HaveOwnWays aiming n costs_now links_now) wide
-    (subst (λ (xs : List ℕ). HaveOwnWays aiming many xs links_now) (sym all_costs)
-    (subst (λ (ys : List ℕ). HaveOwnWays aiming many c.take_own_ways.new.all_costs ys) (sym all_links) c.take_own_ways.ensures.own)) in
-    let cost_room = ap (λ (xs : List ℕ). length xs) costs ∙ c.take_own_ways.auto.costs ∙ ap (λ (xs : List ℕ). length xs) c.deref_mut-3.ensures.value in
-    let link_room = ap (λ (xs : List ℕ). length xs) links ∙ c.take_own_ways.auto.links ∙ ap (λ (xs : List ℕ). length xs) c.deref_mut-4.ensures.value in
+    let all_costs = with_items_is tile.all_costs c.take_own_paths.new.all_costs (c.take_own_paths.auto.all_costs ∙ c.deref_mut.ensures.len) in
+    let all_links = with_items_is tile.all_links c.take_own_paths.new.all_links (c.take_own_paths.auto.all_links ∙ c.deref_mut-2.ensures.len) in
+    let costs = with_items_is tile.costs c.take_own_paths.new.costs (c.take_own_paths.auto.costs ∙ c.deref_mut-3.ensures.len) in
+    let links = with_items_is tile.links c.take_own_paths.new.links (c.take_own_paths.auto.links ∙ c.deref_mut-4.ensures.len) in
+    let costs_now = (with_items tile.all_costs c.take_own_paths.new.all_costs).items in
+    let links_now = (with_items tile.all_links c.take_own_paths.new.all_links).items in
+    let own : HaveOwnPaths aiming width costs_now links_now = subst (λ (n : ℕ). HaveOwnPaths aiming n costs_now links_now) wide
+    (subst (λ (xs : List ℕ). HaveOwnPaths aiming many xs links_now) (sym all_costs)
+    (subst (λ (ys : List ℕ). HaveOwnPaths aiming many c.take_own_paths.new.all_costs ys) (sym all_links) c.take_own_paths.ensures.own)) in
+    let cost_room = ap (λ (xs : List ℕ). length xs) costs ∙ c.take_own_paths.auto.costs ∙ ap (λ (xs : List ℕ). length xs) c.deref_mut-3.ensures.value in
+    let link_room = ap (λ (xs : List ℕ). length xs) links ∙ c.take_own_paths.auto.links ∙ ap (λ (xs : List ℕ). length xs) c.deref_mut-4.ensures.value in
     let wider = ap (λ (m : ℕ). tile.nodes * m) (sym cost_room) in
     record {
       nodes = ap (λ (e : TileEntries). e.nodes) c.self.view_is;
       width = cost_room ∙ view_width;
       kept = record {
-        one_cost_each = ap (λ (xs : List ℕ). length xs) all_costs ∙ c.take_own_ways.auto.all_costs ∙ ap (λ (xs : List ℕ). length xs) c.deref_mut.ensures.value
+        one_cost_each = ap (λ (xs : List ℕ). length xs) all_costs ∙ c.take_own_paths.auto.all_costs ∙ ap (λ (xs : List ℕ). length xs) c.deref_mut.ensures.value
             ∙ c.self.invariant.one_cost_each ∙ wider;
-        one_link_each = ap (λ (xs : List ℕ). length xs) all_links ∙ c.take_own_ways.auto.all_links ∙ ap (λ (xs : List ℕ). length xs) c.deref_mut-2.ensures.value
+        one_link_each = ap (λ (xs : List ℕ). length xs) all_links ∙ c.take_own_paths.auto.all_links ∙ ap (λ (xs : List ℕ). length xs) c.deref_mut-2.ensures.value
             ∙ c.self.invariant.one_link_each ∙ wider;
-        most = subst AreCosts (sym all_costs) c.take_own_ways.ensures.rows.most;
+        most = subst AreCosts (sym all_costs) c.take_own_paths.ensures.rows.most;
         one_place_each = link_room ∙ c.self.invariant.one_place_each ∙ sym cost_room;
       };
       own = own;
@@ -59,8 +59,8 @@ loop-n-init c =
       ];
     }
 
-pub take_ways-requires-clause-aiming : goal.take_ways-requires-clause-aiming
-take_ways-requires-clause-aiming c =
+pub take_paths-requires-clause-aiming : goal.take_paths-requires-clause-aiming
+take_paths-requires-clause-aiming c =
     subst (λ (n : ℕ). IsAiming c.args.aiming.now n)
     (sym (ap (λ (xs : List ℕ). length xs) c.deref_mut-then-heads-n.ensures.value ∙ c.loop-n.invariant.width)) c.requires.aiming
 
@@ -78,17 +78,17 @@ loop-n-preserved c =
           let s = t.new-s.result in
           let all = t.keep.new.all in
           let wide = ap (λ (xs : List ℕ). length xs) t.deref_mut-then-heads-n.ensures.value ∙ before.width in
-          let many = t.take_ways.auto.links ∙ ap (λ (xs : List ℕ). length xs) t.deref_mut-then-heads-n-2.ensures.value ∙ before.kept.one_place_each ∙ before.width in
-          let links = with_items_is tile.links t.take_ways.new.links (t.take_ways.auto.links ∙ t.deref_mut-then-heads-n-2.ensures.len) in
+          let many = t.take_paths.auto.links ∙ ap (λ (xs : List ℕ). length xs) t.deref_mut-then-heads-n-2.ensures.value ∙ before.kept.one_place_each ∙ before.width in
+          let links = with_items_is tile.links t.take_paths.new.links (t.take_paths.auto.links ∙ t.deref_mut-then-heads-n-2.ensures.len) in
           let all_links = with_items_is tile.all_links all (t.keep.auto.all ∙ t.deref_mut-then-heads-n-3.ensures.len) in
-          let put = subst (λ (xs : List ℕ). IsRowPut s width (λ j. slice_index t.take_ways.new.links j) xs all) t.deref_mut-then-heads-n-3.ensures.value
-          (subst (λ (m : ℕ). IsRowPut s m (λ j. slice_index t.take_ways.new.links j) t.deref_mut-then-heads-n-3.result.now all) many
+          let put = subst (λ (xs : List ℕ). IsRowPut s width (λ j. slice_index t.take_paths.new.links j) xs all) t.deref_mut-then-heads-n-3.ensures.value
+          (subst (λ (m : ℕ). IsRowPut s m (λ j. slice_index t.take_paths.new.links j) t.deref_mut-then-heads-n-3.result.now all) many
           (subst (λ (xs : List ℕ). IsRowPut s (length xs) (λ j. slice_index xs j) t.deref_mut-then-heads-n-3.result.now all)
           (t.deref-then-heads-n.ensures.value ∙ links) t.keep.ensures)) in
           let s_within : s < length g.ids = omega (arith, t.new-s.ensures, c.loop-n-test.true, c.node_count-n-end.ensures.count) in
-          let costs = with_items_is tile.costs t.take_ways.new.costs (t.take_ways.auto.costs ∙ t.deref_mut-then-heads-n.ensures.len) in
-          let cost_room = ap (λ (xs : List ℕ). length xs) costs ∙ t.take_ways.auto.costs ∙ ap (λ (xs : List ℕ). length xs) t.deref_mut-then-heads-n.ensures.value in
-          let link_room = ap (λ (xs : List ℕ). length xs) links ∙ t.take_ways.auto.links ∙ ap (λ (xs : List ℕ). length xs) t.deref_mut-then-heads-n-2.ensures.value in
+          let costs = with_items_is tile.costs t.take_paths.new.costs (t.take_paths.auto.costs ∙ t.deref_mut-then-heads-n.ensures.len) in
+          let cost_room = ap (λ (xs : List ℕ). length xs) costs ∙ t.take_paths.auto.costs ∙ ap (λ (xs : List ℕ). length xs) t.deref_mut-then-heads-n.ensures.value in
+          let link_room = ap (λ (xs : List ℕ). length xs) links ∙ t.take_paths.auto.links ∙ ap (λ (xs : List ℕ). length xs) t.deref_mut-then-heads-n-2.ensures.value in
           let wider = ap (λ (m : ℕ). tile.nodes * m) (sym cost_room) in
           rw (t.self-inside-is) (record {
             nodes = before.nodes;
@@ -110,12 +110,12 @@ loop-n-preserved c =
                       let ready_now = subst (λ (m : ℕ). AreReady aiming w false m t.deref.result.now s) (sym wide)
                       (subst (λ (xs : List ℕ). AreReady aiming w false width xs s) (sym t.deref.ensures.value) ready) in
                       subst (λ (v : ℕ). HasLinksAt g w aiming.wanted.now aiming.dir aiming.aims.now width all v) (sym same)
-                      (links_kept aiming root w is false s width ends.0 t.take_ways.new.costs t.take_ways.new.links tile.all_links.items all s_within ends.1
+                      (links_kept aiming root w is false s width ends.0 t.take_paths.new.costs t.take_paths.new.links tile.all_links.items all s_within ends.1
                       (λ u k h inside share own. absurd (false≢true own))
-                      (subst (λ (m : ℕ). AreLeast aiming w false m s ends.0 (length ends.0) t.take_ways.new.costs t.take_ways.new.links) wide
-                      (t.take_ways.ensures.least root w ends.0 are ready_now ends.1)) put)
+                      (subst (λ (m : ℕ). AreLeast aiming w false m s ends.0 (length ends.0) t.take_paths.new.costs t.take_paths.new.links) wide
+                      (t.take_paths.ensures.least root w ends.0 are ready_now ends.1)) put)
                   | inr other ↦
-                      links_stay g w aiming.wanted.now aiming.dir aiming.aims.now width y s (λ j. slice_index t.take_ways.new.links j) tile.all_links.items all other put
+                      links_stay g w aiming.wanted.now aiming.dir aiming.aims.now width y s (λ j. slice_index t.take_paths.new.links j) tile.all_links.items all other put
                       (before.linked root y w are within (elim at [
                         | inl one ↦ inl one
                         | inr early ↦ inr (omega (arith, early.0, other, t.new-s.ensures), early.1)

@@ -1,7 +1,7 @@
 use Rattle.std.proofs.Common.{◌∙◌, ℕ, List, Option, length, sym, ap, subst}
 use Rattle.std.proofs.lemmas.List.{with_items_is}
 use Rattle.mrt_rows.specs.Chain.{AreBelow}
-use Rattle.mrt_rows.specs.steps.Said.{words_of}
+use Rattle.mrt_rows.specs.steps.ListedDirections.{directions_by}
 use Rattle.mrt_rows.proofs.HeldColumns.{climbed}
 use Rattle.mrt_rows.proofs.column.Columns.aim.Goals as goal
 
@@ -16,8 +16,8 @@ returns-clause-aimed c =
     record {
       rooted = c.requires.rooted;
       within = c.requires.to;
-      held = climbed rooted.graph.now rooted.root (words_of rooted) held _ (ap (λ (xs : List (Option ℕ)). length xs) same ∙ c.put_below.ensures.one_each)
+      held = climbed rooted.graph.now rooted.root (directions_by rooted) held _ (ap (λ (xs : List (Option ℕ)). length xs) same ∙ c.put_below.ensures.one_each)
           c.place_for-at.ensures.held;
-      below = subst (λ (xs : List (Option ℕ)). AreBelow rooted.graph.now rooted.root (words_of rooted) c.args.to xs) (sym same) c.put_below.ensures;
+      below = subst (λ (xs : List (Option ℕ)). AreBelow rooted.graph.now rooted.root (directions_by rooted) c.args.to xs) (sym same) c.put_below.ensures;
       place = c.place_for-at.ensures.place;
     }

@@ -3,7 +3,7 @@ use Rattle.std.proofs.lemmas.Option.{get_or_from_slice_get, slice_get-get_or, sl
 use Rattle.inc_dec_spf.specs.BlockAims.{aim_at}
 use Rattle.inc_dec_spf.proofs.SideBySide.{row_within}
 use Rattle.mrt_rows.specs.steps.Chain.{IsRowAim, Under}
-use Rattle.mrt_rows.specs.steps.Said.{words_of}
+use Rattle.mrt_rows.specs.steps.ListedDirections.{directions_by}
 use Rattle.mrt_rows.proofs.AimsOfRows.{block_aim}
 use Rattle.mrt_rows.proofs.Rooting.{og_of}
 use Rattle.mrt_rows.proofs.column.Columns.aim_of.Goals as goal
@@ -69,7 +69,7 @@ pub returns : goal.returns
 returns c =
     let rooted = c.args.rooted.now in
     let g = rooted.graph.now in
-    let w = words_of rooted in
+    let w = directions_by rooted in
     let s = c.args.s in
     let to = c.args.to in
     let columns = c.args.self.now in

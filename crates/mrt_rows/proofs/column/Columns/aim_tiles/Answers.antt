@@ -5,7 +5,7 @@ use Rattle.inc_dec_spf.specs.declared.reach.Dir.TheVariants.{Down, Up}
 use Rattle.inc_dec_spf.specs.Turns.{AreTurns}
 use Rattle.mrt_rows.specs.NearOf.{AreSoles}
 use Rattle.mrt_rows.specs.Put.{AreHeadsMarked}
-use Rattle.mrt_rows.specs.steps.Said.{words_of}
+use Rattle.mrt_rows.specs.steps.ListedDirections.{directions_by}
 use Rattle.mrt_rows.proofs.HeldColumns.{aims_moved, shared_moved}
 use Rattle.mrt_rows.proofs.column.Columns.aim_tiles.Goals as goal
 
@@ -14,7 +14,7 @@ as_one a n m one many = omega arith
 
 pub put_ways-requires-clause-soles : goal.put_ways-requires-clause-soles
 put_ways-requires-clause-soles c =
-    subst (λ (xs : List ℕ). AreSoles c.args.rooted.now.graph.now (words_of c.args.rooted.now) xs) (sym c.deref.ensures.value) c.requires.held.common.soles
+    subst (λ (xs : List ℕ). AreSoles c.args.rooted.now.graph.now (directions_by c.args.rooted.now) xs) (sym c.deref.ensures.value) c.requires.held.common.soles
 
 pub put_ways-requires-clause-within : goal.put_ways-requires-clause-within
 put_ways-requires-clause-within c = λ j t at. c.requires.within j t (subst (λ (ts : List ℕ). slice_get ts j ≡ Some t) c.deref-2.ensures.value at)
@@ -30,12 +30,12 @@ put_ways-requires-clause-a_mark_each c = ap (λ (bs : List Bool). length bs) c.d
 pub aim-requires-clause-by_order : goal.aim-requires-clause-by_order
 aim-requires-clause-by_order c =
     let rooted = c.args.rooted.now in
-    subst (λ (turns : List ℕ). AreTurns rooted.graph.now (words_of rooted) Up turns) (sym c.deref-4.ensures.value) c.requires.held.common.by_order
+    subst (λ (turns : List ℕ). AreTurns rooted.graph.now (directions_by rooted) Up turns) (sym c.deref-4.ensures.value) c.requires.held.common.by_order
 
 pub aim-requires-clause-against_order : goal.aim-requires-clause-against_order
 aim-requires-clause-against_order c =
     let rooted = c.args.rooted.now in
-    subst (λ (turns : List ℕ). AreTurns rooted.graph.now (words_of rooted) Down turns) (sym c.deref-5.ensures.value) c.requires.held.common.against_order
+    subst (λ (turns : List ℕ). AreTurns rooted.graph.now (directions_by rooted) Down turns) (sym c.deref-5.ensures.value) c.requires.held.common.against_order
 
 pub aim-requires-clause-a_mark_each : goal.aim-requires-clause-a_mark_each
 aim-requires-clause-a_mark_each c = ap (λ (bs : List Bool). length bs) c.deref-6.ensures.value ∙ c.requires.held.common.a_mark_each
@@ -43,17 +43,17 @@ aim-requires-clause-a_mark_each c = ap (λ (bs : List Bool). length bs) c.deref-
 pub aim-requires-clause-heads : goal.aim-requires-clause-heads
 aim-requires-clause-heads c =
     let rooted = c.args.rooted.now in
-    subst (λ (hs : List Bool). AreHeadsMarked rooted.graph.now (words_of rooted) hs) (sym c.deref-6.ensures.value) c.requires.held.common.marked
+    subst (λ (hs : List Bool). AreHeadsMarked rooted.graph.now (directions_by rooted) hs) (sym c.deref-6.ensures.value) c.requires.held.common.marked
 
 pub aim-requires-2-clause-by_order : goal.aim-requires-2-clause-by_order
 aim-requires-2-clause-by_order c =
     let rooted = c.args.rooted.now in
-    subst (λ (turns : List ℕ). AreTurns rooted.graph.now (words_of rooted) Up turns) (sym c.deref-7.ensures.value) c.requires.held.common.by_order
+    subst (λ (turns : List ℕ). AreTurns rooted.graph.now (directions_by rooted) Up turns) (sym c.deref-7.ensures.value) c.requires.held.common.by_order
 
 pub aim-requires-2-clause-against_order : goal.aim-requires-2-clause-against_order
 aim-requires-2-clause-against_order c =
     let rooted = c.args.rooted.now in
-    subst (λ (turns : List ℕ). AreTurns rooted.graph.now (words_of rooted) Down turns) (sym c.deref-8.ensures.value) c.requires.held.common.against_order
+    subst (λ (turns : List ℕ). AreTurns rooted.graph.now (directions_by rooted) Down turns) (sym c.deref-8.ensures.value) c.requires.held.common.against_order
 
 pub aim-requires-2-clause-a_mark_each : goal.aim-requires-2-clause-a_mark_each
 aim-requires-2-clause-a_mark_each c = ap (λ (bs : List Bool). length bs) c.deref-9.ensures.value ∙ c.requires.held.common.a_mark_each
@@ -61,7 +61,7 @@ aim-requires-2-clause-a_mark_each c = ap (λ (bs : List Bool). length bs) c.dere
 pub aim-requires-2-clause-heads : goal.aim-requires-2-clause-heads
 aim-requires-2-clause-heads c =
     let rooted = c.args.rooted.now in
-    subst (λ (hs : List Bool). AreHeadsMarked rooted.graph.now (words_of rooted) hs) (sym c.deref-9.ensures.value) c.requires.held.common.marked
+    subst (λ (hs : List Bool). AreHeadsMarked rooted.graph.now (directions_by rooted) hs) (sym c.deref-9.ensures.value) c.requires.held.common.marked
 
 pub take_shared-requires-clause-some : goal.take_shared-requires-clause-some
 take_shared-requires-clause-some c = subst (λ (n : ℕ). 0 < n) (sym (c.len.ensures ∙ c.args.self.now.targets.ok.0)) c.requires.held.some_places
@@ -129,7 +129,7 @@ pub returns-clause-held : goal.returns-clause-held
 returns-clause-held c =
     let rooted = c.args.rooted.now in
     let g = rooted.graph.now in
-    let w = words_of rooted in
+    let w = directions_by rooted in
     let held = c.requires.held in
     let columns = c.args.self.now in
     let marks = c.put_ways.new.marks in

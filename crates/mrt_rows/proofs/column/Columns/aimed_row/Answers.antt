@@ -2,7 +2,7 @@ use Rattle.std.proofs.Common.{◌≡◌, ◌≢◌, ◌∙◌, ℕ, Some, sym, a
 use Rattle.std.proofs.lemmas.Bool.{eqb-false, eqb-true}
 use Rattle.mrt_rows.specs.steps.NearOf.{IsNearRow}
 use Rattle.mrt_rows.specs.Put.{AreFirstLinks}
-use Rattle.mrt_rows.specs.steps.Said.{words_of}
+use Rattle.mrt_rows.specs.steps.ListedDirections.{directions_by}
 use Rattle.mrt_rows.proofs.ChainAims.{aim_apart, aim_within}
 use Rattle.mrt_rows.proofs.Rooting.{og_of}
 use Rattle.mrt_rows.proofs.column.Columns.aimed_row.Goals as goal
@@ -12,7 +12,7 @@ returns-then-eq c =
     let rooted = c.args.rooted.now in
     let g = rooted.graph.now in
     let root = rooted.root in
-    let w = words_of rooted in
+    let w = directions_by rooted in
     let og = og_of c.requires.aimed.rooted in
     let s = c.args.s in
     let source = c.source-source.ensures.source in
@@ -45,7 +45,7 @@ row-requires-clause-two c = λ same.
 
 pub links_to-links-requires-clause-away : goal.links_to-links-requires-clause-away
 links_to-links-requires-clause-away c = λ same.
-    let w = words_of c.args.rooted.now in
+    let w = directions_by c.args.rooted.now in
     let source = c.source-source.ensures.source in
     eqb-false c.source-source.result.place.head c.args.aim (sym c.eq.ensures ∙ c.if-eq.false)
     (source.place.head ∙ ap w.head c.source-source.ensures.node ∙ same)
@@ -53,9 +53,9 @@ links_to-links-requires-clause-away c = λ same.
 pub row-requires-clause-links : goal.row-requires-clause-links
 row-requires-clause-links c =
     let rooted = c.args.rooted.now in
-    subst (λ (v : ℕ). AreFirstLinks rooted.graph.now (words_of rooted) v c.args.aim c.links_to-links.result) (sym c.source-source.ensures.node) c.links_to-links.ensures
+    subst (λ (v : ℕ). AreFirstLinks rooted.graph.now (directions_by rooted) v c.args.aim c.links_to-links.result) (sym c.source-source.ensures.node) c.links_to-links.ensures
 
 pub returns : goal.returns
 returns c =
     let rooted = c.args.rooted.now in
-    subst (λ (v : ℕ). IsNearRow rooted.graph.now rooted.root (words_of rooted) v c.args.aim c.row.result) c.source-source.ensures.node c.row.ensures
+    subst (λ (v : ℕ). IsNearRow rooted.graph.now rooted.root (directions_by rooted) v c.args.aim c.row.result) c.source-source.ensures.node c.row.ensures

@@ -1,7 +1,7 @@
 use Rattle.std.proofs.Common.{◌≡◌, ◌<◌, ◌∙◌, ℕ, List, Some, length, slice_get, sym, ap, subst}
 use Rattle.std.specs.Prelude.{IfSome}
 use Rattle.std.proofs.lemmas.List.{with_items_is}
-use Rattle.mrt_rows.specs.steps.Said.{words_of}
+use Rattle.mrt_rows.specs.steps.ListedDirections.{directions_by}
 use Rattle.mrt_rows.proofs.HeldColumns.{retargeted}
 use Rattle.mrt_rows.proofs.column.Columns.place_for.Goals as goal
 
@@ -22,7 +22,7 @@ pub aim_tiles-requires-clause-held : goal.aim_tiles-requires-clause-held
 aim_tiles-requires-clause-held c =
     let rooted = c.args.rooted.now in
     let same = with_items_is c.args.self.now.targets c.take_next.new.targets (c.take_next.ensures.one_each ∙ c.deref_mut.ensures.len) in
-    retargeted rooted.graph.now rooted.root (words_of rooted) c.args.self.now _
+    retargeted rooted.graph.now rooted.root (directions_by rooted) c.args.self.now _
     (ap (λ (xs : List ℕ). length xs) same ∙ c.take_next.ensures.one_each ∙ ap (λ (xs : List ℕ). length xs) c.deref_mut.ensures.value)
     c.requires.held
 

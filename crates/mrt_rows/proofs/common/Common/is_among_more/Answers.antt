@@ -1,7 +1,7 @@
 use Rattle.std.proofs.Common.{◌≡◌, ◌∙◌, ℕ, Bool, false, get_or, length, refl, subst, arith}
 use Rattle.std.proofs.lemmas.Bool.{eqb-false}
 use Rattle.std.proofs.lemmas.Option.{slice_get_read}
-use Rattle.mrt_rows.specs.steps.Said.{words_of}
+use Rattle.mrt_rows.specs.steps.ListedDirections.{directions_by}
 use Rattle.mrt_rows.proofs.MarkedHeads.{none_among_more}
 use Rattle.mrt_rows.proofs.SoleRows.{sole_at}
 use Rattle.mrt_rows.proofs.common.Common.is_among_more.Goals as goal
@@ -15,7 +15,7 @@ index-requires-2 c = omega (arith, c.args.self.now.soles.small, c.get-at.ensures
 pub returns : goal.returns
 returns c = λ some t t_within shares.
     let g = c.args.rooted.now.graph.now in
-    let w = words_of c.args.rooted.now in
+    let w = directions_by c.args.rooted.now in
     let common = c.requires.common in
     let bare = slice_get_read c.args.self.now.heads.items (length c.args.self.now.heads.items) c.args.s false refl
     (omega (arith, c.requires.node, common.a_mark_each))

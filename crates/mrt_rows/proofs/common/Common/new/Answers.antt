@@ -4,7 +4,7 @@ use Rattle.inc_dec_spf.specs.declared.reach.Dir.TheVariants.{Down, Up}
 use Rattle.inc_dec_spf.specs.Turns.{AreTurns}
 use Rattle.mrt_rows.specs.NearOf.{AreSoles}
 use Rattle.mrt_rows.specs.Put.{AreHeadsMarked}
-use Rattle.mrt_rows.specs.steps.Said.{words_of}
+use Rattle.mrt_rows.specs.steps.ListedDirections.{directions_by}
 use Rattle.mrt_rows.proofs.Rooting.{are_directions, has_directions}
 use Rattle.mrt_rows.proofs.common.Common.new.Goals as goal
 
@@ -18,7 +18,7 @@ pub homes_of-requires : goal.homes_of-requires
 homes_of-requires c =
     let rooted = c.args.rooted.now in
     let g = rooted.graph.now in
-    let w = words_of rooted in
+    let w = directions_by rooted in
     let are = are_directions c.requires in
     let heads = sym (c.deref-3.ensures.value ∙ with_items_is c.in_ok-heads.heads c.take_soles.new.heads (c.take_soles.auto.heads ∙ c.deref_mut-2.ensures.len)) in
     record {
@@ -33,7 +33,7 @@ pub returns : goal.returns
 returns c =
     let rooted = c.args.rooted.now in
     let g = rooted.graph.now in
-    let w = words_of rooted in
+    let w = directions_by rooted in
     let are = are_directions c.requires in
     let heads = with_items_is c.in_ok-heads.heads c.take_soles.new.heads (c.take_soles.auto.heads ∙ c.deref_mut-2.ensures.len) in
     let soles = with_items_is c.in_ok-soles.soles c.take_soles.new.soles (c.take_soles.auto.soles ∙ c.deref_mut.ensures.len) in

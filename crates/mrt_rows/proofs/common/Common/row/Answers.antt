@@ -1,7 +1,7 @@
 use Rattle.std.proofs.Common.{ℕ, Some, subst, arith}
 use Rattle.link_direction.proofs.TwoNodes.{Relates}
 use Rattle.mrt_rows.specs.steps.NearOf.{Apart, IsNearRow}
-use Rattle.mrt_rows.specs.steps.Said.{words_of}
+use Rattle.mrt_rows.specs.steps.ListedDirections.{directions_by}
 use Rattle.mrt_rows.proofs.LinesHold.{has_head}
 use Rattle.mrt_rows.proofs.Rooting.{og_of}
 use Rattle.mrt_rows.proofs.RowOver.{over_peers, over_top, relates_by}
@@ -13,7 +13,7 @@ index-requires c = omega (arith, c.args.self.now.soles.small, c.get.ensures.valu
 
 pub returns-in-OneBlock : goal.returns-in-OneBlock
 returns-in-OneBlock c =
-    let w = words_of c.args.rooted.now in
+    let w = directions_by c.args.rooted.now in
     let source = c.args.source.now in
     let is = subst (Relates w source.node c.args.t) c.in-OneBlock.is (relates_by w source.node c.args.t source.place c.requires.relation.0
     c.requires.source.place c.requires.relation.1 c.args.relation c.requires.relation.2) in
@@ -23,7 +23,7 @@ returns-in-OneBlock c =
 pub returns-in-ToHead : goal.returns-in-ToHead
 returns-in-ToHead c =
     let rooted = c.args.rooted.now in
-    let w = words_of rooted in
+    let w = directions_by rooted in
     let source = c.args.source.now in
     let og = og_of c.requires.rooted in
     let is = subst (Relates w source.node c.args.t) c.in-ToHead.is (relates_by w source.node c.args.t source.place c.requires.relation.0
@@ -34,7 +34,7 @@ returns-in-ToHead c =
 pub returns-in-FromHead : goal.returns-in-FromHead
 returns-in-FromHead c =
     let rooted = c.args.rooted.now in
-    let w = words_of rooted in
+    let w = directions_by rooted in
     let source = c.args.source.now in
     let is = subst (Relates w source.node c.args.t) c.in-FromHead.is (relates_by w source.node c.args.t source.place c.requires.relation.0
     c.requires.source.place c.requires.relation.1 c.args.relation c.requires.relation.2) in
@@ -46,7 +46,7 @@ returns-in-FromHead c =
 
 pub returns-in-Apart : goal.returns-in-Apart
 returns-in-Apart c =
-    let w = words_of c.args.rooted.now in
+    let w = directions_by c.args.rooted.now in
     let source = c.args.source.now in
     Apart (subst (Relates w source.node c.args.t) c.in-Apart.is (relates_by w source.node c.args.t source.place c.requires.relation.0
     c.requires.source.place c.requires.relation.1 c.args.relation c.requires.relation.2))

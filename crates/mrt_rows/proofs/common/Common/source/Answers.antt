@@ -1,5 +1,5 @@
 use Rattle.std.proofs.Common.{arith}
-use Rattle.mrt_rows.specs.steps.Said.{words_of}
+use Rattle.mrt_rows.specs.steps.ListedDirections.{directions_by}
 use Rattle.mrt_rows.proofs.SoleRows.{sole_at}
 use Rattle.mrt_rows.proofs.TileLinks.{have_place}
 use Rattle.mrt_rows.proofs.common.Common.source.Goals as goal
@@ -14,7 +14,7 @@ pub returns-clause-source : goal.returns-clause-source
 returns-clause-source c =
     let rooted = c.args.rooted.now in
     let g = rooted.graph.now in
-    let w = words_of rooted in
+    let w = directions_by rooted in
     let s = c.args.s in
     let common = c.requires.common in
     record {

@@ -5,7 +5,7 @@ use Rattle.mrt_rows.specs.CertOf.{IsCertOf}
 use Rattle.mrt_rows.specs.ColumnOf.{HasRowsFor}
 use Rattle.mrt_rows.specs.Rooted.{AreAimedAt}
 use Rattle.mrt_rows.specs.RootedParts.{RootedParts}
-use Rattle.mrt_rows.specs.Said.{directions_of}
+use Rattle.mrt_rows.specs.ListedDirections.{directions_of}
 use Rattle.mrt_rows.proofs.rooted.RootedColumns.column.Goals as goal
 
 pub new-requires : goal.new-requires

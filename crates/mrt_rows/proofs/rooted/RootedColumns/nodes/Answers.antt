@@ -2,7 +2,7 @@ use Rattle.std.proofs.Common.{sym, subst}
 use Rattle.mrt_rows.specs.CertOf.{IsCertOf}
 use Rattle.mrt_rows.specs.Rooted.{MakeColumns}
 use Rattle.mrt_rows.specs.RootedParts.{RootedParts}
-use Rattle.mrt_rows.specs.Said.{directions_of}
+use Rattle.mrt_rows.specs.ListedDirections.{directions_of}
 use Rattle.mrt_rows.proofs.OneCert.{one_node_words}
 use Rattle.mrt_rows.proofs.SourceCert.{told_by}
 use Rattle.mrt_rows.proofs.rooted.RootedColumns.nodes.Goals as goal

@@ -3,7 +3,7 @@ use Rattle.std.proofs.lemmas.List.{with_items_is}
 use Rattle.mrt_graph.specs.declared.cert.Row.{Row}
 use Rattle.mrt_graph.specs.Certificate.{row_of}
 use Rattle.mrt_rows.specs.CertOf.{IsCertOf}
-use Rattle.mrt_rows.specs.Making.{MakeRows}
+use Rattle.mrt_rows.specs.RowMaker.{MakeRows}
 use Rattle.mrt_rows.specs.steps.NearOf.{near_first}
 use Rattle.mrt_rows.specs.RowsFound.{RowsFound}
 use Rattle.mrt_rows.proofs.NearSection.{all_near, none_for_itself}
@@ -14,7 +14,7 @@ pub open_for-requires-clause-rooted : goal.open_for-requires-clause-rooted
 open_for-requires-clause-rooted c = (subst (λ (rows : RowsFound). MakeRows c.args.g.now rows) (sym c.self.view_is) c.requires.made).rooted
 
 pub open_for-requires-clause-made : goal.open_for-requires-clause-made
-open_for-requires-clause-made c = (subst (λ (rows : RowsFound). MakeRows c.args.g.now rows) (sym c.self.view_is) c.requires.made).making
+open_for-requires-clause-made c = (subst (λ (rows : RowsFound). MakeRows c.args.g.now rows) (sym c.self.view_is) c.requires.made).maker
 
 pub put_near_rows-self-inside-requires-clause-rooted : goal.put_near_rows-self-inside-requires-clause-rooted
 put_near_rows-self-inside-requires-clause-rooted c = (subst (λ (rows : RowsFound). MakeRows c.args.g.now rows) (sym c.self.view_is) c.requires.made).rooted
@@ -39,7 +39,7 @@ returns-clause-made c =
     record {
       rooted = made.rooted;
       directed = made.directed;
-      making = c.open_for.ensures.made;
+      maker = c.open_for.ensures.made;
       width = c.open_for.ensures.width ∙ made.width;
       room = ap (λ (xs : List Row). length xs) same ∙ c.put_near_rows-self-inside.auto.room ∙ ap (λ (xs : List Row). length xs) c.deref_mut.ensures.value ∙ made.room;
     }

@@ -9,8 +9,8 @@ pub returns-clause-made : goal.returns-clause-made
 returns-clause-made c = record {
   rooted = rooted_by c.args.g.now c.args.root c.in_ok-directed.directed c.directions.ensures.kept c.in_ok-directed.ensures.ordered;
   directed = c.in_ok-directed.ensures.made;
-  making = c.in_ok-making.ensures.made;
-  width = c.in_ok-making.ensures.width;
+  maker = c.in_ok-maker.ensures.made;
+  width = c.in_ok-maker.ensures.width;
   room = search rules;
 }
 

@@ -1,8 +1,8 @@
 use Rattle.std.proofs.Common.{sym, subst}
 use Rattle.mrt_rows.specs.CertOf.{IsCertOf}
-use Rattle.mrt_rows.specs.Making.{MakeRows}
+use Rattle.mrt_rows.specs.RowMaker.{MakeRows}
 use Rattle.mrt_rows.specs.RowsFound.{RowsFound}
-use Rattle.mrt_rows.specs.Said.{directions_of}
+use Rattle.mrt_rows.specs.ListedDirections.{directions_of}
 use Rattle.mrt_rows.proofs.OneCert.{one_node_words}
 use Rattle.mrt_rows.proofs.SourceCert.{told_by}
 use Rattle.mrt_rows.proofs.source_rows.SourceRows.nodes.Goals as goal

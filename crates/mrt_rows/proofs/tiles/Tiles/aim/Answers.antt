@@ -5,7 +5,7 @@ use Rattle.inc_dec_spf.specs.declared.reach.Dir.{Dir}
 use Rattle.inc_dec_spf.specs.declared.reach.Dir.TheVariants.{Down, Up}
 use Rattle.inc_dec_spf.specs.Tile.{IsAimed}
 use Rattle.inc_dec_spf.specs.TileEntries.{TileEntries}
-use Rattle.mrt_rows.specs.steps.Said.{words_of}
+use Rattle.mrt_rows.specs.steps.ListedDirections.{directions_by}
 use Rattle.mrt_rows.proofs.Rooting.{are_directions, has_directions, og_of, turns_too}
 use Rattle.mrt_rows.proofs.Sharing.{others_in_one_block}
 use Rattle.mrt_rows.proofs.tiles.Tiles.aim.Goals as goal
@@ -56,7 +56,7 @@ pub returns-clause-aimed : goal.returns-clause-aimed
 returns-clause-aimed c =
     let rooted = c.args.rooted.now in
     let g = rooted.graph.now in
-    let w = words_of rooted in
+    let w = directions_by rooted in
     let are = are_directions c.requires.rooted in
     let others = others_in_one_block (og_of c.requires.rooted) c.args.heads.now c.requires.heads in
     record {

@@ -1,8 +1,0 @@
-use Rattle.std.proofs.Common.{rules}
-use Rattle.link_direction.proofs.ways.way_of.Goals as goal
-
-pub returns-then-number_of : goal.returns-then-number_of
-returns-then-number_of c = search rules
-
-pub returns-else-number_of : goal.returns-else-number_of
-returns-else-number_of c = search rules
