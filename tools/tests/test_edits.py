@@ -18,7 +18,7 @@ OF_THE_GATE = {
     "cert_stream": 2,
     "fabric": 1,
     "gadag_ears": 2,
-    "inc_dec_spf": 1,
+    "block_spf": 1,
     "lowpoint_dfs": 1,
     "lsdb": 1,
     "mrt_c": 3,

@@ -3,7 +3,7 @@
 
 ghost use Rattle.std.specs.Prelude.{◌≡◌, ◌<◌, IfOk, length};
 ghost use Rattle.link_direction.specs.FromEars.{IsFromEars};
-ghost use Rattle.inc_dec_spf.specs.HasDirections.{HasDirections};
+ghost use Rattle.block_spf.specs.HasDirections.{HasDirections};
 
 use crate::cert_words::role_word;
 use gadag_ears::ears;

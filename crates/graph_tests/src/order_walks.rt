@@ -3,12 +3,12 @@
 //! chosen color arrive and do not use what has failed.
 
 ghost use Rattle.std.specs.Prelude.{◌≡◌, ◌<◌, IfSome, length};
-ghost use Rattle.inc_dec_spf.specs.HasDirections.{HasDirections};
+ghost use Rattle.block_spf.specs.HasDirections.{HasDirections};
 ghost use Rattle.mrt_plain.specs.Within.{AreWithin};
 ghost use Rattle.order_repair.specs.Failed.{IsWithin};
 
 use crate::paths::reach_of;
-use inc_dec_spf::Dir;
+use block_spf::Dir;
 use mrt_graph::{Cert, Color, Directed, Element, Graph, Link, LinkNo, NoMemory, NodeNo};
 use mrt_plain::{Course, follow, links_of};
 use mrt_rows::compute;

@@ -2,10 +2,10 @@
 //! is told by its cost and the link of its first end.
 
 ghost use Rattle.std.specs.Prelude.{◌≡◌, ◌<◌, IfOk, length};
-ghost use Rattle.inc_dec_spf.specs.HasDirections.{HasDirections};
+ghost use Rattle.block_spf.specs.HasDirections.{HasDirections};
 
 use crate::calls::Call;
-use inc_dec_spf::{Dir, Hop, Reach, spf, spf_to};
+use block_spf::{Dir, Hop, Reach, spf, spf_to};
 use mrt_graph::{Directed, Graph, NoMemory, NodeNo};
 use parts_of_tests::Page;
 use std::alloc::Global;

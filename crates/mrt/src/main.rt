@@ -2,9 +2,9 @@
 //! one stored run tests it.
 #![tactic(auto)]
 
+use mrt_args::argument_words;
 use mrt_cmd::run;
 use mrt_io::{FileShelf, StdSink, put_all};
-use mrt_words::argument_words;
 use std::env;
 use std::process::ExitCode;
 

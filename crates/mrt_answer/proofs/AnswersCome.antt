@@ -76,11 +76,11 @@ use Rattle.mrt_exit.specs.declared.exit.DbKind.TheVariants.{Lsa, Conflict}
 use Rattle.mrt_exit.specs.declared.exit.Exit.{Exit}
 use Rattle.mrt_exit.specs.declared.exit.Exit.TheVariants.{BadCertificate, BadDatabase, BadProfile, BadScript, No, NoCommonBlock, NotThere, TooLarge}
 use Rattle.mrt_exit.specs.declared.exit.What.TheVariants as whats
-use Rattle.mrt_words.specs.CertSpelling.{IsSpellingOf}
-use Rattle.mrt_words.specs.FileBytes.{FileBytes}
-use Rattle.mrt_words.specs.Form.{IsTaskWithin, Task}
-use Rattle.mrt_words.specs.declared.task.RouterTask.TheVariants.{Certify, Table, Trace, Lfa, Order, Proxy}
-use Rattle.mrt_words.specs.declared.task.Task.TheVariants.{Check, Fabric, Upgrade, OfRouter}
+use Rattle.mrt_args.specs.CertSpelling.{IsSpellingOf}
+use Rattle.mrt_args.specs.FileBytes.{FileBytes}
+use Rattle.mrt_args.specs.Form.{IsTaskWithin, Task}
+use Rattle.mrt_args.specs.declared.task.RouterTask.TheVariants.{Certify, Table, Trace, Lfa, Order, Proxy}
+use Rattle.mrt_args.specs.declared.task.Task.TheVariants.{Check, Fabric, Upgrade, OfRouter}
 use Rattle.mrt_answer.specs.Forms.{certified, checked, loop_free, loop_free_in, of_task, ordered, ordered_in, over, proxied_for, proxied_in, said_yes, scripted, table_in, tabled, traced, upgraded_in, upgraded_to}
 use Rattle.mrt_answer.specs.Input.{Input, area, policy}
 use Rattle.mrt_answer.specs.Islands.{area_of, in_32_bits, island_in, island_of, own_place, place_of}

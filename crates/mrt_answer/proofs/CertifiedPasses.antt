@@ -16,16 +16,16 @@ use Rattle.mrt_graph.specs.Rules.{OrderRule}
 use Rattle.mrt_graph.specs.Topology.{Topology}
 use Rattle.mrt_island.specs.IslandOf.{IsIsland}
 use Rattle.mrt_island.specs.Policy.{Policy}
-use Rattle.mrt_words.specs.FileBytes.{FileBytes, with_last}
-use Rattle.mrt_words.specs.Files.{certificate_limit}
+use Rattle.mrt_args.specs.FileBytes.{FileBytes, with_last}
+use Rattle.mrt_args.specs.Files.{certificate_limit}
 use Rattle.mrt_graph.specs.Accepted.{Accepted}
 use Rattle.mrt_island.specs.declared.island.Island.{Island}
 use Rattle.mrt_answer.specs.Forms.{over}
-use Rattle.mrt_words.specs.declared.task.RouterTask.TheVariants.{Certify}
-use Rattle.mrt_words.specs.declared.task.Task.TheVariants.{Check, Upgrade, OfRouter}
+use Rattle.mrt_args.specs.declared.task.RouterTask.TheVariants.{Certify}
+use Rattle.mrt_args.specs.declared.task.Task.TheVariants.{Check, Upgrade, OfRouter}
 use Rattle.mrt_answer.specs.Input.{Input, policy}
 use Rattle.mrt_answer.specs.Islands.{area_of, island_in}
-use Rattle.mrt_words.specs.CertSpelling.{IsSpellingOf}
+use Rattle.mrt_args.specs.CertSpelling.{IsSpellingOf}
 use Rattle.mrt_answer.specs.Texts.{accepted_line, upgraded}
 use Rattle.mrt_answer.proofs.OneAnswer.{AreaLaws, area_kept}
 use Rattle.mrt_answer.proofs.Islands.{contained}

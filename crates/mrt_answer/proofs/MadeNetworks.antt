@@ -22,7 +22,7 @@ use Rattle.mrt_exit.specs.declared.exit.Exit.TheVariants as exits
 use Rattle.ospf_lsa.specs.AreaLsas.{is_area_lsa}
 use Rattle.lsdb.specs.Database.{IsDatabase, entering}
 use Rattle.mrt_answer.specs.Database.{IsBadDatabase}
-use Rattle.mrt_words.specs.Form.{IsNetworkSize}
+use Rattle.mrt_args.specs.Form.{IsNetworkSize}
 use Rattle.mrt_answer.specs.Input.{Input, area, policy}
 use Rattle.mrt_answer.specs.steps.Input.{input_with}
 use Rattle.mrt_answer.specs.Islands.{area_of, island_in, island_of}
@@ -31,7 +31,7 @@ use Rattle.mrt_answer.specs.Surveyed.{made_input}
 use Rattle.mrt_answer.specs.steps.Surveyed.{summed_up_in}
 use Rattle.mrt_answer.specs.TextBytes.{IsTextAnswer}
 use Rattle.mrt_answer.specs.declared.text.Text.{Text}
-use Rattle.mrt_words.proofs.Readings.{if_err}
+use Rattle.mrt_args.proofs.Readings.{if_err}
 use Rattle.mrt_answer.proofs.Islands.{no_large_area}
 use Rattle.mrt_exit.specs.Due.{IsDue}
 

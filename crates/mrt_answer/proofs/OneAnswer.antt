@@ -51,10 +51,10 @@ use Rattle.mrt_exit.specs.Steps.{IsOne, Step, such, ◌▸◌}
 use Rattle.mrt_exit.specs.declared.exit.Exit.{Exit}
 use Rattle.mrt_exit.specs.declared.exit.Exit.TheVariants as exits
 use Rattle.mrt_exit.proofs.Stepping.{one_such, one_then_one, one_value, one_value_or_exit}
-use Rattle.mrt_words.specs.FileBytes.{FileBytes}
-use Rattle.mrt_words.specs.Form.{Task}
-use Rattle.mrt_words.specs.declared.task.RouterTask.TheVariants.{Certify, Table, Trace, Lfa, Order, Proxy}
-use Rattle.mrt_words.specs.declared.task.Task.TheVariants.{Check, Fabric, Upgrade, OfRouter}
+use Rattle.mrt_args.specs.FileBytes.{FileBytes}
+use Rattle.mrt_args.specs.Form.{Task}
+use Rattle.mrt_args.specs.declared.task.RouterTask.TheVariants.{Certify, Table, Trace, Lfa, Order, Proxy}
+use Rattle.mrt_args.specs.declared.task.Task.TheVariants.{Check, Fabric, Upgrade, OfRouter}
 use Rattle.mrt_answer.specs.Texts.{ArePartsIn, IsComputed, IsComputedFile, IsScriptIn, IsTableOf, IsTraceIn, IsUpgrade, accepted_line, judged, proxied}
 use Rattle.mrt_answer.specs.Forms.{certified, checked, delivered, flooded, loop_free, loop_free_in, of_task, ordered, ordered_in, over, proxied_for, proxied_in, scripted, table_in, tabled, traced, upgraded_to}
 use Rattle.mrt_answer.specs.Input.{Input, area, policy}

@@ -20,10 +20,10 @@ use Rattle.mrt_island.specs.declared.island.Island.{Island}
 use Rattle.mrt_island.specs.declared.setting.Setting.{Setting}
 use Rattle.ospf_lsa.specs.declared.lsa.Lsa.{Lsa}
 use Rattle.mrt_exit.proofs.Stepping.{one_value}
-use Rattle.mrt_words.specs.CertSpelling.{IsSpellingOf}
-use Rattle.mrt_words.specs.FileBytes.{FileBytes}
-use Rattle.mrt_words.specs.declared.task.RouterTask.TheVariants.{Certify, Table}
-use Rattle.mrt_words.specs.declared.task.Task.TheVariants.{OfRouter}
+use Rattle.mrt_args.specs.CertSpelling.{IsSpellingOf}
+use Rattle.mrt_args.specs.FileBytes.{FileBytes}
+use Rattle.mrt_args.specs.declared.task.RouterTask.TheVariants.{Certify, Table}
+use Rattle.mrt_args.specs.declared.task.Task.TheVariants.{OfRouter}
 use Rattle.mrt_answer.specs.Forms.{over, table_in}
 use Rattle.mrt_answer.specs.Input.{Input, IsProfile, area, policy}
 use Rattle.mrt_answer.specs.Islands.{area_of, island_in, island_of}

@@ -25,7 +25,7 @@ use Rattle.ospf_lsa.specs.declared.lsa.Lsa.{Lsa as Advertisement}
 use Rattle.ospf_lsa.specs.AreaLsas.{is_area_lsa}
 use Rattle.lsdb.specs.Database.{HoldsLsas, IsDatabase, entering}
 use Rattle.mrt_answer.specs.Database.{IsBadDatabase}
-use Rattle.mrt_words.specs.CertSpelling.{IsSpellingOf}
+use Rattle.mrt_args.specs.CertSpelling.{IsSpellingOf}
 use Rattle.mrt_exit.specs.declared.exit.DbKind.{DbKind}
 use Rattle.mrt_exit.specs.declared.exit.DbKind.TheVariants.{Lsa, Conflict}
 use Rattle.mrt_exit.specs.declared.exit.Exit.{Exit}

@@ -8,11 +8,11 @@ use Rattle.mrt_graph.specs.declared.node_id.NodeId.{NodeId}
 use Rattle.mrt_exit.specs.steps.Steps.{EndsAs}
 use Rattle.mrt_exit.specs.declared.exit.Exit.{Exit}
 use Rattle.mrt_exit.specs.declared.exit.Exit.TheVariants as exits
-use Rattle.mrt_words.specs.FileBytes.{FileBytes}
-use Rattle.mrt_words.specs.declared.task.RouterTask.{RouterTask}
-use Rattle.mrt_words.specs.declared.task.RouterTask.TheVariants.{Certify, Table, Trace, Lfa, Order, Proxy}
-use Rattle.mrt_words.specs.declared.task.Task.TheVariants.{Check, Upgrade, Fabric, OfRouter}
-use Rattle.mrt_words.specs.Form.{Task, AsksVerdictTask}
+use Rattle.mrt_args.specs.FileBytes.{FileBytes}
+use Rattle.mrt_args.specs.declared.task.RouterTask.{RouterTask}
+use Rattle.mrt_args.specs.declared.task.RouterTask.TheVariants.{Certify, Table, Trace, Lfa, Order, Proxy}
+use Rattle.mrt_args.specs.declared.task.Task.TheVariants.{Check, Upgrade, Fabric, OfRouter}
+use Rattle.mrt_args.specs.Form.{Task, AsksVerdictTask}
 use Rattle.mrt_answer.specs.Forms.{flooded, of_router, of_task, over}
 use Rattle.mrt_answer.specs.Input.{Input, area, policy}
 use Rattle.mrt_answer.specs.Islands.{area_of, island_in, island_of, place_of}

@@ -12,7 +12,7 @@ use Rattle.flood_verdict.specs.Alike.{ComparesAlike, IsToldAlike}
 use Rattle.flood_verdict.specs.Says.{Says}
 use Rattle.mrt_island.specs.ProfileFaults.{AreSettings}
 use Rattle.mrt_island.specs.declared.setting.Setting.{Setting}
-use Rattle.mrt_words.specs.FileBytes.{FileBytes}
+use Rattle.mrt_args.specs.FileBytes.{FileBytes}
 use Rattle.mrt_graph.specs.TextLines.{text_lines}
 use Rattle.mrt_answer.specs.Reading.{HoldsFlood}
 use Rattle.mrt_answer.specs.Forms.{flooded}

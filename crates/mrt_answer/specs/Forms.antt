@@ -14,12 +14,12 @@ use Rattle.lfa_alt.specs.LfaText.{IsLfaText}
 use Rattle.mrt_exit.specs.Steps.{Step, such, ◌▸◌}
 use Rattle.mrt_graph.specs.Topology.{Topology}
 use Rattle.mrt_graph.specs.declared.cert.CertFile.{CertFile}
-use Rattle.mrt_words.specs.FileBytes.{FileBytes}
+use Rattle.mrt_args.specs.FileBytes.{FileBytes}
 use Rattle.order_repair.specs.OrderText.{IsTextFrom}
-use Rattle.mrt_words.specs.Form.{Task}
-use Rattle.mrt_words.specs.declared.task.RouterTask.{RouterTask}
-use Rattle.mrt_words.specs.declared.task.RouterTask.TheVariants.{Certify, Table, Trace, Lfa, Order, Proxy}
-use Rattle.mrt_words.specs.declared.task.Task.TheVariants.{Check, Fabric, Upgrade, OfRouter}
+use Rattle.mrt_args.specs.Form.{Task}
+use Rattle.mrt_args.specs.declared.task.RouterTask.{RouterTask}
+use Rattle.mrt_args.specs.declared.task.RouterTask.TheVariants.{Certify, Table, Trace, Lfa, Order, Proxy}
+use Rattle.mrt_args.specs.declared.task.Task.TheVariants.{Check, Fabric, Upgrade, OfRouter}
 use Rattle.mrt_answer.specs.Texts.{IsComputed, IsScriptIn, IsTableOf, IsTraceIn, IsUpgrade, accepted_line, judged, proxied}
 use Rattle.area_graph.specs.Parts.{AreaParts}
 use Rattle.mrt_island.specs.declared.island.Island.{Island}

@@ -5,8 +5,8 @@ use Rattle.area_graph.specs.LiveLsas.{HoldTheSameLive}
 use Rattle.lsdb.specs.Instances.{HoldTheSameButAge}
 use Rattle.mrt_graph.specs.NodeIds.{router as router_node}
 use Rattle.mrt_island.specs.declared.island.Island.{Island}
-use Rattle.mrt_words.specs.CertSpelling.{IsSpellingOf}
-use Rattle.mrt_words.specs.FileBytes.{FileBytes}
+use Rattle.mrt_args.specs.CertSpelling.{IsSpellingOf}
+use Rattle.mrt_args.specs.FileBytes.{FileBytes}
 use Rattle.ospf_lsa.specs.declared.lsa.Lsa.{Lsa}
 use Rattle.mrt_answer.specs.Input.{Input}
 use Rattle.mrt_answer.specs.Islands.{island_in, own_place}

@@ -16,8 +16,8 @@ use Rattle.mrt_island.specs.declared.setting.Setting.{Setting}
 use Rattle.ospf_lsa.specs.declared.lsa.Lsa.{Lsa}
 use Rattle.mrt_exit.specs.Steps.{Step, such, ◌▸◌}
 use Rattle.mrt_exit.specs.declared.exit.Exit.TheVariants.{BadDatabase, BadProfile, BadCertificate, BadScript, BadUpdate}
-use Rattle.mrt_words.specs.CertSpelling.{IsSpellingOf}
-use Rattle.mrt_words.specs.FileBytes.{FileBytes}
+use Rattle.mrt_args.specs.CertSpelling.{IsSpellingOf}
+use Rattle.mrt_args.specs.FileBytes.{FileBytes}
 use Rattle.mrt_answer.specs.Database.{IsBadDatabase}
 use Rattle.mrt_answer.specs.Input.{Input, IsProfile}
 

@@ -4,7 +4,7 @@ use Rattle.mrt_graph.specs.declared.cert.CertFile.{CertFile}
 use Rattle.mrt_graph.specs.Topology.{Topology}
 use Rattle.mrt_survey.specs.MadeLsas.{made_lsas}
 use Rattle.mrt_survey.specs.SurveyText.{IsSurveyText}
-use Rattle.mrt_words.specs.Form.{IsNetworkSize}
+use Rattle.mrt_args.specs.Form.{IsNetworkSize}
 use Rattle.mrt_answer.specs.Input.{Input}
 use Rattle.mrt_answer.specs.Islands.{island_in}
 use Rattle.mrt_island.specs.declared.island.Island.{Island}

@@ -6,7 +6,7 @@ use Rattle.mrt_graph.specs.Certificate.{row_of}
 use Rattle.mrt_graph.specs.Sound.{Sound}
 use Rattle.mrt_graph.specs.Topology.{Topology}
 use Rattle.mrt_rows.specs.CertOf.{IsCertOf}
-use Rattle.mrt_words.specs.CertSpelling.{IsSpellingOf}
+use Rattle.mrt_args.specs.CertSpelling.{IsSpellingOf}
 use Rattle.mrt_exit.specs.Steps.{Step}
 use Rattle.mrt_exit.specs.declared.exit.Exit.TheVariants.{No, NoCommonBlock}
 use Rattle.mrt_graph.specs.FirstFault.{FirstFault}

@@ -1,9 +1,9 @@
 //! What comes of the files that were read.
 
 ghost use Rattle.std.specs.Prelude.{◌≤◌, ℕ, List, vec_len};
-ghost use Rattle.mrt_words.specs.{FileBytes.FileBytes, Form.IsRouterTaskWithin, Form.Task as NamedTask};
-ghost use Rattle.mrt_words.specs.Files.{database_limit, profile_limit};
-ghost use Rattle.mrt_words.specs.Work.{AreBytesOf, IsWorkWithin, IsWorkFor};
+ghost use Rattle.mrt_args.specs.{FileBytes.FileBytes, Form.IsRouterTaskWithin, Form.Task as NamedTask};
+ghost use Rattle.mrt_args.specs.Files.{database_limit, profile_limit};
+ghost use Rattle.mrt_args.specs.Work.{AreBytesOf, IsWorkWithin, IsWorkFor};
 ghost use Rattle.mrt_answer.specs.{Forms.of_router, Forms.of_task, Forms.over, TextBytes.IsTextAnswer};
 
 use crate::certificate::certify;
@@ -18,8 +18,8 @@ use crate::text::Text;
 use crate::trace::trace;
 use crate::upgrade::upgraded;
 use crate::verdict::checked;
+use mrt_args::{FilesRead, RouterTask, Task, Work};
 use mrt_exit::Exit;
-use mrt_words::{FilesRead, RouterTask, Task, Work};
 use std::alloc::Global;
 
 /// The text of what is to be done with the files that were read.

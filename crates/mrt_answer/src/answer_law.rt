@@ -4,8 +4,8 @@ ghost use Rattle.std.specs.Prelude.{◌≡◌, ◌≤◌, ℕ, List, Ok, length}
 ghost use Rattle.std.specs.List.Sorted.{IsStrictlySortedBy};
 ghost use Rattle.fabric.specs.{FabricParts.ArePartsKept, FabricParts.FabricParts, Served.AreRowsOn, declared.event.Event.Event};
 ghost use Rattle.flood_verdict.specs.{Alike.ComparesAlike, Alike.IsToldAlike, Says.Says};
-ghost use Rattle.mrt_words.specs.{FileBytes.FileBytes, FileBytes.with_last, Files.certificate_limit, declared.task.RouterTask.TheVariants.Certify, Form.Task};
-ghost use Rattle.mrt_words.specs.declared.task.Task.TheVariants.{Check, Upgrade, OfRouter};
+ghost use Rattle.mrt_args.specs.{FileBytes.FileBytes, FileBytes.with_last, Files.certificate_limit, declared.task.RouterTask.TheVariants.Certify, Form.Task};
+ghost use Rattle.mrt_args.specs.declared.task.Task.TheVariants.{Check, Upgrade, OfRouter};
 ghost use Rattle.mrt_answer.specs.{Reading.HoldsFlood, Forms.flooded, Forms.over, Input.Input, Input.area, Islands.island_in, Texts.ArePartsIn, Texts.IsComputedFile};
 ghost use Rattle.mrt_answer.specs.{Reading.input_of, Surveyed.IsSurveyed};
 ghost use Rattle.mrt_exit.specs.Steps.{IsOne};

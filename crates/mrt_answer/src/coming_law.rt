@@ -3,7 +3,7 @@
 ghost use Rattle.std.specs.Prelude.{ℕ, List, Result};
 ghost use Rattle.std.specs.List.{AllByRecursion};
 ghost use Rattle.mrt_exit.specs.declared.exit.Exit.{Exit};
-ghost use Rattle.mrt_words.specs.{FileBytes.FileBytes, Form.IsNetworkSize, Form.IsTaskWithin, Form.Task};
+ghost use Rattle.mrt_args.specs.{FileBytes.FileBytes, Form.IsNetworkSize, Form.IsTaskWithin, Form.Task};
 ghost use Rattle.ospf_lsa.specs.Lsas.{IsByte};
 ghost use Rattle.mrt_answer.specs.{Forms.flooded, Forms.over, Surveyed.IsSurveyed};
 

@@ -4,8 +4,8 @@ ghost use Rattle.std.specs.Prelude.{◌≤◌, Ok, Err, IfOk, IfErr, length, vec
 ghost use Rattle.std.specs.List.{AllByRecursion};
 ghost use Rattle.flood_core.specs.Receiving.{MayFlood};
 ghost use Rattle.flood_script.specs.{Deliveries.deliveries_in, FloodScripts.IsAmong};
-ghost use Rattle.mrt_words.specs.Files.{profile_limit, script_limit, updates_limit};
-ghost use Rattle.mrt_words.specs.Work.{flood_bytes};
+ghost use Rattle.mrt_args.specs.Files.{profile_limit, script_limit, updates_limit};
+ghost use Rattle.mrt_args.specs.Work.{flood_bytes};
 ghost use Rattle.mrt_answer.specs.{Forms.flooded, Reading.deliveries_of as deliveries_step, Reading.updates_of as updates_step, TextBytes.IsTextAnswer};
 ghost use Rattle.mrt_exit.specs.{Due.IsDue, Steps.IsAnswer};
 
@@ -15,8 +15,8 @@ use file_key::FileKey;
 use flood_core::{Update, read_updates};
 use flood_script::{FloodScript, flood_text, read_flood_script};
 use flood_verdict::ByIsland;
+use mrt_args::FloodRead;
 use mrt_exit::Exit;
-use mrt_words::FloodRead;
 use std::alloc::Global;
 
 /// The answers to the lines of a script over packets and under a profile, each with its bytes.

@@ -3,8 +3,8 @@
 ghost use Rattle.std.specs.Prelude.{◌≡◌, ◌⊎◌, ℕ, List, Ok};
 ghost use Rattle.lsdb.specs.Instances.{DifferInMaxAge};
 ghost use Rattle.mrt_island.specs.declared.island.Island.{Island};
-ghost use Rattle.mrt_words.specs.{FileBytes.FileBytes, declared.task.RouterTask.TheVariants.Certify, declared.task.RouterTask.TheVariants.Table};
-ghost use Rattle.mrt_words.specs.declared.task.Task.TheVariants.{OfRouter};
+ghost use Rattle.mrt_args.specs.{FileBytes.FileBytes, declared.task.RouterTask.TheVariants.Certify, declared.task.RouterTask.TheVariants.Table};
+ghost use Rattle.mrt_args.specs.declared.task.Task.TheVariants.{OfRouter};
 ghost use Rattle.mrt_answer.specs.{Forms.over, Input.area, Islands.island_in};
 ghost use Rattle.mrt_answer.specs.Network.{AreInOneIsland, AreOfOneNetwork, AreOfOneNetworkButMaxAge, IsTableBy};
 

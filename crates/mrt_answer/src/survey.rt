@@ -3,7 +3,7 @@
 ghost use Rattle.std.specs.Prelude.{◌≡◌, ◌<◌, ℕ, None, IfOk, IfErr, length, map};
 ghost use Rattle.lsdb.specs.Conflicts.{least_conflict};
 ghost use Rattle.mrt_survey.specs.MadeLsas.{made_lsas};
-ghost use Rattle.mrt_words.specs.Form.{IsNetworkSize};
+ghost use Rattle.mrt_args.specs.Form.{IsNetworkSize};
 ghost use Rattle.mrt_answer.specs.TextBytes.{HasText, IsTextAnswer};
 ghost use Rattle.mrt_answer.specs.Surveyed.{IsSummedUp, IsSurveyed, made_input};
 ghost use Rattle.mrt_answer.specs.steps.Surveyed.{summed_up_in};

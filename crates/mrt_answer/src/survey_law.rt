@@ -8,7 +8,7 @@ ghost use Rattle.ospf_lsa.specs.{LsaText.lsas_text, declared.lsa.Lsa.Lsa};
 ghost use Rattle.mrt_exit.specs.{declared.exit.DbKind.DbKind, declared.exit.Exit.Exit};
 ghost use Rattle.lsdb.specs.Database.{IsDatabase};
 ghost use Rattle.mrt_answer.specs.{Database.IsBadDatabase, Islands.island_in, Reading.input_of, Surveyed.IsSurveyed, Surveyed.made_input};
-ghost use Rattle.mrt_words.specs.Form.{IsNetworkSize};
+ghost use Rattle.mrt_args.specs.Form.{IsNetworkSize};
 
 use lsdb::{
     entries_are_those_of_the_list, refuses_exactly_where_not_settled, tells_the_first_conflict,

@@ -1,7 +1,7 @@
 //! `upgrade DB PROFILE CERT`: an accepted certificate in version 2.
 
 ghost use Rattle.std.specs.Prelude.{◌<◌, ℕ, List, length};
-ghost use Rattle.mrt_words.specs.Work.{IsCertRead};
+ghost use Rattle.mrt_args.specs.Work.{IsCertRead};
 ghost use Rattle.mrt_answer.specs.{Forms.upgraded_in, Forms.upgraded_to, Reading.certificate_of, TextBytes.IsTextAnswer};
 ghost use Rattle.mrt_exit.specs.Steps.{◌▸◌};
 

@@ -1,7 +1,7 @@
 //! `check DB PROFILE CERT`: the verdict on a certificate file.
 
 ghost use Rattle.std.specs.Prelude.{◌≡◌, ◌<◌, ℕ, List, Ok, length};
-ghost use Rattle.mrt_words.specs.Work.{IsCertRead};
+ghost use Rattle.mrt_args.specs.Work.{IsCertRead};
 ghost use Rattle.mrt_answer.specs.{Forms.checked as checked_step, Forms.said_yes, Reading.certificate_of, TextBytes.IsTextAnswer, Texts.accepted_line as line_of_accepted, Texts.judged};
 ghost use Rattle.mrt_exit.specs.Steps.{IsAnswer, ◌▸◌};
 

@@ -34,7 +34,7 @@ use Rattle.mrt_exit.specs.declared.exit.Exit.TheVariants as exits
 use Rattle.mrt_exit.specs.declared.exit.What.{What}
 use Rattle.mrt_exit.specs.declared.exit.What.TheVariants.{CertificateFile, DatabaseFile, ProfileFile}
 use Rattle.mrt_exit.proofs.Stepping.{one_such, one_then_one, one_value, one_value_or_exit}
-use Rattle.mrt_words.specs.Files.{certificate_limit, database_limit, profile_limit}
+use Rattle.mrt_args.specs.Files.{certificate_limit, database_limit, profile_limit}
 use Rattle.mrt_answer.specs.Forms.{certified}
 use Rattle.mrt_answer.specs.Input.{Input, area as area_of}
 use Rattle.mrt_answer.specs.Islands.{island_in, own_place, place_of}

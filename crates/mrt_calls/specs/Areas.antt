@@ -6,7 +6,7 @@ use Rattle.mrt_exit.specs.Steps.{Step, ◌▸◌}
 use Rattle.mrt_exit.specs.declared.exit.Exit.TheVariants.{TooLarge, Usage}
 use Rattle.mrt_exit.specs.declared.exit.What.{What}
 use Rattle.mrt_exit.specs.declared.exit.What.TheVariants.{DatabaseFile, ProfileFile}
-use Rattle.mrt_words.specs.Files.{database_limit, profile_limit}
+use Rattle.mrt_args.specs.Files.{database_limit, profile_limit}
 use Rattle.mrt_calls.specs.declared.area.MrtArea.{MrtArea}
 
 -- so many bytes are within a limit; else that is said, with the least size that is too large

@@ -8,7 +8,7 @@ use Rattle.mrt_answer.specs.Reading.{certificate_of, input_of}
 use Rattle.mrt_answer.specs.Texts.{judged}
 use Rattle.mrt_exit.specs.Steps.{Step, such, ◌▸◌}
 use Rattle.mrt_exit.specs.declared.exit.What.TheVariants.{CertificateFile}
-use Rattle.mrt_words.specs.Files.{certificate_limit}
+use Rattle.mrt_args.specs.Files.{certificate_limit}
 use Rattle.mrt_calls.specs.Areas.{area_within, within}
 use Rattle.mrt_calls.specs.declared.area.MrtArea.{MrtArea}
 use Rattle.mrt_calls.specs.declared.check.MrtVerdict.{MrtVerdict}

@@ -2,13 +2,13 @@
 
 ghost use Rattle.std.specs.Prelude.{◌≤◌, ◌<◌, ◌-◌, ◌^◌, IfOk, length};
 ghost use Rattle.mrt_exit.specs.Steps.{IsAnswer};
-ghost use Rattle.mrt_words.specs.Files.{database_limit, profile_limit};
+ghost use Rattle.mrt_args.specs.Files.{database_limit, profile_limit};
 ghost use Rattle.mrt_calls.specs.Areas.{area_within, files_within, input_in, unreserved, within};
 
 use mrt_answer::{Given, given_of};
+use mrt_args::{DATABASE_LIMIT, PROFILE_LIMIT};
 use mrt_exit::{Exit, What};
 use mrt_lent::MrtBytes;
-use mrt_words::{DATABASE_LIMIT, PROFILE_LIMIT};
 use std::alloc::Global;
 
 /// LSAs and a profile: `struct mrt_area` in C.

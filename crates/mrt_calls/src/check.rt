@@ -3,7 +3,7 @@
 ghost use Rattle.std.specs.Prelude.{◌≡◌, ◌<◌, ◌≤◌, Err, Ok, length};
 ghost use Rattle.mrt_answer.specs.Reading.{certificate_of};
 ghost use Rattle.mrt_exit.specs.{Steps.IsAnswer, declared.exit.Exit.Exit};
-ghost use Rattle.mrt_words.specs.Files.{database_limit, profile_limit};
+ghost use Rattle.mrt_args.specs.Files.{database_limit, profile_limit};
 ghost use Rattle.mrt_calls.specs.{Faults.IsTold, Putting.Answers};
 ghost use Rattle.mrt_calls.specs.Verdicts.{checked_in, verdict_in, verdict_of_within, verdict_on, verdict_on_bytes, verdict_on_spelling};
 
@@ -11,10 +11,10 @@ use crate::area::{MrtArea, area_within, within};
 use crate::fault::{MrtFault, tell};
 use cert_format::{CertError, read_cert};
 use mrt_answer::{Given, given_of, island_in, judge};
+use mrt_args::CERTIFICATE_LIMIT;
 use mrt_exit::{Exit, What};
 use mrt_graph::CertFile;
 use mrt_island::Island;
-use mrt_words::CERTIFICATE_LIMIT;
 use std::alloc::Global;
 
 /// A certificate that is accepted: `struct mrt_verdict` in C.

@@ -8,13 +8,13 @@ use Rattle.mrt_exit.specs.declared.exit.Exit.TheVariants as exits
 use Rattle.mrt_cmd.specs.Causes.{HasCause, HasNoText, IsAnswered, IsOfBytes, IsOutputCalm, IsShelfCalm, IsTold, ShelfInCall, SinkInCall}
 use Rattle.mrt_cmd.specs.Comes.{AreOfNoForm, Comes, FailsAt, GivesText, IsRefused, NamesHeld, of_form, read_as_form}
 use Rattle.mrt_exit.specs.Exits.{line_of}
-use Rattle.mrt_words.specs.Files.{files_of}
-use Rattle.mrt_words.specs.declared.form.Form.{Form}
-use Rattle.mrt_words.specs.Form.{form_of}
-use Rattle.mrt_words.specs.Spellings.{AreWordsOf}
+use Rattle.mrt_args.specs.Files.{files_of}
+use Rattle.mrt_args.specs.declared.form.Form.{Form}
+use Rattle.mrt_args.specs.Form.{form_of}
+use Rattle.mrt_args.specs.Spellings.{AreWordsOf}
 use Rattle.mrt_cmd.specs.Headline.{IsPassed}
-use Rattle.mrt_words.specs.Reading.{IsDueOrFault}
-use Rattle.mrt_words.proofs.Readings.{if_err}
+use Rattle.mrt_args.specs.Reading.{IsDueOrFault}
+use Rattle.mrt_args.proofs.Readings.{if_err}
 use Rattle.mrt_exit.specs.Telling.{GainedLine, IsCutShort}
 use Rattle.mrt_cmd.specs.Run.{IsHealthyForText, WritesNothing}
 use Rattle.mrt_cmd.proofs.Exactly.{ComesOnce, exactly as exactly_one, exactly_missing, none_missing, refusal_comes, text_comes}

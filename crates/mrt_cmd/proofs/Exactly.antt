@@ -6,9 +6,9 @@ use Rattle.mrt_exit.specs.declared.exit.Exit.{Exit}
 use Rattle.mrt_exit.specs.declared.exit.Exit.TheVariants as exits
 use Rattle.mrt_answer.proofs.TaskSays.{flooded_says, over_says}
 use Rattle.mrt_cmd.specs.Comes.{Comes, GivesText, IsRefused, MissesAt, of_form}
-use Rattle.mrt_words.specs.Files.{IsFirstMissing, files_of}
-use Rattle.mrt_words.specs.declared.form.Form.{Form}
-use Rattle.mrt_words.specs.declared.form.Form.TheVariants.{OfFiles, Survey, Flood}
+use Rattle.mrt_args.specs.Files.{IsFirstMissing, files_of}
+use Rattle.mrt_args.specs.declared.form.Form.{Form}
+use Rattle.mrt_args.specs.declared.form.Form.TheVariants.{OfFiles, Survey, Flood}
 use Rattle.mrt_cmd.specs.Run.{WritesNothing}
 
 -- one exit comes of the words at most

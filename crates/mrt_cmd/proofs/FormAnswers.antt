@@ -7,12 +7,12 @@ use Rattle.mrt_exit.specs.Steps.{Step, ◌▸◌}
 use Rattle.mrt_exit.specs.declared.exit.Exit.{Exit}
 use Rattle.mrt_exit.specs.declared.exit.Exit.TheVariants as exits
 use Rattle.mrt_io.specs.Holding.{Files}
-use Rattle.mrt_words.specs.declared.form.Form.{Form}
-use Rattle.mrt_words.specs.declared.form.Form.TheVariants.{Survey}
-use Rattle.mrt_words.specs.FileBytes.{FileBytes, AreRead}
-use Rattle.mrt_words.specs.Files.{NamedFile, Names, IsRefusedBy, files_in, files_of}
-use Rattle.mrt_words.specs.Reading.{IsDueOrFault, ReadsAs, ReadsFiles}
-use Rattle.mrt_words.proofs.Readings.{errs, if_err, reads_also, reads_none}
+use Rattle.mrt_args.specs.declared.form.Form.{Form}
+use Rattle.mrt_args.specs.declared.form.Form.TheVariants.{Survey}
+use Rattle.mrt_args.specs.FileBytes.{FileBytes, AreRead}
+use Rattle.mrt_args.specs.Files.{NamedFile, Names, IsRefusedBy, files_in, files_of}
+use Rattle.mrt_args.specs.Reading.{IsDueOrFault, ReadsAs, ReadsFiles}
+use Rattle.mrt_args.proofs.Readings.{errs, if_err, reads_also, reads_none}
 use Rattle.mrt_answer.specs.declared.text.Text.{Text}
 use Rattle.mrt_answer.specs.Surveyed.{IsSurveyed}
 use Rattle.mrt_answer.specs.TextBytes.{HasText, IsTextAnswer}

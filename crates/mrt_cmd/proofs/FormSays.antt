@@ -7,10 +7,10 @@ use Rattle.mrt_io.specs.Holding.{Files}
 use Rattle.mrt_exit.specs.steps.Steps.{EndsAs}
 use Rattle.mrt_exit.specs.declared.exit.Exit.{Exit}
 use Rattle.mrt_exit.specs.declared.exit.Exit.TheVariants as exits
-use Rattle.mrt_words.specs.Files.{NamedFile, Names, SaysOneOf, files_in, flood_names, refusal_of, task_names}
-use Rattle.mrt_words.specs.declared.form.Form.{Form}
-use Rattle.mrt_words.specs.declared.form.Form.TheVariants.{OfFiles, Survey, Flood}
-use Rattle.mrt_words.specs.Form.{AsksVerdict}
+use Rattle.mrt_args.specs.Files.{NamedFile, Names, SaysOneOf, files_in, flood_names, refusal_of, task_names}
+use Rattle.mrt_args.specs.declared.form.Form.{Form}
+use Rattle.mrt_args.specs.declared.form.Form.TheVariants.{OfFiles, Survey, Flood}
+use Rattle.mrt_args.specs.Form.{AsksVerdict}
 use Rattle.mrt_answer.proofs.TaskSays.{MaySay, flooded_says, over_says}
 use Rattle.mrt_cmd.specs.Comes.{AreOfForm, IsRefused, of_form, reading}
 

@@ -7,18 +7,18 @@ use Rattle.mrt_io.specs.Holding.{Files}
 use Rattle.mrt_exit.specs.declared.exit.Exit.{Exit}
 use Rattle.mrt_exit.specs.declared.exit.Exit.TheVariants as exits
 use Rattle.mrt_exit.specs.declared.exit.What.{What}
-use Rattle.mrt_words.specs.FileBytes.{FileBytes}
+use Rattle.mrt_args.specs.FileBytes.{FileBytes}
 use Rattle.mrt_cmd.specs.Causes.{IsOfBytes}
-use Rattle.mrt_words.specs.FileBytes.{AreRead, IsLastRead, IsProfileRead}
+use Rattle.mrt_args.specs.FileBytes.{AreRead, IsLastRead, IsProfileRead}
 use Rattle.mrt_cmd.specs.Comes.{GivesText, IsRefused, NamesHeld, of_form, read_as_form}
-use Rattle.mrt_words.specs.Files.{NamedFile, Names, AreThere, SaysOneOf, files_in, files_of, flood_names, profile_file, task_file, task_names}
-use Rattle.mrt_words.specs.declared.form.FileForm.{FileForm}
-use Rattle.mrt_words.specs.declared.form.FloodForm.{FloodForm}
-use Rattle.mrt_words.specs.declared.form.Form.{Form}
-use Rattle.mrt_words.specs.declared.form.Form.TheVariants.{OfFiles, Survey, Flood}
-use Rattle.mrt_words.specs.declared.task.Task.TheVariants.{Check, Fabric, Upgrade, OfRouter}
-use Rattle.mrt_words.specs.Form.{Task}
-use Rattle.mrt_words.specs.Spellings.{AreWordsOf}
+use Rattle.mrt_args.specs.Files.{NamedFile, Names, AreThere, SaysOneOf, files_in, files_of, flood_names, profile_file, task_file, task_names}
+use Rattle.mrt_args.specs.declared.form.FileForm.{FileForm}
+use Rattle.mrt_args.specs.declared.form.FloodForm.{FloodForm}
+use Rattle.mrt_args.specs.declared.form.Form.{Form}
+use Rattle.mrt_args.specs.declared.form.Form.TheVariants.{OfFiles, Survey, Flood}
+use Rattle.mrt_args.specs.declared.task.Task.TheVariants.{Check, Fabric, Upgrade, OfRouter}
+use Rattle.mrt_args.specs.Form.{Task}
+use Rattle.mrt_args.specs.Spellings.{AreWordsOf}
 use Rattle.mrt_cmd.proofs.FormSays.{unread_says_one}
 use Rattle.mrt_cmd.proofs.WordsOfForm.{spelled_once}
 

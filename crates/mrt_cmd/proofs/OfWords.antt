@@ -5,10 +5,10 @@ use Rattle.mrt_io.specs.Holding.{Files}
 use Rattle.mrt_exit.specs.Due.{IsDue}
 use Rattle.mrt_exit.specs.declared.exit.Exit.{Exit}
 use Rattle.mrt_exit.specs.declared.exit.Exit.TheVariants as exits
-use Rattle.mrt_words.specs.Files.{AreThere, files_of}
-use Rattle.mrt_words.specs.declared.form.Form.{Form}
-use Rattle.mrt_words.specs.Form.{IsSurvey, form_of}
-use Rattle.mrt_words.proofs.Readings.{if_err}
+use Rattle.mrt_args.specs.Files.{AreThere, files_of}
+use Rattle.mrt_args.specs.declared.form.Form.{Form}
+use Rattle.mrt_args.specs.Form.{IsSurvey, form_of}
+use Rattle.mrt_args.proofs.Readings.{if_err}
 use Rattle.mrt_answer.specs.declared.text.Text.{Text}
 use Rattle.mrt_answer.specs.TextBytes.{HasText}
 use Rattle.mrt_answer.proofs.TextsHeld.{answer_has_also}

@@ -5,11 +5,11 @@ use Rattle.mrt_exit.specs.Steps.{IsOne}
 use Rattle.mrt_exit.specs.declared.exit.Exit.{Exit}
 use Rattle.mrt_exit.specs.declared.exit.Exit.TheVariants as exits
 use Rattle.mrt_exit.proofs.Stepping.{one_such, one_then_one, one_value_or_exit}
-use Rattle.mrt_words.specs.FileBytes.{FileBytes}
-use Rattle.mrt_words.specs.Files.{flood_names, task_names}
-use Rattle.mrt_words.specs.declared.form.Form.{Form}
-use Rattle.mrt_words.specs.declared.form.Form.TheVariants.{OfFiles, Survey, Flood}
-use Rattle.mrt_words.specs.Form.{Task}
+use Rattle.mrt_args.specs.FileBytes.{FileBytes}
+use Rattle.mrt_args.specs.Files.{flood_names, task_names}
+use Rattle.mrt_args.specs.declared.form.Form.{Form}
+use Rattle.mrt_args.specs.declared.form.Form.TheVariants.{OfFiles, Survey, Flood}
+use Rattle.mrt_args.specs.Form.{Task}
 use Rattle.mrt_answer.specs.Forms.{flooded, over}
 use Rattle.mrt_answer.specs.Surveyed.{IsSurveyed}
 use Rattle.mrt_cmd.specs.Comes.{Comes, exit_of, of_form, of_words, read_as_form, reading}

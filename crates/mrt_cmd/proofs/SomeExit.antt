@@ -7,15 +7,15 @@ use Rattle.std.proofs.lemmas.Bool.{cases_lt, le-ltb, lt-ltb}
 use Rattle.mrt_io.specs.Holding.{Files}
 use Rattle.mrt_exit.specs.declared.exit.Exit.{Exit}
 use Rattle.mrt_exit.specs.declared.exit.Exit.TheVariants.{ReadFault, TooLarge, Usage}
-use Rattle.mrt_words.specs.FileBytes.{AreRead, FileBytes, IsLastRead, IsProfileRead}
-use Rattle.mrt_words.specs.Files.{IsReadAs, NamedFile, Names, flood_names, profile_file, refusal_of, task_names}
-use Rattle.mrt_words.specs.Form.{IsNetworkSize, IsTaskWithin, Task, form_of}
-use Rattle.mrt_words.specs.Spellings.{AreTaskWords, AreWordsOf}
-use Rattle.mrt_words.specs.declared.form.FileForm.{FileForm}
-use Rattle.mrt_words.specs.declared.form.Form.{Form}
-use Rattle.mrt_words.specs.declared.form.Form.TheVariants.{Flood, OfFiles, Survey}
-use Rattle.mrt_words.specs.declared.task.RouterTask.TheVariants.{Certify, Lfa, Order, Proxy, Table, Trace}
-use Rattle.mrt_words.specs.declared.task.Task.TheVariants.{Check, Fabric, OfRouter, Upgrade}
+use Rattle.mrt_args.specs.FileBytes.{AreRead, FileBytes, IsLastRead, IsProfileRead}
+use Rattle.mrt_args.specs.Files.{IsReadAs, NamedFile, Names, flood_names, profile_file, refusal_of, task_names}
+use Rattle.mrt_args.specs.Form.{IsNetworkSize, IsTaskWithin, Task, form_of}
+use Rattle.mrt_args.specs.Spellings.{AreTaskWords, AreWordsOf}
+use Rattle.mrt_args.specs.declared.form.FileForm.{FileForm}
+use Rattle.mrt_args.specs.declared.form.Form.{Form}
+use Rattle.mrt_args.specs.declared.form.Form.TheVariants.{Flood, OfFiles, Survey}
+use Rattle.mrt_args.specs.declared.task.RouterTask.TheVariants.{Certify, Lfa, Order, Proxy, Table, Trace}
+use Rattle.mrt_args.specs.declared.task.Task.TheVariants.{Check, Fabric, OfRouter, Upgrade}
 use Rattle.mrt_answer.specs.Forms.{flooded, over}
 use Rattle.mrt_answer.specs.Surveyed.{IsSurveyed}
 use Rattle.mrt_answer.proofs.AnswersCome.{HasAnswer, both}

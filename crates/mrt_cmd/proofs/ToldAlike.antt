@@ -4,10 +4,10 @@ use Rattle.std.proofs.lemmas.Option.{same_Some}
 use Rattle.flood_verdict.specs.Alike.{ComparesAlike, IsToldAlike}
 use Rattle.flood_verdict.specs.Says.{Says}
 use Rattle.mrt_io.specs.Holding.{Files}
-use Rattle.mrt_words.specs.FileBytes.{FileBytes}
-use Rattle.mrt_words.specs.Files.{flood_names}
-use Rattle.mrt_words.specs.declared.form.Form.{Form}
-use Rattle.mrt_words.specs.declared.form.Form.TheVariants.{Flood}
+use Rattle.mrt_args.specs.FileBytes.{FileBytes}
+use Rattle.mrt_args.specs.Files.{flood_names}
+use Rattle.mrt_args.specs.declared.form.Form.{Form}
+use Rattle.mrt_args.specs.declared.form.Form.TheVariants.{Flood}
 use Rattle.mrt_answer.specs.Reading.{HoldsFlood}
 use Rattle.mrt_answer.specs.Forms.{flooded}
 use Rattle.mrt_cmd.specs.Comes.{GivesText, of_form}

@@ -2,11 +2,11 @@
 use Rattle.std.proofs.Common.{◌≡◌, ◌∙◌, ℕ, List, Option, Some, subst, sym}
 use Rattle.std.specs.Prelude.{IfSome, IsNone}
 use Rattle.std.proofs.lemmas.Option.{same_Some}
-use Rattle.mrt_words.specs.declared.form.Form.{Form}
-use Rattle.mrt_words.specs.Form.{form_of}
-use Rattle.mrt_words.specs.Spellings.{AreWordsOf}
-use Rattle.mrt_words.proofs.Spelled.{form_spelled}
-use Rattle.mrt_words.proofs.Spelling.{form_is}
+use Rattle.mrt_args.specs.declared.form.Form.{Form}
+use Rattle.mrt_args.specs.Form.{form_of}
+use Rattle.mrt_args.specs.Spellings.{AreWordsOf}
+use Rattle.mrt_args.proofs.Spelled.{form_spelled}
+use Rattle.mrt_args.proofs.Spelling.{form_is}
 use Rattle.mrt_cmd.specs.Comes.{AreOfNoForm}
 
 pub words_are : (words : List (List ℕ)) (form : Form) → form_of words ≡ Some form → AreWordsOf form words

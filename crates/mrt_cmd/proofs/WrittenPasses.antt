@@ -7,17 +7,17 @@ use Rattle.std.proofs.lemmas.Option.{same_Some}
 use Rattle.mrt_io.specs.Holding.{Files}
 use Rattle.mrt_exit.specs.declared.exit.Exit.{Exit}
 use Rattle.mrt_exit.specs.declared.exit.Exit.TheVariants as exits
-use Rattle.mrt_words.specs.FileBytes.{FileBytes, AreRead, IsProfileRead, with_last}
+use Rattle.mrt_args.specs.FileBytes.{FileBytes, AreRead, IsProfileRead, with_last}
 use Rattle.mrt_answer.specs.Forms.{over}
 use Rattle.mrt_cmd.specs.Comes.{GivesText, of_form}
 use Rattle.mrt_graph.specs.Spelling.{address_in}
-use Rattle.mrt_words.specs.Files.{IsReadAs, certificate_limit, database_file, profile_limit, task_names}
-use Rattle.mrt_words.specs.declared.form.FileForm.{FileForm}
-use Rattle.mrt_words.specs.declared.form.Form.{Form}
-use Rattle.mrt_words.specs.declared.form.Form.TheVariants.{OfFiles}
-use Rattle.mrt_words.specs.declared.task.RouterTask.TheVariants.{Certify}
-use Rattle.mrt_words.specs.declared.task.Task.TheVariants.{Check, Upgrade, OfRouter}
-use Rattle.mrt_words.specs.Form.{Task, form_of, profile_name}
+use Rattle.mrt_args.specs.Files.{IsReadAs, certificate_limit, database_file, profile_limit, task_names}
+use Rattle.mrt_args.specs.declared.form.FileForm.{FileForm}
+use Rattle.mrt_args.specs.declared.form.Form.{Form}
+use Rattle.mrt_args.specs.declared.form.Form.TheVariants.{OfFiles}
+use Rattle.mrt_args.specs.declared.task.RouterTask.TheVariants.{Certify}
+use Rattle.mrt_args.specs.declared.task.Task.TheVariants.{Check, Upgrade, OfRouter}
+use Rattle.mrt_args.specs.Form.{Task, form_of, profile_name}
 use Rattle.mrt_cmd.specs.Headline.{ChecksWritten, IsPassed, profile_held}
 use Rattle.mrt_cmd.specs.Run.{WritesNothing}
 use Rattle.mrt_cmd.proofs.WordsOfForm.{read_as, words_are}

@@ -8,9 +8,9 @@ use Rattle.mrt_exit.specs.declared.exit.Exit.TheVariants.{Done, No, Usage, TooLa
 use Rattle.mrt_exit.specs.declared.exit.What.TheVariants.{DatabaseFile, UpdatesFile, ProfileFile, CertificateFile, ScriptFile}
 use Rattle.mrt_cmd.specs.Comes.{AreOfForm, AreOfNoForm, Comes, FailsAt, GivesText, IsRefused, MissesAt, NamesHeld}
 use Rattle.mrt_exit.specs.Exits.{line_of}
-use Rattle.mrt_words.specs.Form.{AsksVerdict}
-use Rattle.mrt_words.specs.Spellings.{AreWordsOf}
-use Rattle.mrt_words.specs.declared.form.Form.{Form}
+use Rattle.mrt_args.specs.Form.{AsksVerdict}
+use Rattle.mrt_args.specs.Spellings.{AreWordsOf}
+use Rattle.mrt_args.specs.declared.form.Form.{Form}
 use Rattle.mrt_exit.specs.Telling.{GainedLine, IsCutShort}
 use Rattle.mrt_cmd.specs.Run.{IsHealthyForText, IsUndisturbed, WritesNothing}
 

@@ -4,11 +4,11 @@ use Rattle.mrt_io.specs.Holding.{Files}
 use Rattle.mrt_exit.specs.Steps.{Step, such, ◌▸◌}
 use Rattle.mrt_exit.specs.declared.exit.Exit.{Exit}
 use Rattle.mrt_exit.specs.declared.exit.Exit.TheVariants.{Done, Usage}
-use Rattle.mrt_words.specs.FileBytes.{FileBytes, AreRead}
-use Rattle.mrt_words.specs.Files.{Names, files_in, files_of, flood_names, task_names, IsFirstMissing, IsRefusedBy, MayFail, AreThere}
-use Rattle.mrt_words.specs.declared.form.Form.{Form}
-use Rattle.mrt_words.specs.declared.form.Form.TheVariants.{OfFiles, Survey, Flood}
-use Rattle.mrt_words.specs.Spellings.{AreWordsOf}
+use Rattle.mrt_args.specs.FileBytes.{FileBytes, AreRead}
+use Rattle.mrt_args.specs.Files.{Names, files_in, files_of, flood_names, task_names, IsFirstMissing, IsRefusedBy, MayFail, AreThere}
+use Rattle.mrt_args.specs.declared.form.Form.{Form}
+use Rattle.mrt_args.specs.declared.form.Form.TheVariants.{OfFiles, Survey, Flood}
+use Rattle.mrt_args.specs.Spellings.{AreWordsOf}
 use Rattle.mrt_answer.specs.Forms.{flooded, over}
 use Rattle.mrt_answer.specs.Surveyed.{IsSurveyed}
 

@@ -5,14 +5,14 @@ use Rattle.mrt_io.specs.Holding.{Files}
 use Rattle.mrt_exit.specs.declared.exit.Exit.{Exit}
 use Rattle.mrt_exit.specs.declared.exit.Exit.TheVariants.{Done, NoMemory, ReadFault, WriteFault}
 use Rattle.flood_verdict.specs.Alike.{ComparesAlike}
-use Rattle.mrt_words.specs.FileBytes.{AreRead, FileBytes}
+use Rattle.mrt_args.specs.FileBytes.{AreRead, FileBytes}
 use Rattle.mrt_cmd.specs.Comes.{GivesText}
-use Rattle.mrt_words.specs.Files.{flood_names}
+use Rattle.mrt_args.specs.Files.{flood_names}
 use Rattle.mrt_answer.specs.Reading.{HoldsFlood}
-use Rattle.mrt_words.specs.declared.form.FloodForm.{FloodForm}
-use Rattle.mrt_words.specs.declared.form.Form.TheVariants.{Flood}
-use Rattle.mrt_words.specs.Form.{profile_name}
-use Rattle.mrt_words.specs.Spellings.{AreWordsOf}
+use Rattle.mrt_args.specs.declared.form.FloodForm.{FloodForm}
+use Rattle.mrt_args.specs.declared.form.Form.TheVariants.{Flood}
+use Rattle.mrt_args.specs.Form.{profile_name}
+use Rattle.mrt_args.specs.Spellings.{AreWordsOf}
 
 -- what a word for a profile stands for: no bytes where it names none, else those that are held
 abbrev pub profile_held : Files → List ℕ → Option (List ℕ)

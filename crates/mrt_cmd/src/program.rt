@@ -9,18 +9,18 @@ ghost use Rattle.mrt_island.specs.declared.profile_error.ProfileKind.{ProfileKin
 ghost use Rattle.mrt_exit.specs.{declared.exit.DbKind.DbKind, declared.exit.What.What, Exits.line_of, Telling.GainedLine, Telling.IsCutShort};
 ghost use Rattle.mrt_cmd.specs.Causes.{HasNoText, IsAnswered, shelf_over, sink_over};
 ghost use Rattle.mrt_cmd.specs.Comes.{AreOfForm, AreOfNoForm, Comes, FailsAt, GivesText, IsRefused, MissesAt, NamesHeld, of_form};
-ghost use Rattle.mrt_words.specs.Files.{files_in, files_of, flood_names, task_names};
-ghost use Rattle.mrt_words.specs.{declared.form.Form.TheVariants.Flood, declared.form.Form.TheVariants.OfFiles, Reading.ReadsAs};
-ghost use Rattle.mrt_words.specs.Form.{AsksVerdict, IsSurvey, IsWithin};
+ghost use Rattle.mrt_args.specs.Files.{files_in, files_of, flood_names, task_names};
+ghost use Rattle.mrt_args.specs.{declared.form.Form.TheVariants.Flood, declared.form.Form.TheVariants.OfFiles, Reading.ReadsAs};
+ghost use Rattle.mrt_args.specs.Form.{AsksVerdict, IsSurvey, IsWithin};
 ghost use Rattle.mrt_cmd.specs.Headline.{ChecksWritten, FloodsAlike, IsPassed};
 ghost use Rattle.mrt_answer.specs.TextBytes.{HasText, IsTextOf};
 ghost use Rattle.mrt_cmd.specs.Run.{IsExitOfSurvey, IsHealthyForText, IsUndisturbed, WritesNothing};
 
 use crate::run_law::{alike_routers_are_told_alike, one_exit_comes, what_was_written_passes};
 use mrt_answer::{Text, answer_of_files, answer_of_flood, answer_of_survey};
+use mrt_args::{FileForm, FloodForm, Form, read_files, read_flood_files, read_form};
 use mrt_exit::{Exit, tell};
 use mrt_io::{Shelf, Sink, Word};
-use mrt_words::{FileForm, FloodForm, Form, read_files, read_flood_files, read_form};
 use std::alloc::Global;
 
 /// Does what the words ask for: reads the files that they name, writes the text of the answer to `out`, or else one line on

@@ -16,11 +16,11 @@ use Rattle.mrt_graph.specs.Topology.{Topology}
 use Rattle.mrt_graph.proofs.EndsAt.{end_leads}
 use Rattle.link_direction.specs.CommonBlock.{FromHead, HaveCommonBlock, Peers, ToHead}
 use Rattle.link_direction.specs.Directions.{Directions}
-use Rattle.inc_dec_spf.specs.declared.reach.Dir.{Dir}
-use Rattle.inc_dec_spf.specs.declared.reach.Dir.TheVariants.{Down, Up}
-use Rattle.inc_dec_spf.specs.declared.reach.Hop.{Hop}
-use Rattle.inc_dec_spf.specs.LeastPath.{BeginsPath, HasMoreLinks, IsHop, IsLeastPath, NotReached, Reached, HaveCommonBlockOfMoreLinks}
-use Rattle.inc_dec_spf.specs.Path.{IsStep, LeadsOn, Path}
+use Rattle.block_spf.specs.declared.reach.Dir.{Dir}
+use Rattle.block_spf.specs.declared.reach.Dir.TheVariants.{Down, Up}
+use Rattle.block_spf.specs.declared.reach.Hop.{Hop}
+use Rattle.block_spf.specs.LeastPath.{BeginsPath, HasMoreLinks, IsHop, IsLeastPath, NotReached, Reached, HaveCommonBlockOfMoreLinks}
+use Rattle.block_spf.specs.Path.{IsStep, LeadsOn, Path}
 use Rattle.link_direction.proofs.SameDirections.{AreAlike, alike_back, common_too}
 use Rattle.mrt_rows.specs.CertOf.{Tells, link_words, node_words}
 use Rattle.mrt_rows.specs.RowLines.{AreMembers, BeginsOver, HasLinksFor, HasOneLink, LineOf}

@@ -3,8 +3,8 @@ use Rattle.std.proofs.Common.{◌≡◌, ◌≢◌, ◌∙◌, ◌<◌, ℕ, Boo
 use Rattle.std.proofs.lemmas.Bool.{cases_eq}
 use Rattle.link_direction.specs.CommonBlock.{FromHead, HaveCommonBlock, Peers, ToHead}
 use Rattle.link_direction.specs.Directions.{Directions}
-use Rattle.inc_dec_spf.specs.BlockAims.{IsAimOf}
-use Rattle.inc_dec_spf.specs.LeastPath.{HasMoreLinks, HaveCommonBlockOfMoreLinks}
+use Rattle.block_spf.specs.BlockAims.{IsAimOf}
+use Rattle.block_spf.specs.LeastPath.{HasMoreLinks, HaveCommonBlockOfMoreLinks}
 use Rattle.link_direction.proofs.OneBlock.{one_block}
 use Rattle.mrt_rows.specs.Chain.{AreBelow, AreWayAims, ByHead, Climbs, There}
 use Rattle.mrt_rows.specs.steps.Chain.{AtHome, Beside, IsRowAim, Under}

@@ -10,8 +10,8 @@ use Rattle.mrt_graph.specs.declared.cert.Tag.TheVariants as tags
 use Rattle.mrt_graph.specs.Tags.{carried}
 use Rattle.mrt_graph.proofs.ListPlaces.{set_elsewhere, set_there}
 use Rattle.link_direction.specs.CommonBlock.{FromHead, HaveCommonBlock, ToHead}
-use Rattle.inc_dec_spf.specs.declared.reach.Dir.TheVariants.{Up}
-use Rattle.inc_dec_spf.specs.Turns.{AreTurns}
+use Rattle.block_spf.specs.declared.reach.Dir.TheVariants.{Up}
+use Rattle.block_spf.specs.Turns.{AreTurns}
 use Rattle.mrt_rows.specs.steps.ColumnOf.{IsRowIn}
 use Rattle.mrt_rows.specs.steps.NearOf.{Apart, IsNearRow}
 use Rattle.mrt_rows.specs.RowsOf.{AreRowsOf, rows_for}

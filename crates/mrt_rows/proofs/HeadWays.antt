@@ -1,7 +1,7 @@
 -- In a block of more than one link, ways up and down lead from each node to the head, and from the head to each node.
 use Rattle.std.proofs.Common.{ℕ}
-use Rattle.inc_dec_spf.specs.declared.reach.Dir.{Dir}
-use Rattle.inc_dec_spf.proofs.HomePaths.{from_head, to_head}
+use Rattle.block_spf.specs.declared.reach.Dir.{Dir}
+use Rattle.block_spf.proofs.HomePaths.{from_head, to_head}
 use Rattle.mrt_rows.proofs.OrderedGraphs.{OrderedGraph, is_ordered}
 use Rattle.mrt_rows.proofs.Ways.{Ring, Way}
 

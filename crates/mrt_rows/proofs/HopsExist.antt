@@ -1,9 +1,9 @@
 -- Each node has a hop for each other one, or none leads there.
 use Rattle.std.proofs.Common.{◌<◌, ℕ, Option, length}
-use Rattle.inc_dec_spf.specs.declared.reach.Dir.{Dir}
-use Rattle.inc_dec_spf.specs.declared.reach.Hop.{Hop}
-use Rattle.inc_dec_spf.specs.LeastPath.{IsHop}
-use Rattle.inc_dec_spf.proofs.HopExists.{some_hop}
+use Rattle.block_spf.specs.declared.reach.Dir.{Dir}
+use Rattle.block_spf.specs.declared.reach.Hop.{Hop}
+use Rattle.block_spf.specs.LeastPath.{IsHop}
+use Rattle.block_spf.proofs.HopExists.{some_hop}
 use Rattle.mrt_rows.proofs.OrderedGraphs.{OrderedGraph, is_ordered}
 
 pub has_hop : (og : OrderedGraph) (dir : Dir) (s t : ℕ) → s < length og.g.ids → t < length og.g.ids → (hop : Option Hop) × IsHop og.g og.w dir s t hop

@@ -15,11 +15,11 @@ use Rattle.mrt_graph.specs.Roles.{is_closing, is_plain}
 use Rattle.mrt_graph.specs.steps.RowRules.{near_row}
 use Rattle.mrt_graph.proofs.Hops.{lead_back}
 use Rattle.link_direction.specs.CommonBlock.{FromHead, HaveCommonBlock, Peers, ToHead}
-use Rattle.inc_dec_spf.specs.declared.reach.Dir.{Dir}
-use Rattle.inc_dec_spf.specs.declared.reach.Dir.TheVariants.{Down, Up}
-use Rattle.inc_dec_spf.specs.LeastPath.{HasMoreLinks}
-use Rattle.inc_dec_spf.specs.Against.{against}
-use Rattle.inc_dec_spf.specs.Path.{IsStep, LeadsOn, Path}
+use Rattle.block_spf.specs.declared.reach.Dir.{Dir}
+use Rattle.block_spf.specs.declared.reach.Dir.TheVariants.{Down, Up}
+use Rattle.block_spf.specs.LeastPath.{HasMoreLinks}
+use Rattle.block_spf.specs.Against.{against}
+use Rattle.block_spf.specs.Path.{IsStep, LeadsOn, Path}
 use Rattle.mrt_rows.specs.CertOf.{Tells}
 use Rattle.mrt_rows.specs.RowLines.{AboveLine, AreMembers, BeginsOver, BelowLine, HeadLine, TopLine, UnorderedLine}
 use Rattle.mrt_rows.specs.RowsOf.{HasRow}

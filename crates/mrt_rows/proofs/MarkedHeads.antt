@@ -4,8 +4,8 @@ use Rattle.std.proofs.lemmas.Option.{same_Some}
 use Rattle.mrt_graph.specs.Topology.{Topology}
 use Rattle.link_direction.specs.CommonBlock.{FromHead, HaveCommonBlock, Peers, ToHead}
 use Rattle.link_direction.specs.Directions.{Directions}
-use Rattle.inc_dec_spf.specs.FirstLink.{no_link}
-use Rattle.inc_dec_spf.specs.LeastPath.{HasMoreLinks}
+use Rattle.block_spf.specs.FirstLink.{no_link}
+use Rattle.block_spf.specs.LeastPath.{HasMoreLinks}
 use Rattle.mrt_rows.specs.NearOf.{IsSoleOf}
 use Rattle.mrt_rows.specs.Put.{AreHeadsMarked, AreInCommonBlockOfMoreLinks}
 use Rattle.mrt_rows.specs.RowLines.{HasOneLink}

@@ -1,9 +1,9 @@
 -- What a node's one hop for another one gives its rows.
 use Rattle.std.proofs.Common.{◌≡◌, ◌∙◌, ◌<◌, ℕ, Option, Some, None, length, sym, ap}
 use Rattle.std.proofs.lemmas.Option.{same_Some}
-use Rattle.inc_dec_spf.specs.declared.reach.Dir.{Dir}
-use Rattle.inc_dec_spf.specs.declared.reach.Hop.{Hop}
-use Rattle.inc_dec_spf.proofs.OneHop.{one_hop}
+use Rattle.block_spf.specs.declared.reach.Dir.{Dir}
+use Rattle.block_spf.specs.declared.reach.Hop.{Hop}
+use Rattle.block_spf.proofs.OneHop.{one_hop}
 use Rattle.mrt_rows.specs.RowLines.{BeginsOver, NoWay}
 use Rattle.mrt_rows.proofs.OrderedGraphs.{OrderedGraph, is_ordered}
 

@@ -6,9 +6,9 @@ use Rattle.mrt_graph.specs.declared.cert.Tag.{Tag}
 use Rattle.mrt_graph.specs.declared.cert.Tag.TheVariants as tags
 use Rattle.mrt_graph.specs.Tags.{carried}
 use Rattle.link_direction.specs.CommonBlock.{FromHead, HaveCommonBlock, ToHead}
-use Rattle.inc_dec_spf.specs.declared.reach.Dir.{Dir}
-use Rattle.inc_dec_spf.specs.declared.reach.Dir.TheVariants.{Down, Up}
-use Rattle.inc_dec_spf.specs.LeastPath.{HaveCommonBlockOfMoreLinks}
+use Rattle.block_spf.specs.declared.reach.Dir.{Dir}
+use Rattle.block_spf.specs.declared.reach.Dir.TheVariants.{Down, Up}
+use Rattle.block_spf.specs.LeastPath.{HaveCommonBlockOfMoreLinks}
 use Rattle.mrt_rows.specs.steps.NearOf.{Apart, InCommon, IsNearRow}
 use Rattle.mrt_rows.specs.RowLines.{AreMembers, BeginsOver, CarriedLine, LineOf, SoleLine}
 use Rattle.mrt_rows.specs.RowsOf.{HasRow}

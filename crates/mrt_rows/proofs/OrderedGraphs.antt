@@ -9,10 +9,10 @@ use Rattle.mrt_graph.proofs.EndsAt.{end_leads, leads_end, list_of_ends}
 use Rattle.link_direction.specs.CommonBlock.{HaveCommonBlock}
 use Rattle.link_direction.specs.Directions.{Directions}
 use Rattle.link_direction.specs.OrderedGadag.{IsOrderedGadag}
-use Rattle.inc_dec_spf.specs.declared.reach.Dir.{Dir}
-use Rattle.inc_dec_spf.specs.declared.reach.Dir.TheVariants.{Down, Up}
-use Rattle.inc_dec_spf.specs.HasDirections.{AreDirections}
-use Rattle.inc_dec_spf.specs.Path.{IsStep, LeadsOn}
+use Rattle.block_spf.specs.declared.reach.Dir.{Dir}
+use Rattle.block_spf.specs.declared.reach.Dir.TheVariants.{Down, Up}
+use Rattle.block_spf.specs.HasDirections.{AreDirections}
+use Rattle.block_spf.specs.Path.{IsStep, LeadsOn}
 use Rattle.link_direction.proofs.ClosedBlocks.{IsOrdered}
 use Rattle.link_direction.proofs.LinkNodes.{leads_elsewhere, leads_within, link_within}
 use Rattle.link_direction.proofs.OneBlock.{one_block}

@@ -18,11 +18,11 @@ use Rattle.mrt_graph.specs.RowRules.{lies_in_block, same_links}
 use Rattle.mrt_graph.proofs.Hops.{lead_back}
 use Rattle.link_direction.specs.CommonBlock.{FromHead, HaveCommonBlock, Peers, ToHead}
 use Rattle.link_direction.specs.OrderedGadag.{HasSoleLink}
-use Rattle.inc_dec_spf.specs.declared.reach.Dir.{Dir}
-use Rattle.inc_dec_spf.specs.declared.reach.Dir.TheVariants.{Down, Up}
-use Rattle.inc_dec_spf.specs.declared.reach.Hop.{Hop}
-use Rattle.inc_dec_spf.specs.LeastPath.{BeginsPath, IsHop, Reached}
-use Rattle.inc_dec_spf.specs.Path.{IsStep, Path}
+use Rattle.block_spf.specs.declared.reach.Dir.{Dir}
+use Rattle.block_spf.specs.declared.reach.Dir.TheVariants.{Down, Up}
+use Rattle.block_spf.specs.declared.reach.Hop.{Hop}
+use Rattle.block_spf.specs.LeastPath.{BeginsPath, IsHop, Reached}
+use Rattle.block_spf.specs.Path.{IsStep, Path}
 use Rattle.mrt_rows.specs.CertOf.{Tells}
 use Rattle.mrt_rows.specs.steps.NearOf.{InCommon, IsNearRow}
 use Rattle.mrt_rows.specs.RowLines.{AreMembers, BeginsOver, CarriedLine, HasOneLink, LineOf, SoleLine}

@@ -12,9 +12,9 @@ use Rattle.mrt_graph.specs.Topology.{Topology}
 use Rattle.link_direction.specs.Directions.{Directions, Says}
 use Rattle.link_direction.specs.OrderedGadag.{SaysOrdered}
 use Rattle.link_direction.proofs.SameDirections.{AreAlike, ordered_too, said_alike}
-use Rattle.inc_dec_spf.specs.declared.reach.Dir.{Dir}
-use Rattle.inc_dec_spf.specs.HasDirections.{AreDirections, HasDirections}
-use Rattle.inc_dec_spf.specs.Turns.{AreTurns, turn_at, turn_of}
+use Rattle.block_spf.specs.declared.reach.Dir.{Dir}
+use Rattle.block_spf.specs.HasDirections.{AreDirections, HasDirections}
+use Rattle.block_spf.specs.Turns.{AreTurns, turn_at, turn_of}
 use Rattle.mrt_rows.specs.ColumnOf.{IsColumnOf}
 use Rattle.mrt_rows.specs.RowsOf.{HasRow}
 use Rattle.mrt_rows.specs.ListedDirections.{AreRooted, directions_of}

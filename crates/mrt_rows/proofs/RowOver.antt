@@ -10,7 +10,7 @@ use Rattle.mrt_graph.specs.Related.{IsRelation, is_apart}
 use Rattle.link_direction.specs.CommonBlock.{FromHead, HaveCommonBlock, Peers, ToHead}
 use Rattle.link_direction.specs.Directions.{Directions}
 use Rattle.link_direction.proofs.TwoNodes.{Relates, relates}
-use Rattle.inc_dec_spf.specs.FirstLink.{no_link}
+use Rattle.block_spf.specs.FirstLink.{no_link}
 use Rattle.mrt_rows.specs.declared.row_over.FirstLinks.{FirstLinks}
 use Rattle.mrt_rows.specs.steps.NearOf.{InCommon, IsNearRow, IsPlaceOf}
 use Rattle.mrt_rows.specs.NearOf.{IsSoleOf}

@@ -8,10 +8,10 @@ use Rattle.mrt_graph.specs.declared.related.Relation.TheVariants as relations
 use Rattle.mrt_graph.specs.Tags.{carried}
 use Rattle.link_direction.specs.CommonBlock.{FromHead, HaveCommonBlock, Peers, ToHead}
 use Rattle.link_direction.proofs.TwoNodes.{Relates, of_two}
-use Rattle.inc_dec_spf.specs.declared.reach.Dir.{Dir}
-use Rattle.inc_dec_spf.specs.declared.reach.Dir.TheVariants.{Down, Up}
-use Rattle.inc_dec_spf.specs.declared.reach.Hop.{Hop}
-use Rattle.inc_dec_spf.specs.LeastPath.{HaveCommonBlockOfMoreLinks, IsHop}
+use Rattle.block_spf.specs.declared.reach.Dir.{Dir}
+use Rattle.block_spf.specs.declared.reach.Dir.TheVariants.{Down, Up}
+use Rattle.block_spf.specs.declared.reach.Hop.{Hop}
+use Rattle.block_spf.specs.LeastPath.{HaveCommonBlockOfMoreLinks, IsHop}
 use Rattle.mrt_rows.specs.steps.ColumnOf.{IsRowIn}
 use Rattle.mrt_rows.specs.steps.NearOf.{Apart, InCommon, IsNearRow}
 use Rattle.mrt_rows.specs.RowLines.{AreMembers, BeginsOver, HasOneLink, LineOf}

@@ -4,7 +4,7 @@ use Rattle.std.proofs.lemmas.Bool.{cases_eq}
 use Rattle.std.proofs.lemmas.List.{get_or-set_other, get_or-set_same, length-set}
 use Rattle.std.proofs.lemmas.Option.{same_Some}
 use Rattle.mrt_graph.proofs.ListPlaces.{set_elsewhere, set_there}
-use Rattle.inc_dec_spf.specs.BlockAims.{aim_at}
+use Rattle.block_spf.specs.BlockAims.{aim_at}
 
 -- the first so many blocks are looked at; the others are wanted as before
 pub record AreSharedTo (count width : ℕ) (aims : List ℕ) (marks wanted : List Bool) (firsts : List ℕ) (shared : List Bool) (k : ℕ) : Type 0 where

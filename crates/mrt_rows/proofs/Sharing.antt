@@ -2,8 +2,8 @@
 use Rattle.std.proofs.Common.{◌≡◌, ◌≢◌, ◌∙◌, ◌<◌, ℕ, Bool, false, true, List, Some, length, slice_get, sym, ap, subst}
 use Rattle.std.proofs.lemmas.Option.{same_Some}
 use Rattle.link_direction.specs.CommonBlock.{FromHead, HaveCommonBlock, Peers, ToHead}
-use Rattle.inc_dec_spf.specs.FirstLink.{AreOthersInOneBlock}
-use Rattle.inc_dec_spf.specs.LeastPath.{HasMoreLinks, HaveCommonBlockOfMoreLinks}
+use Rattle.block_spf.specs.FirstLink.{AreOthersInOneBlock}
+use Rattle.block_spf.specs.LeastPath.{HasMoreLinks, HaveCommonBlockOfMoreLinks}
 use Rattle.mrt_rows.specs.Put.{AreHeadsMarked}
 use Rattle.mrt_rows.specs.steps.Put.{NoneOfOneLink}
 use Rattle.mrt_rows.proofs.OrderedGraphs.{OrderedGraph, one_common}

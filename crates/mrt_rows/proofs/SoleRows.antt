@@ -12,8 +12,8 @@ use Rattle.mrt_graph.proofs.EndsAt.{leads_end}
 use Rattle.link_direction.specs.CommonBlock.{ToHead}
 use Rattle.link_direction.specs.Directions.{Directions, Says}
 use Rattle.link_direction.proofs.ClosedBlocks.{inside_of_link}
-use Rattle.inc_dec_spf.specs.FirstLink.{no_link}
-use Rattle.inc_dec_spf.specs.LeastPath.{HasMoreLinks}
+use Rattle.block_spf.specs.FirstLink.{no_link}
+use Rattle.block_spf.specs.LeastPath.{HasMoreLinks}
 use Rattle.mrt_rows.specs.NearOf.{AreSoles, IsSoleOf}
 use Rattle.mrt_rows.specs.RowLines.{HasOneLink}
 use Rattle.mrt_rows.proofs.OrderedGraphs.{OrderedGraph, is_ordered}

@@ -2,13 +2,13 @@
 use Rattle.std.proofs.Common.{◌≡◌, ◌<◌, ◌+◌, ◌*◌, ℕ, Bool, true, List, Some, length, slice_get, sym, subst, arith}
 use Rattle.mrt_graph.specs.Topology.{Topology}
 use Rattle.link_direction.specs.Directions.{Directions}
-use Rattle.inc_dec_spf.specs.declared.reach.Dir.{Dir}
-use Rattle.inc_dec_spf.specs.declared.reach.Dir.TheVariants.{Down, Up}
-use Rattle.inc_dec_spf.specs.BlockAims.{IsAimOf, aim_at}
-use Rattle.inc_dec_spf.specs.FirstLink.{IsFirstLink}
-use Rattle.inc_dec_spf.specs.LeastPath.{HaveCommonBlockOfMoreLinks}
-use Rattle.inc_dec_spf.specs.Tile.{IsAimed, IsTile}
-use Rattle.inc_dec_spf.specs.TileEntries.{TileEntries}
+use Rattle.block_spf.specs.declared.reach.Dir.{Dir}
+use Rattle.block_spf.specs.declared.reach.Dir.TheVariants.{Down, Up}
+use Rattle.block_spf.specs.BlockAims.{IsAimOf, aim_at}
+use Rattle.block_spf.specs.FirstLink.{IsFirstLink}
+use Rattle.block_spf.specs.LeastPath.{HaveCommonBlockOfMoreLinks}
+use Rattle.block_spf.specs.Tile.{IsAimed, IsTile}
+use Rattle.block_spf.specs.TileEntries.{TileEntries}
 use Rattle.mrt_rows.specs.declared.row_over.FirstLinks.{FirstLinks}
 use Rattle.mrt_rows.specs.declared.tiles.Tiles.{Tiles}
 use Rattle.mrt_rows.specs.Put.{AreFirstLinks, AreInCommonBlockOfMoreLinks}

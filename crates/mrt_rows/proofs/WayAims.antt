@@ -4,9 +4,9 @@ use Rattle.std.proofs.lemmas.Bool.{cases_eq, cases_lt}
 use Rattle.std.proofs.lemmas.List.{get_or-set_other, get_or-set_same}
 use Rattle.mrt_graph.specs.Topology.{Topology}
 use Rattle.link_direction.specs.Directions.{Directions}
-use Rattle.inc_dec_spf.specs.BlockAims.{aim_at}
-use Rattle.inc_dec_spf.specs.LeastPath.{HasMoreLinks}
-use Rattle.inc_dec_spf.proofs.SideBySide.{row_within}
+use Rattle.block_spf.specs.BlockAims.{aim_at}
+use Rattle.block_spf.specs.LeastPath.{HasMoreLinks}
+use Rattle.block_spf.proofs.SideBySide.{row_within}
 use Rattle.mrt_rows.specs.Chain.{AreWayAims, Climbs, IsOnWay, There}
 use Rattle.mrt_rows.proofs.ChainAims.{climb_low, climb_on, further, root_alone}
 use Rattle.mrt_rows.proofs.OrderedGraphs.{OrderedGraph}

@@ -7,13 +7,13 @@ use Rattle.mrt_graph.specs.declared.link.End.{End}
 use Rattle.mrt_graph.specs.Leads.{leads}
 use Rattle.mrt_graph.proofs.Hops.{lead_back}
 use Rattle.link_direction.specs.OrderedGadag.{HasClosingLink}
-use Rattle.inc_dec_spf.specs.declared.reach.Dir.{Dir}
-use Rattle.inc_dec_spf.specs.declared.reach.Dir.TheVariants.{Down, Up}
-use Rattle.inc_dec_spf.specs.Against.{against}
-use Rattle.inc_dec_spf.specs.Path.{IsStep, Path}
+use Rattle.block_spf.specs.declared.reach.Dir.{Dir}
+use Rattle.block_spf.specs.declared.reach.Dir.TheVariants.{Down, Up}
+use Rattle.block_spf.specs.Against.{against}
+use Rattle.block_spf.specs.Path.{IsStep, Path}
 use Rattle.link_direction.proofs.ClosedBlocks.{IsClosed, head_lower as head_below, head_of_member, leads_inside, member_not_head, member_not_root}
-use Rattle.inc_dec_spf.proofs.HomePaths.{from_head as way_down}
-use Rattle.inc_dec_spf.proofs.PathsSwept.{path_onward}
+use Rattle.block_spf.proofs.HomePaths.{from_head as way_down}
+use Rattle.block_spf.proofs.PathsSwept.{path_onward}
 use Rattle.mrt_rows.proofs.OrderedGraphs.{OrderedGraph, Within, is_ordered, step_leads, within}
 
 -- node m has a block of more than one link

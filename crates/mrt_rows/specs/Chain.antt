@@ -2,8 +2,8 @@
 use Rattle.std.specs.Prelude.{◌≡◌, ◌≢◌, ◌<◌, ◌⊎◌, ℕ, Bool, true, List, Option, Some, length, slice_get}
 use Rattle.mrt_graph.specs.Topology.{Topology}
 use Rattle.link_direction.specs.Directions.{Directions}
-use Rattle.inc_dec_spf.specs.BlockAims.{aim_at}
-use Rattle.inc_dec_spf.specs.LeastPath.{HasMoreLinks}
+use Rattle.block_spf.specs.BlockAims.{aim_at}
+use Rattle.block_spf.specs.LeastPath.{HasMoreLinks}
 
 -- from node c, head by head, one comes to node b
 pub data Climbs (root : ℕ) (w : Directions) : ℕ → ℕ → Type 0 where

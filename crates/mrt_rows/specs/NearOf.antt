@@ -5,7 +5,7 @@ use Rattle.mrt_graph.specs.Certificate.{Certificate}
 use Rattle.mrt_graph.specs.Tags.{is_near}
 use Rattle.mrt_graph.specs.Topology.{Topology}
 use Rattle.link_direction.specs.Directions.{Directions}
-use Rattle.inc_dec_spf.specs.FirstLink.{no_link}
+use Rattle.block_spf.specs.FirstLink.{no_link}
 use Rattle.mrt_rows.specs.RowLines.{HasOneLink}
 
 -- of the rows of node s in a certificate, those that are near, by ascending destination

@@ -7,10 +7,10 @@ use Rattle.mrt_graph.specs.declared.cert.Tag.TheVariants.{Sole, Head, Top, Below
 use Rattle.mrt_graph.specs.Topology.{Topology}
 use Rattle.link_direction.specs.CommonBlock.{HaveCommonBlock}
 use Rattle.link_direction.specs.Directions.{Directions}
-use Rattle.inc_dec_spf.specs.declared.reach.Dir.{Dir}
-use Rattle.inc_dec_spf.specs.declared.reach.Dir.TheVariants.{Down, Up}
-use Rattle.inc_dec_spf.specs.declared.reach.Hop.{Hop}
-use Rattle.inc_dec_spf.specs.LeastPath.{IsHop, HaveCommonBlockOfMoreLinks}
+use Rattle.block_spf.specs.declared.reach.Dir.{Dir}
+use Rattle.block_spf.specs.declared.reach.Dir.TheVariants.{Down, Up}
+use Rattle.block_spf.specs.declared.reach.Hop.{Hop}
+use Rattle.block_spf.specs.LeastPath.{IsHop, HaveCommonBlockOfMoreLinks}
 
 -- block k has this link, and no other
 pub record HasOneLink (g : Topology) (w : Directions) (k link : ℕ) : Type 0 where

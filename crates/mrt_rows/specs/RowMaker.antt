@@ -2,9 +2,9 @@
 use Rattle.std.specs.Prelude.{◌≡◌, ◌<◌, ℕ, length}
 use Rattle.mrt_graph.specs.Topology.{Topology}
 use Rattle.link_direction.specs.Directions.{Directions}
-use Rattle.inc_dec_spf.specs.declared.reach.Dir.TheVariants.{Down, Up}
-use Rattle.inc_dec_spf.specs.Fan.{IsOpen}
-use Rattle.inc_dec_spf.specs.FanEntries.{FanEntries}
+use Rattle.block_spf.specs.declared.reach.Dir.TheVariants.{Down, Up}
+use Rattle.block_spf.specs.Fan.{IsOpen}
+use Rattle.block_spf.specs.FanEntries.{FanEntries}
 use Rattle.mrt_rows.specs.declared.of_source.RowMaker.{RowMaker}
 use Rattle.mrt_rows.specs.Common.{AreCommon}
 use Rattle.mrt_rows.specs.DirectedFrom.{IsDirectedFrom}

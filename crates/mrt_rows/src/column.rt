@@ -1,7 +1,7 @@
 //! The columns of destinations.
 
 ghost use Rattle.std.specs.Prelude.{◌≡◌, ◌≢◌, ◌<◌, ◌*◌, ℕ, [], IfOk, IfSome, Some, length, slice_get, true};
-ghost use Rattle.inc_dec_spf.specs.BlockAims.{aim_at};
+ghost use Rattle.block_spf.specs.BlockAims.{aim_at};
 ghost use Rattle.mrt_rows.specs.Chain.{AreBelow, AreBlockAims, AreWayAims};
 ghost use Rattle.mrt_rows.specs.steps.Chain.{IsRowAim};
 ghost use Rattle.mrt_rows.specs.steps.ColumnOf.{IsRowIn};
@@ -15,7 +15,7 @@ use crate::common::{Common, mark};
 use crate::directed::Rooted;
 use crate::row_over::{FirstLinks, row_home};
 use crate::tiles::{Tiles, take_shared};
-use inc_dec_spf::put_heads;
+use block_spf::put_heads;
 use mrt_graph::{LinkNo, NoMemory, NodeNo, Row, relation_of};
 use std::alloc::Global;
 

@@ -2,8 +2,8 @@
 
 ghost use Rattle.std.specs.Prelude.{◌≡◌, ◌≢◌, ◌<◌, ℕ, IfOk, Some, false, length, slice_get, true};
 ghost use Rattle.mrt_graph.specs.{declared.gadag.Place.Place, Related.IsRelation};
-ghost use Rattle.inc_dec_spf.specs.declared.reach.Dir.TheVariants.{Down, Up};
-ghost use Rattle.inc_dec_spf.specs.{FirstLink.no_link, Turns.AreTurns};
+ghost use Rattle.block_spf.specs.declared.reach.Dir.TheVariants.{Down, Up};
+ghost use Rattle.block_spf.specs.{FirstLink.no_link, Turns.AreTurns};
 ghost use Rattle.mrt_rows.specs.Common.{AreCommon, AreHomes};
 ghost use Rattle.mrt_rows.specs.TilesAimed.{AreTiles};
 ghost use Rattle.mrt_rows.specs.steps.ListedDirections.{IsNode, IsRooted, directions_by};
@@ -15,7 +15,7 @@ ghost use Rattle.mrt_rows.specs.Put.{AreFirstLinks, AreHeadsMarked, AreInCommonB
 use crate::directed::Rooted;
 use crate::row_over::{FirstLinks, Source, end_row, member_row, row_home};
 use crate::tiles::Tiles;
-use inc_dec_spf::{Dir, NO_LINK, is_sole, nodes_by_turn, put_heads};
+use block_spf::{Dir, NO_LINK, is_sole, nodes_by_turn, put_heads};
 use mrt_graph::{LinkNo, NoMemory, NodeNo, Relation, Row, Tag};
 use std::alloc::Global;
 

@@ -16,7 +16,7 @@ ghost use Rattle.mrt_rows.specs.steps.Source.{IsSourceBy};
 use crate::common::Common;
 use crate::directed::Rooted;
 use crate::row_over::{FirstLinks, Source, row_home};
-use inc_dec_spf::{Dir, Fan, NO_LINK};
+use block_spf::{Dir, Fan, NO_LINK};
 use mrt_graph::{Directed, Graph, LinkNo, NoMemory, NodeNo, Row, Tag, carrier_of, relation_of};
 use std::alloc::Global;
 

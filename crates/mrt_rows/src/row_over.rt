@@ -3,12 +3,12 @@
 ghost use Rattle.std.specs.Prelude.{◌≡◌, ◌≢◌, ℕ, Some};
 ghost use Rattle.mrt_graph.specs.{declared.cert.Tag.TheVariants.Sole, GraphInvariant.IsTopology, Topology.Topology};
 ghost use Rattle.link_direction.specs.{Directions.Directions, OrderedGadag.IsOrderedGadag};
-ghost use Rattle.inc_dec_spf.specs.FirstLink.{no_link};
+ghost use Rattle.block_spf.specs.FirstLink.{no_link};
 ghost use Rattle.mrt_rows.specs.steps.NearOf.{IsNearRow};
 ghost use Rattle.mrt_rows.specs.steps.Put.{IsMemberRow};
 ghost use Rattle.mrt_rows.specs.steps.Source.{IsSourceBy};
 
-use inc_dec_spf::NO_LINK;
+use block_spf::NO_LINK;
 use mrt_graph::{LinkNo, NodeNo, Place, Row, Tag};
 
 /// The links by which a node begins the least paths up and down to another one.

@@ -1,15 +1,15 @@
 //! Tiles up and down, and what they are aimed at.
 
 ghost use Rattle.std.specs.Prelude.{◌≡◌, ◌<◌, ◌*◌, ℕ, IfOk, IsTrue, length, slice_index};
-ghost use Rattle.inc_dec_spf.specs.declared.reach.Dir.TheVariants.{Down, Up};
-ghost use Rattle.inc_dec_spf.specs.Turns.{AreTurns};
+ghost use Rattle.block_spf.specs.declared.reach.Dir.TheVariants.{Down, Up};
+ghost use Rattle.block_spf.specs.Turns.{AreTurns};
 ghost use Rattle.mrt_rows.specs.Put.{AreHeadsMarked};
 ghost use Rattle.mrt_rows.specs.steps.ListedDirections.{IsRooted, directions_by};
 ghost use Rattle.mrt_rows.specs.TilesAimed.{AreShared, AreTiles, AreTilesAimed, HaveLinksAt, HavePlace};
 
 use crate::directed::Rooted;
 use crate::row_over::FirstLinks;
-use inc_dec_spf::{Aiming, Dir, Tile};
+use block_spf::{Aiming, Dir, Tile};
 use mrt_graph::{NoMemory, NodeNo};
 use std::alloc::Global;
 

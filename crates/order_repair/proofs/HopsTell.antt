@@ -7,9 +7,9 @@ use Rattle.std.specs.Option.{is_some}
 use Rattle.mrt_graph.specs.DirectedLists.{DirectedLists}
 use Rattle.mrt_graph.specs.Topology.{Topology}
 use Rattle.link_direction.specs.Directions.{Directions, Says}
-use Rattle.inc_dec_spf.specs.declared.reach.Dir.{Dir}
-use Rattle.inc_dec_spf.specs.declared.reach.Hop.{Hop}
-use Rattle.inc_dec_spf.specs.LeastPath.{BeginsPath, IsHop, NotReached, Reached}
+use Rattle.block_spf.specs.declared.reach.Dir.{Dir}
+use Rattle.block_spf.specs.declared.reach.Hop.{Hop}
+use Rattle.block_spf.specs.LeastPath.{BeginsPath, IsHop, NotReached, Reached}
 use Rattle.order_repair.specs.OrderChoice.{LeadsTo}
 
 -- a path that is least is one

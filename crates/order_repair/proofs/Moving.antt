@@ -6,9 +6,9 @@ use Rattle.mrt_graph.specs.declared.cert.Row.{Row}
 use Rattle.mrt_graph.specs.declared.cert.Tag.{Tag}
 use Rattle.mrt_graph.specs.Rows.{link_of_color}
 use Rattle.link_direction.specs.CommonBlock.{FromHead, ToHead}
-use Rattle.inc_dec_spf.specs.declared.reach.Dir.{Dir}
-use Rattle.inc_dec_spf.specs.declared.reach.Dir.TheVariants.{Down, Up}
-use Rattle.inc_dec_spf.specs.Against.{against}
+use Rattle.block_spf.specs.declared.reach.Dir.{Dir}
+use Rattle.block_spf.specs.declared.reach.Dir.TheVariants.{Down, Up}
+use Rattle.block_spf.specs.Against.{against}
 use Rattle.mrt_rows.proofs.OrderedGraphs.{OrderedGraph}
 use Rattle.mrt_rows.proofs.Ways.{Inside, Ring, Way, inside_head, not_head, one_way}
 use Rattle.mrt_rows.proofs.WaysBegun.{Sharing, WayOver}

@@ -15,12 +15,12 @@ use Rattle.mrt_graph.specs.Leads.{leads}
 use Rattle.mrt_graph.specs.Rows.{Rows}
 use Rattle.mrt_graph.proofs.Bridge.{color_leads}
 use Rattle.mrt_graph.proofs.Hops.{lead_back}
-use Rattle.inc_dec_spf.specs.declared.reach.Dir.{Dir}
-use Rattle.inc_dec_spf.specs.declared.reach.Dir.TheVariants.{Down, Up}
-use Rattle.inc_dec_spf.specs.declared.reach.Hop.{Hop as Least}
-use Rattle.inc_dec_spf.specs.Against.{against}
-use Rattle.inc_dec_spf.specs.LeastPath.{IsHop, Reached}
-use Rattle.inc_dec_spf.specs.Path.{Path}
+use Rattle.block_spf.specs.declared.reach.Dir.{Dir}
+use Rattle.block_spf.specs.declared.reach.Dir.TheVariants.{Down, Up}
+use Rattle.block_spf.specs.declared.reach.Hop.{Hop as Least}
+use Rattle.block_spf.specs.Against.{against}
+use Rattle.block_spf.specs.LeastPath.{IsHop, Reached}
+use Rattle.block_spf.specs.Path.{Path}
 use Rattle.mrt_rows.specs.RowsOf.{HasRow}
 use Rattle.mrt_rows.proofs.HopsExist.{has_hop}
 use Rattle.mrt_rows.proofs.OrderedGraphs.{OrderedGraph}

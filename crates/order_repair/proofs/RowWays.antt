@@ -4,8 +4,8 @@ use Rattle.mrt_graph.specs.declared.cert.Row.{Row}
 use Rattle.mrt_graph.specs.declared.cert.Tag.{Tag}
 use Rattle.mrt_graph.specs.declared.cert.Tag.TheVariants as tags
 use Rattle.link_direction.specs.CommonBlock.{FromHead, HaveCommonBlock, Peers, ToHead}
-use Rattle.inc_dec_spf.specs.declared.reach.Dir.{Dir}
-use Rattle.inc_dec_spf.specs.declared.reach.Dir.TheVariants.{Down, Up}
+use Rattle.block_spf.specs.declared.reach.Dir.{Dir}
+use Rattle.block_spf.specs.declared.reach.Dir.TheVariants.{Down, Up}
 use Rattle.mrt_rows.specs.RowLines.{AreMembers, BeginsOver, LineOf, SoleLine}
 use Rattle.mrt_rows.proofs.LinesHold.{with_head}
 use Rattle.mrt_rows.proofs.OrderedGraphs.{OrderedGraph, one_common}

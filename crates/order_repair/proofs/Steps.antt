@@ -4,10 +4,10 @@ use Rattle.mrt_graph.specs.declared.cert.Role.TheVariants.{Closing, Plain}
 use Rattle.mrt_graph.specs.declared.link.End.{End}
 use Rattle.mrt_graph.specs.Leads.{leads}
 use Rattle.mrt_graph.proofs.Hops.{lead_back}
-use Rattle.inc_dec_spf.specs.declared.reach.Dir.{Dir}
-use Rattle.inc_dec_spf.specs.declared.reach.Dir.TheVariants.{Down, Up}
-use Rattle.inc_dec_spf.specs.Against.{against}
-use Rattle.inc_dec_spf.specs.Path.{IsStep, LeadsOn, Path}
+use Rattle.block_spf.specs.declared.reach.Dir.{Dir}
+use Rattle.block_spf.specs.declared.reach.Dir.TheVariants.{Down, Up}
+use Rattle.block_spf.specs.Against.{against}
+use Rattle.block_spf.specs.Path.{IsStep, LeadsOn, Path}
 use Rattle.mrt_rows.proofs.OrderedGraphs.{OrderedGraph, TailAt, step_leads, step_over}
 use Rattle.mrt_rows.proofs.Ways.{Further, Inside, Ring, Way, begun, from, from_head, goes_further, home_role, not_head, put_before, up_from_top}
 use Rattle.mrt_rows.proofs.WaysBegun.{WayOver}

@@ -5,7 +5,7 @@ use Rattle.mrt_graph.specs.declared.link.Element.TheVariants as elements
 use Rattle.mrt_graph.specs.Separates.{IsNeitherEnd}
 use Rattle.mrt_graph.specs.Topology.{Topology}
 use Rattle.link_direction.specs.Directions.{Directions}
-use Rattle.inc_dec_spf.specs.LeastPath.{HaveCommonBlockOfMoreLinks}
+use Rattle.block_spf.specs.LeastPath.{HaveCommonBlockOfMoreLinks}
 
 -- a node of block k, its head h included
 pub record IsNodeOf (g : Topology) (w : Directions) (k h x : ℕ) : Type 0 where

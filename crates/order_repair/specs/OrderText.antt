@@ -11,7 +11,7 @@ use Rattle.mrt_graph.specs.Spelling.{node_text}
 use Rattle.mrt_graph.specs.Topology.{Topology}
 use Rattle.text_parts.specs.Parts.{AreParts, IsHeaded}
 use Rattle.link_direction.specs.Directions.{Directions}
-use Rattle.inc_dec_spf.specs.LeastPath.{HaveCommonBlockOfMoreLinks}
+use Rattle.block_spf.specs.LeastPath.{HaveCommonBlockOfMoreLinks}
 use Rattle.mrt_rows.specs.DirectedFrom.{IsDirectedFrom}
 use Rattle.mrt_rows.specs.ListedDirections.{directions_of}
 use Rattle.order_repair.specs.Failed.{LiesIn}

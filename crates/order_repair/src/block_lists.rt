@@ -2,7 +2,7 @@
 
 ghost use Rattle.std.specs.Prelude.{◌≡◌, IfOk, length};
 ghost use Rattle.mrt_graph.specs.GraphInvariant.{IsTopology};
-ghost use Rattle.inc_dec_spf.specs.HasDirections.{HasDirections};
+ghost use Rattle.block_spf.specs.HasDirections.{HasDirections};
 ghost use Rattle.order_repair.specs.steps.Blocks.{AreChainsOf, blocks_of, count_of};
 
 use crate::chains::Chains;
@@ -25,7 +25,7 @@ impl Drop for BlockLists {
 impl BlockLists {
     ghost use Rattle.std.specs.Prelude.{IfOk};
     ghost use Rattle.mrt_graph.specs.GraphInvariant.{IsTopology};
-    ghost use Rattle.inc_dec_spf.specs.HasDirections.{HasDirections};
+    ghost use Rattle.block_spf.specs.HasDirections.{HasDirections};
     ghost use Rattle.order_repair.specs.steps.Blocks.{AreBlockLists};
 
     /// Those of a graph with its directions.

@@ -3,7 +3,7 @@
 ghost use Rattle.std.specs.Prelude.{◌≡◌, ◌≢◌, ◌<◌, ℕ, length};
 ghost use Rattle.mrt_graph.specs.{declared.cert.CertFile.CertFile, declared.cert.Role.TheVariants.Sole, Alternate.UsesOn, Certificate.row_of, Reaches.Reaches};
 ghost use Rattle.link_direction.specs.Directions.{Directions};
-ghost use Rattle.inc_dec_spf.specs.HasDirections.{HasDirections};
+ghost use Rattle.block_spf.specs.HasDirections.{HasDirections};
 ghost use Rattle.mrt_rows.specs.{CertOf.IsCertOf, DirectedFrom.IsDirectedFrom};
 ghost use Rattle.order_repair.specs.Source.{AreHops};
 ghost use Rattle.order_repair.specs.steps.Source.{AreHopsIn, IsSourceIn};
@@ -18,7 +18,7 @@ use crate::order_tests::{link_tests, node_tests, numbers};
 use crate::pair::Pair;
 use crate::source_view::SourceView;
 use crate::tagging::tag_for;
-use inc_dec_spf::Reach;
+use block_spf::Reach;
 use mrt_graph::{Color, Directed, Element, Graph, LinkNo, NodeNo, Role, Tag};
 
 /// The color of `source` for `to` where an element of their common block has failed: a node of it other than the two, its

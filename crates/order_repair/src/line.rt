@@ -3,7 +3,7 @@
 ghost use Rattle.std.specs.Prelude.{◌≡◌, ◌<◌, ◌≤◌, ◌↔◌, ℕ, List, IfOk, IsTrue, length};
 ghost use Rattle.mrt_graph.specs.{declared.gadag.Place.Place, Separates.IsNeitherEnd};
 ghost use Rattle.link_direction.specs.Directions.{Directions};
-ghost use Rattle.inc_dec_spf.specs.{HasDirections.AreDirections, HasDirections.HasDirections, LeastPath.HaveCommonBlockOfMoreLinks};
+ghost use Rattle.block_spf.specs.{HasDirections.AreDirections, HasDirections.HasDirections, LeastPath.HaveCommonBlockOfMoreLinks};
 ghost use Rattle.text_parts.specs.steps.Adds.{Adds};
 ghost use Rattle.order_repair.specs.steps.Blocks.{AreBlockLists, AreChainsOf, IsNext};
 ghost use Rattle.order_repair.specs.Failed.{IsWithin, LiesIn};

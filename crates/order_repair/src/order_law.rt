@@ -5,7 +5,7 @@ ghost use Rattle.mrt_graph.specs.{declared.cert.CertFile.CertFile, declared.cert
 ghost use Rattle.mrt_graph.specs.{Certificate.row_of, DirectedLists.DirectedLists, GraphInvariant.IsTopology, Reaches.Reaches, Separates.Separates};
 ghost use Rattle.mrt_graph.specs.Topology.{Topology};
 ghost use Rattle.link_direction.specs.{Directions.Directions, Directions.Says, OrderedGadag.IsOrderedGadag};
-ghost use Rattle.inc_dec_spf.specs.LeastPath.{HaveCommonBlockOfMoreLinks};
+ghost use Rattle.block_spf.specs.LeastPath.{HaveCommonBlockOfMoreLinks};
 ghost use Rattle.mrt_rows.specs.{CertOf.IsCertOf, CertOf.Tells, DirectedFrom.IsDirectedFrom};
 ghost use Rattle.order_repair.specs.{Failed.IsBetween, Failed.LiesIn, OrderChoice.IsOrderChoice};
 

@@ -2,10 +2,10 @@
 
 ghost use Rattle.std.specs.{Bool.Decides, Prelude.◌≡◌, Prelude.◌<◌, Prelude.ℕ, Prelude.length};
 ghost use Rattle.link_direction.specs.Directions.{Directions};
-ghost use Rattle.inc_dec_spf.specs.{declared.reach.Dir.Dir, LeastPath.IsReach};
+ghost use Rattle.block_spf.specs.{declared.reach.Dir.Dir, LeastPath.IsReach};
 ghost use Rattle.order_repair.specs.OrderChoice.{LeadsTo};
 
-use inc_dec_spf::Reach;
+use block_spf::Reach;
 use mrt_graph::{Graph, NodeNo};
 
 /// Whether a path leads to a node, by the hops of a source in one direction.

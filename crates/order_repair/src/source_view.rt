@@ -1,6 +1,6 @@
 //! What tells which way a source's packets go round a failure.
 
-use inc_dec_spf::Reach;
+use block_spf::Reach;
 use mrt_graph::{Directed, Graph};
 
 /// A graph with its directions, and the hops of a source up and down.

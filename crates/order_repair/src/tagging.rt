@@ -6,7 +6,7 @@ ghost use Rattle.order_repair.specs.steps.Source.{AreHopsIn, IsSourceIn};
 ghost use Rattle.order_repair.specs.steps.Tagging.{IsTagFor, tag_by};
 
 use crate::source_view::SourceView;
-use inc_dec_spf::Hop;
+use block_spf::Hop;
 use mrt_graph::{NodeNo, Relation, Tag, relation_of};
 
 /// The tag of the row of `s` for `t`, where they have a block of more than one link in common; `None` where they have none.

@@ -15,7 +15,7 @@ use crate::line::push_line;
 use crate::pair::Pair;
 use crate::source_view::SourceView;
 use crate::tagging::tag_for;
-use inc_dec_spf::{Dir, spf};
+use block_spf::{Dir, spf};
 use mrt_graph::{Directed, Graph, NoMemory, NodeNo};
 use std::alloc::Global;
 use text_parts::{push, push_node};

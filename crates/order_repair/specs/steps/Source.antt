@@ -4,8 +4,8 @@ use Rattle.mrt_graph.specs.DirectedLists.{DirectedLists}
 use Rattle.mrt_graph.specs.GraphInvariant.{IsTopology}
 use Rattle.mrt_graph.specs.Topology.{Topology}
 use Rattle.link_direction.specs.Directions.{Directions}
-use Rattle.inc_dec_spf.specs.declared.reach.Hop.{Hop}
-use Rattle.inc_dec_spf.specs.HasDirections.{HasDirections}
+use Rattle.block_spf.specs.declared.reach.Hop.{Hop}
+use Rattle.block_spf.specs.HasDirections.{HasDirections}
 use Rattle.order_repair.specs.declared.source_view.SourceView.{SourceView}
 use Rattle.order_repair.specs.Source.{AreHops}
 

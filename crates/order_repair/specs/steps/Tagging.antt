@@ -7,8 +7,8 @@ use Rattle.mrt_graph.specs.declared.related.Relation.{Relation}
 use Rattle.mrt_graph.specs.declared.related.Relation.TheVariants.{Apart, FromHead, OneBlock, ToHead}
 use Rattle.mrt_graph.specs.Topology.{Topology}
 use Rattle.link_direction.specs.Directions.{Directions}
-use Rattle.inc_dec_spf.specs.declared.reach.Hop.{Hop}
-use Rattle.inc_dec_spf.specs.LeastPath.{HaveCommonBlockOfMoreLinks}
+use Rattle.block_spf.specs.declared.reach.Hop.{Hop}
+use Rattle.block_spf.specs.LeastPath.{HaveCommonBlockOfMoreLinks}
 use Rattle.order_repair.specs.ColorTable.{IsOfTable}
 use Rattle.order_repair.specs.OrderChoice.{IsRowFor}
 

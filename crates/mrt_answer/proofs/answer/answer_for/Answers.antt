@@ -1,8 +1,8 @@
 use Rattle.std.proofs.Common.{◌≡◌, ◌∙◌, ℕ, List, sym, subst}
 use Rattle.mrt_exit.specs.Steps.{◌▸◌}
-use Rattle.mrt_words.specs.declared.task.Task.TheVariants.{OfRouter}
-use Rattle.mrt_words.specs.Form.{Task}
-use Rattle.mrt_words.specs.Work.{IsWorkFor, Work}
+use Rattle.mrt_args.specs.declared.task.Task.TheVariants.{OfRouter}
+use Rattle.mrt_args.specs.Form.{Task}
+use Rattle.mrt_args.specs.Work.{IsWorkFor, Work}
 use Rattle.mrt_answer.specs.Forms.{of_task, scripted}
 use Rattle.mrt_answer.specs.Reading.{script_of}
 use Rattle.mrt_answer.specs.TextBytes.{IsTextAnswer}

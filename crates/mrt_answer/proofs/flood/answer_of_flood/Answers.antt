@@ -6,9 +6,9 @@ use Rattle.flood_script.specs.FloodTexts.{IsFloodText}
 use Rattle.flood_verdict.specs.Says.{Says}
 use Rattle.mrt_island.specs.declared.setting.Setting.{Setting}
 use Rattle.mrt_exit.specs.Steps.{IsAnswer, Step, ◌▸◌}
-use Rattle.mrt_words.specs.FileBytes.{FileBytes}
-use Rattle.mrt_words.specs.Work.{flood_bytes}
-use Rattle.mrt_words.proofs.HandedOn.{if_ok}
+use Rattle.mrt_args.specs.FileBytes.{FileBytes}
+use Rattle.mrt_args.specs.Work.{flood_bytes}
+use Rattle.mrt_args.proofs.HandedOn.{if_ok}
 use Rattle.mrt_answer.specs.Forms.{delivered}
 use Rattle.mrt_answer.specs.Reading.{deliveries_of, profile_of, updates_of}
 use Rattle.mrt_answer.proofs.TextSteps.{ends_second, handed_on, of_bytes}

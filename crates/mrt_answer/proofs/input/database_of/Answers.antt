@@ -5,7 +5,7 @@ use Rattle.mrt_exit.specs.Faults.{conflict_exit}
 use Rattle.mrt_exit.specs.Due.{IsDue}
 use Rattle.mrt_answer.specs.Reading.{database_of}
 use Rattle.mrt_answer.proofs.Databases.{one_there}
-use Rattle.mrt_words.proofs.HandedOn.{handed_on}
+use Rattle.mrt_args.proofs.HandedOn.{handed_on}
 use Rattle.mrt_answer.proofs.input.database_of.Goals as goal
 
 pub returns-in_err-settled-clause-none : goal.returns-in_err-settled-clause-none

@@ -1,7 +1,7 @@
 use Rattle.std.proofs.Common.{Err}
 use Rattle.mrt_exit.specs.Due.{IsDue}
 use Rattle.mrt_exit.proofs.Stepping.{early, late}
-use Rattle.mrt_words.proofs.HandedOn.{handed_on}
+use Rattle.mrt_args.proofs.HandedOn.{handed_on}
 use Rattle.mrt_answer.specs.Input.{policy}
 use Rattle.mrt_answer.specs.Islands.{area_of, island_in, island_of}
 use Rattle.mrt_answer.proofs.packets.area_and_island.Goals as goal

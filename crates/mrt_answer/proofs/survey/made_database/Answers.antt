@@ -1,7 +1,7 @@
 use Rattle.std.proofs.Common.{◌∙◌, ℕ, List, map, subst}
 use Rattle.lsdb.specs.Database.{IsDatabase}
 use Rattle.lsdb.specs.Entries.{Entry}
-use Rattle.mrt_words.proofs.HandedOn.{if_ok}
+use Rattle.mrt_args.proofs.HandedOn.{if_ok}
 use Rattle.mrt_answer.proofs.MadeNetworks.{memory_of_database}
 use Rattle.mrt_answer.proofs.survey.made_database.Goals as goal
 

@@ -1,7 +1,7 @@
 use Rattle.mrt_graph.proofs.ListTests.{there}
 use Rattle.mrt_rows.specs.CertOf.{file_of}
 use Rattle.mrt_answer.specs.Texts.{IsComputedFile}
-use Rattle.mrt_words.proofs.HandedOn.{if_ok}
+use Rattle.mrt_args.proofs.HandedOn.{if_ok}
 use Rattle.mrt_answer.proofs.survey.summed_up.Goals as goal
 
 pub survey_text-requires : goal.survey_text-requires

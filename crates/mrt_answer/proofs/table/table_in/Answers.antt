@@ -5,7 +5,7 @@ use Rattle.mrt_graph.specs.NodeIds.{router as router_node}
 use Rattle.primary_alt.specs.declared.shortest.Primary.{Primary}
 use Rattle.primary_alt.specs.Primaries.{ArePrimaries}
 use Rattle.mrt_island.specs.declared.island.Island.{Island}
-use Rattle.mrt_words.proofs.HandedOn.{if_ok}
+use Rattle.mrt_args.proofs.HandedOn.{if_ok}
 use Rattle.mrt_exit.specs.Steps.{such, ◌▸◌}
 use Rattle.mrt_report.specs.TableParts.{table_parts}
 use Rattle.mrt_report.specs.TableText.{IsTableText}

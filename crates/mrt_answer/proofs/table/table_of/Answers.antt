@@ -1,4 +1,4 @@
-use Rattle.mrt_words.proofs.HandedOn.{if_ok}
+use Rattle.mrt_args.proofs.HandedOn.{if_ok}
 use Rattle.mrt_answer.proofs.table.table_of.Goals as goal
 
 pub returns : goal.returns

@@ -2,7 +2,7 @@ use Rattle.std.proofs.Common.{Result, inl, subst}
 use Rattle.cert_format.specs.declared.error.CertFault.{CertFault}
 use Rattle.mrt_graph.specs.declared.cert.CertFile.{CertFile}
 use Rattle.mrt_exit.specs.Faults.{certificate_exit}
-use Rattle.mrt_words.specs.Work.{IsCertRead}
+use Rattle.mrt_args.specs.Work.{IsCertRead}
 use Rattle.mrt_answer.specs.Forms.{upgraded_to}
 use Rattle.mrt_answer.specs.Reading.{certificate_of}
 use Rattle.mrt_answer.proofs.TextSteps.{ends_second, handed_on}

@@ -1,7 +1,7 @@
 use Rattle.std.proofs.Common.{◌≡◌, ◌<◌, length, inr, sym, subst}
 use Rattle.area_graph.specs.Fits.{Fits}
-use Rattle.mrt_words.proofs.HandedOn.{if_ok}
-use Rattle.mrt_words.proofs.Readings.{if_err}
+use Rattle.mrt_args.proofs.HandedOn.{if_ok}
+use Rattle.mrt_args.proofs.Readings.{if_err}
 use Rattle.std.proofs.Common.{Ok}
 use Rattle.mrt_answer.specs.Input.{area}
 use Rattle.mrt_answer.specs.Islands.{island_in}

@@ -1,6 +1,6 @@
 use Rattle.std.proofs.Common.{inr}
-use Rattle.mrt_words.proofs.HandedOn.{if_ok}
-use Rattle.mrt_words.proofs.Readings.{if_err}
+use Rattle.mrt_args.proofs.HandedOn.{if_ok}
+use Rattle.mrt_args.proofs.Readings.{if_err}
 use Rattle.mrt_answer.proofs.Tables.{in_own_island}
 use Rattle.mrt_calls.proofs.proxy.put_given.Goals as goal
 

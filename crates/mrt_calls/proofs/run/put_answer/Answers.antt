@@ -1,7 +1,7 @@
 use Rattle.std.proofs.Common.{Some}
 use Rattle.mrt_cmd.specs.Comes.{of_words}
 use Rattle.mrt_lent.specs.Lent.{held_in}
-use Rattle.mrt_words.proofs.HandedOn.{if_ok}
+use Rattle.mrt_args.proofs.HandedOn.{if_ok}
 use Rattle.mrt_calls.specs.Runs.{words_in}
 use Rattle.mrt_calls.proofs.Counting.{no_room, put_held}
 use Rattle.mrt_calls.proofs.run.put_answer.Goals as goal

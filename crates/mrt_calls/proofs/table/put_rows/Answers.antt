@@ -1,4 +1,4 @@
-use Rattle.mrt_words.proofs.HandedOn.{if_ok}
+use Rattle.mrt_args.proofs.HandedOn.{if_ok}
 use Rattle.mrt_calls.proofs.table.put_rows.Goals as goal
 
 pub returns-clause-held : goal.returns-clause-held

@@ -1,7 +1,7 @@
 use Rattle.std.proofs.Common.{◌≡◌, ℕ, List, Option, None, Err, inl, inr, refl, subst}
 use Rattle.std.specs.Prelude.{IsNone}
-use Rattle.mrt_words.specs.declared.form.Form.{Form}
-use Rattle.mrt_words.specs.Form.{form_of}
+use Rattle.mrt_args.specs.declared.form.Form.{Form}
+use Rattle.mrt_args.specs.Form.{form_of}
 use Rattle.mrt_exit.specs.declared.exit.Exit.TheVariants.{Usage}
 use Rattle.mrt_cmd.specs.Causes.{shelf_over}
 use Rattle.mrt_cmd.specs.Comes.{AreOfNoForm}

@@ -1,9 +1,9 @@
 use Rattle.std.proofs.Common.{Ok, Err, sym, subst}
 use Rattle.mrt_answer.specs.TextBytes.{HasText}
-use Rattle.mrt_words.specs.declared.form.Form.{Form}
-use Rattle.mrt_words.specs.Files.{files_of}
-use Rattle.mrt_words.specs.Form.{IsSurvey}
-use Rattle.mrt_words.specs.Reading.{ReadsAs}
+use Rattle.mrt_args.specs.declared.form.Form.{Form}
+use Rattle.mrt_args.specs.Files.{files_of}
+use Rattle.mrt_args.specs.Form.{IsSurvey}
+use Rattle.mrt_args.specs.Reading.{ReadsAs}
 use Rattle.mrt_cmd.specs.Comes.{of_form}
 use Rattle.mrt_cmd.proofs.FormAnswers.{surveys}
 use Rattle.mrt_cmd.proofs.program.text_of.Goals as goal

@@ -1,6 +1,6 @@
-use Rattle.mrt_words.specs.declared.form.FileForm.{FileForm}
-use Rattle.mrt_words.specs.Files.{task_names}
-use Rattle.mrt_words.proofs.Works.{work_within}
+use Rattle.mrt_args.specs.declared.form.FileForm.{FileForm}
+use Rattle.mrt_args.specs.Files.{task_names}
+use Rattle.mrt_args.proofs.Works.{work_within}
 use Rattle.mrt_exit.specs.declared.exit.Exit.TheVariants.{ReadFault}
 use Rattle.mrt_answer.specs.Forms.{over}
 use Rattle.mrt_answer.proofs.TaskSays.{over_says}

@@ -1,6 +1,6 @@
-use Rattle.mrt_words.specs.declared.form.FloodForm.{FloodForm}
-use Rattle.mrt_words.specs.Files.{flood_names}
-use Rattle.mrt_words.specs.Work.{flood_bytes}
+use Rattle.mrt_args.specs.declared.form.FloodForm.{FloodForm}
+use Rattle.mrt_args.specs.Files.{flood_names}
+use Rattle.mrt_args.specs.Work.{flood_bytes}
 use Rattle.mrt_exit.specs.declared.exit.Exit.TheVariants.{ReadFault}
 use Rattle.mrt_answer.specs.Forms.{flooded}
 use Rattle.mrt_answer.proofs.TaskSays.{flooded_says}

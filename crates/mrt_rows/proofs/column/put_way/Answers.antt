@@ -1,7 +1,7 @@
 use Rattle.std.proofs.Common.{◌≡◌, ◌∙◌, ◌<◌, ◌+◌, ◌*◌, ℕ, true, Some, length, set, slice_get, refl, sym, ap, subst, arith}
 use Rattle.std.proofs.lemmas.List.{length-set}
-use Rattle.inc_dec_spf.specs.BlockAims.{aim_at}
-use Rattle.inc_dec_spf.proofs.SideBySide.{row_within}
+use Rattle.block_spf.specs.BlockAims.{aim_at}
+use Rattle.block_spf.proofs.SideBySide.{row_within}
 use Rattle.mrt_rows.specs.steps.ListedDirections.{directions_by}
 use Rattle.mrt_rows.proofs.NearFound.{differ_by, same_by}
 use Rattle.mrt_rows.proofs.Rooting.{og_of}

@@ -1,5 +1,5 @@
 use Rattle.std.proofs.Common.{◌≡◌, ◌≢◌, ◌<◌, ℕ, true, Some, length, slice_get}
-use Rattle.inc_dec_spf.specs.BlockAims.{aim_at}
+use Rattle.block_spf.specs.BlockAims.{aim_at}
 use Rattle.mrt_rows.specs.steps.ListedDirections.{IsNode, directions_by}
 use Rattle.mrt_rows.proofs.WayAims.{IsGone}
 use Rattle.mrt_rows.proofs.column.put_way.Given as goal

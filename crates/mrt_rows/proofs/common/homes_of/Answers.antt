@@ -1,7 +1,7 @@
 use Rattle.std.proofs.Common.{◌∙◌, ◌*◌, ℕ, Bool, true, List, length, slice_get, refl, sym, ap, arith}
 use Rattle.std.proofs.lemmas.List.{length-replicate, with_items_is}
-use Rattle.inc_dec_spf.specs.BlockAims.{aim_at}
-use Rattle.inc_dec_spf.proofs.AllMarked.{all_marked}
+use Rattle.block_spf.specs.BlockAims.{aim_at}
+use Rattle.block_spf.proofs.AllMarked.{all_marked}
 use Rattle.mrt_rows.specs.steps.ListedDirections.{directions_by}
 use Rattle.mrt_rows.proofs.AimsOfRows.{common_within, home_aim}
 use Rattle.mrt_rows.proofs.Rooting.{are_directions, has_directions, og_of}

@@ -1,5 +1,5 @@
 use Rattle.std.proofs.Common.{◌≡◌, ◌<◌, ℕ, true, Some, length, slice_get}
-use Rattle.inc_dec_spf.specs.LeastPath.{HasMoreLinks}
+use Rattle.block_spf.specs.LeastPath.{HasMoreLinks}
 use Rattle.mrt_rows.specs.NearOf.{IsSoleOf}
 use Rattle.mrt_rows.specs.steps.ListedDirections.{directions_by}
 use Rattle.mrt_rows.proofs.common.take_soles.Given as goal

@@ -3,8 +3,8 @@ use Rattle.std.specs.List.{slice_range}
 use Rattle.std.proofs.lemmas.Bool.{cases_Bool}
 use Rattle.std.proofs.lemmas.Grind.{get_or_default_zero}
 use Rattle.std.proofs.lemmas.Option.{get_or_from_slice_get, slice_get_within}
-use Rattle.inc_dec_spf.specs.BlockAims.{aim_at}
-use Rattle.inc_dec_spf.proofs.SideBySide.{range_index, range_length, row_within}
+use Rattle.block_spf.specs.BlockAims.{aim_at}
+use Rattle.block_spf.proofs.SideBySide.{range_index, range_length, row_within}
 use Rattle.mrt_rows.proofs.SharedAims.{one_shared}
 use Rattle.mrt_rows.proofs.tiles.take_shared.Goals as goal
 use Rattle.mrt_rows.proofs.tiles.take_shared.Goals.{else-wanted-k, else-wanted-k-2, then-wanted-k, then-wanted-k-2}

@@ -1,7 +1,7 @@
 use Rattle.std.proofs.Common.{◌==◌, ◌∙◌, sym}
 use Rattle.std.proofs.lemmas.Bool.{eqb-true}
 use Rattle.std.proofs.lemmas.Bool.Decides.{Decides-at, Decides-eqb}
-use Rattle.inc_dec_spf.specs.declared.reach.Dir.TheVariants.{Up}
+use Rattle.block_spf.specs.declared.reach.Dir.TheVariants.{Up}
 use Rattle.link_direction.proofs.TwoNodes.{place_says}
 use Rattle.order_repair.proofs.HopsTell.{or_else}
 use Rattle.order_repair.proofs.order_tests.is_over_link.Goals as goal

@@ -1,6 +1,6 @@
 use Rattle.std.proofs.Common.{◌==◌}
 use Rattle.std.proofs.lemmas.Bool.Decides.{Decides-at, Decides-eqb}
-use Rattle.inc_dec_spf.specs.declared.reach.Dir.TheVariants.{Down}
+use Rattle.block_spf.specs.declared.reach.Dir.TheVariants.{Down}
 use Rattle.order_repair.proofs.HopsTell.{or_else}
 use Rattle.order_repair.proofs.order_tests.is_under_link.Goals as goal
 

@@ -1,4 +1,4 @@
-use Rattle.inc_dec_spf.specs.declared.reach.Dir.TheVariants.{Up}
+use Rattle.block_spf.specs.declared.reach.Dir.TheVariants.{Up}
 use Rattle.order_repair.proofs.HopsTell.{order_said}
 use Rattle.order_repair.proofs.order_tests.node_tests.Goals as goal
 

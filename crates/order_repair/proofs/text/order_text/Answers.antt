@@ -2,8 +2,8 @@ use Rattle.std.proofs.Common.{◌++◌, ◌∙◌, ℕ, List, ap}
 use Rattle.mrt_graph.specs.DirectedLists.{DirectedLists}
 use Rattle.mrt_graph.specs.Topology.{Topology}
 use Rattle.link_direction.specs.OrderedGadag.{SaysOrdered}
-use Rattle.inc_dec_spf.specs.HasDirections.{HasDirections}
-use Rattle.inc_dec_spf.proofs.SameDirections.{directions_are}
+use Rattle.block_spf.specs.HasDirections.{HasDirections}
+use Rattle.block_spf.proofs.SameDirections.{directions_are}
 use Rattle.mrt_rows.specs.ListedDirections.{directions_of}
 use Rattle.mrt_rows.proofs.Rooting.{rooted_by}
 use Rattle.order_repair.specs.Source.{AreHops}

@@ -1,7 +1,7 @@
 use Rattle.std.proofs.Common.{◌≡◌, ◌∙◌, ◌<◌, ◌+◌, ◌*◌, ℕ, List, Option, Some, get_or, length, slice_get, refl, sym, ap, subst, arith}
 use Rattle.std.proofs.lemmas.Option.{get_or_from_slice_get, slice_get-get_or, slice_get_read, slice_get_within}
-use Rattle.inc_dec_spf.specs.BlockAims.{aim_at}
-use Rattle.inc_dec_spf.proofs.SideBySide.{row_within}
+use Rattle.block_spf.specs.BlockAims.{aim_at}
+use Rattle.block_spf.proofs.SideBySide.{row_within}
 use Rattle.mrt_rows.specs.steps.Chain.{IsRowAim, Under}
 use Rattle.mrt_rows.specs.steps.ListedDirections.{directions_by}
 use Rattle.mrt_rows.proofs.AimsOfRows.{block_aim}

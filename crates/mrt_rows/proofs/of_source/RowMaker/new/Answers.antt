@@ -1,7 +1,7 @@
 use Rattle.std.proofs.Common.{◌≤◌, ℕ, length, arith}
-use Rattle.inc_dec_spf.specs.declared.reach.Dir.{Dir}
-use Rattle.inc_dec_spf.specs.Fan.{IsOpen}
-use Rattle.inc_dec_spf.specs.FanEntries.{FanEntries}
+use Rattle.block_spf.specs.declared.reach.Dir.{Dir}
+use Rattle.block_spf.specs.Fan.{IsOpen}
+use Rattle.block_spf.specs.FanEntries.{FanEntries}
 use Rattle.link_direction.specs.Directions.{Directions}
 use Rattle.mrt_graph.specs.Topology.{Topology}
 use Rattle.mrt_rows.specs.steps.ListedDirections.{directions_by}

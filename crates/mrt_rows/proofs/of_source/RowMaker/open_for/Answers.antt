@@ -1,8 +1,8 @@
 use Rattle.std.proofs.Common.{◌∙◌, ℕ, List, sym, subst, arith}
 use Rattle.std.proofs.Math.Nat.{mod-lt}
-use Rattle.inc_dec_spf.specs.declared.reach.Dir.TheVariants.{Down, Up}
-use Rattle.inc_dec_spf.specs.Fan.{IsOpen}
-use Rattle.inc_dec_spf.specs.Turns.{AreTurns}
+use Rattle.block_spf.specs.declared.reach.Dir.TheVariants.{Down, Up}
+use Rattle.block_spf.specs.Fan.{IsOpen}
+use Rattle.block_spf.specs.Turns.{AreTurns}
 use Rattle.mrt_rows.specs.steps.ListedDirections.{directions_by}
 use Rattle.mrt_rows.proofs.Rooting.{are_directions, has_directions, turns_too}
 use Rattle.mrt_rows.proofs.of_source.RowMaker.open_for.Goals.{then-is_open_from-via-then-is_open_from, then-is_open_from-via-else-is_open_from+then-not-is_among_more}

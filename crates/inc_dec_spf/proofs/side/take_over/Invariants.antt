@@ -1,6 +1,0 @@
-use Rattle.std.proofs.Common.{slice_index}
-use Rattle.inc_dec_spf.proofs.SideBySide.{AreTakenTo}
-use Rattle.inc_dec_spf.proofs.side.take_over.Given as goal
-
-abbrev pub invariant-loop-j : goal.invariant-loop-j
-invariant-loop-j l = AreTakenTo (λ j. slice_index l.left j) l.metric l.link l.initial.costs l.initial.links l.j l.costs l.links

@@ -1,7 +1,0 @@
--- The other direction.
-use Rattle.inc_dec_spf.specs.declared.reach.Dir.{Dir}
-use Rattle.inc_dec_spf.specs.declared.reach.Dir.TheVariants.{Down, Up}
-
-abbrev pub against : Dir → Dir
-against Up = Down
-against Down = Up
