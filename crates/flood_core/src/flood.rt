@@ -11,7 +11,7 @@ use crate::numbered_update::{NumberedUpdate, numbered_updates};
 use crate::receiver::Receiver;
 use crate::shared_lsdb::SharedLsdb;
 use crate::update::Update;
-use file_key::FileKey;
+use lsdb::FileKey;
 use mrt_graph::NoMemory;
 use ospf_lsa::Lsa;
 use std::alloc::Global;

@@ -8,8 +8,7 @@ ghost use Rattle.flood_core.specs.steps.Numbers.{lsa_in, lsas_by, router_in, Are
 ghost use Rattle.flood_core.specs.Receiving.{after_all, after_one, is_news, new_router, news, topology};
 
 use crate::store::Store;
-use file_key::FileKey;
-use lsdb::Change;
+use lsdb::{Change, FileKey};
 use mrt_graph::NoMemory;
 use ospf_lsa::Lsa;
 use std::alloc::Global;

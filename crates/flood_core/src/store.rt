@@ -9,9 +9,8 @@ ghost use Rattle.flood_core.specs.steps.SharedStore.{lsas_in};
 ghost use Rattle.flood_core.specs.steps.Numbers.{database_in, entries_by, lsa_in, IsStored};
 
 use crate::database_copy::DatabaseCopy;
-use file_key::FileKey;
 use indexmap::IndexSet;
-use lsdb::{Change, Key, Lsdb};
+use lsdb::{Change, FileKey, Key, Lsdb};
 use mrt_graph::NoMemory;
 use ospf_lsa::Lsa;
 use std::alloc::Global;

@@ -9,8 +9,8 @@ ghost use Rattle.flood_script.specs.FloodTexts.{IsFloodText, IsLineText, after_l
 use crate::comparing::Compare;
 use crate::lines::{push_answer, push_verdict};
 use crate::script::{FloodLine, FloodScript};
-use file_key::FileKey;
 use flood_core::{Flood, Update};
+use lsdb::FileKey;
 use mrt_graph::NoMemory;
 use std::alloc::Global;
 

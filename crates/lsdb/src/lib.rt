@@ -4,6 +4,7 @@
 mod change;
 mod compare;
 mod conflicts;
+mod file_key;
 mod key;
 mod laws;
 mod lsdb;
@@ -11,6 +12,7 @@ mod meet;
 mod whole;
 
 pub use change::{Change, Conflict};
+pub use file_key::FileKey;
 pub use key::Key;
 pub use laws::{
     an_lsa_without_a_fault_may_be_installed, each_change_is_told_of_the_list,

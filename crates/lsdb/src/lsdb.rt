@@ -8,9 +8,9 @@ ghost use Rattle.lsdb.specs.steps.Store.{entries_of, front, IsStore};
 
 use crate::change::{Change, Conflict};
 use crate::conflicts::least;
+use crate::file_key::FileKey;
 use crate::key::Key;
 use crate::meet::install_at;
-use file_key::FileKey;
 use indexmap::IndexSet;
 use mrt_graph::NoMemory;
 use ospf_lsa::Lsa;

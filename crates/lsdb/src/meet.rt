@@ -9,8 +9,8 @@ ghost use Rattle.lsdb.specs.steps.Store.{entries_of, front, IsStore};
 
 use crate::change::Change;
 use crate::compare::{compare_ranks, same};
+use crate::file_key::FileKey;
 use crate::key::Key;
-use file_key::FileKey;
 use indexmap::IndexSet;
 use mrt_graph::NoMemory;
 use ospf_lsa::Lsa;

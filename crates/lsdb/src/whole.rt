@@ -4,10 +4,10 @@ ghost use Rattle.std.specs.Prelude.{◌≡◌, IfOk};
 ghost use Rattle.ospf_lsa.specs.{declared.lsa.Lsa.Lsa, Lsas.AreLsas};
 ghost use Rattle.lsdb.specs.{Database.entering, Entries.entries_in};
 
+use crate::file_key::FileKey;
 use crate::laws::{an_lsa_without_a_fault_may_be_installed, entries_are_those_of_the_list};
 use crate::lsdb::Lsdb;
 use crate::meet::install_at;
-use file_key::FileKey;
 use indexmap::IndexSet;
 use mrt_graph::NoMemory;
 use ospf_lsa::Lsa;

@@ -11,10 +11,10 @@ ghost use Rattle.mrt_exit.specs.{Due.IsDue, Steps.IsAnswer};
 
 use crate::input::profile_of;
 use crate::text::{Text, bytes_answer};
-use file_key::FileKey;
 use flood_core::{Update, read_updates};
 use flood_script::{FloodScript, flood_text, read_flood_script};
 use flood_verdict::ByIsland;
+use lsdb::FileKey;
 use mrt_args::FloodRead;
 use mrt_exit::Exit;
 use std::alloc::Global;

@@ -8,8 +8,7 @@ ghost use Rattle.mrt_exit.specs.{Due.IsDue, Steps.IsAnswer};
 
 use crate::given::Given;
 use fabric_script::{Script, read_script};
-use file_key::FileKey;
-use lsdb::{Lsdb, refuses_exactly_where_not_settled, tells_the_first_conflict};
+use lsdb::{FileKey, Lsdb, refuses_exactly_where_not_settled, tells_the_first_conflict};
 use mrt_exit::Exit;
 use mrt_island::{Profile, read_profile};
 use ospf_lsa::read_lsas;

@@ -6,8 +6,8 @@ ghost use Rattle.mrt_island.specs.steps.ProfileStore.{parts_of};
 ghost use Rattle.mrt_island.specs.Settings.{is_eligible, priority_of, same_subject, supports};
 
 use crate::setting::{Setting, Subject};
-use file_key::FileKey;
 use indexmap::IndexMap;
+use lsdb::FileKey;
 use mrt_graph::NoMemory;
 use std::alloc::Global;
 use std::marker::Model;

@@ -11,7 +11,7 @@ ghost use Rattle.mrt_island.specs.ProfileFaults.{AreSettings, IsFirstProfileFaul
 use crate::profile::Profile;
 use crate::profile_error::{ProfileError, ProfileKind};
 use crate::profile_line::read_setting;
-use file_key::FileKey;
+use lsdb::FileKey;
 use mrt_graph::NoMemory;
 use std::alloc::Global;
 use text_parts::{LineError, TakesLines, text_of};

@@ -9,8 +9,9 @@ ghost use Rattle.next_hops.specs.NextHops.{AreNextHops, AreNextHopsIn};
 
 use crate::failure::Failure;
 use area_graph::build_area;
-use file_key::FileKey;
-use lsdb::{Lsdb, database_of, refuses_exactly_where_not_settled, tells_the_first_conflict};
+use lsdb::{
+    FileKey, Lsdb, database_of, refuses_exactly_where_not_settled, tells_the_first_conflict,
+};
 use mrt_graph::{Color, Graph, NodeId, NodeNo, accepted_implies_sound, accepted_rows_lead_on};
 use mrt_island::{Profile, find_island};
 use mrt_rows::{RootedColumns, certificates_are_accepted};

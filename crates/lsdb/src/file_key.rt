@@ -1,5 +1,4 @@
 //! Hash tables of what a file names, so hashed that who writes the file cannot make its keys fall together.
-#![tactic(auto)]
 
 use sha2::{Digest, Sha256};
 use std::hash::{BuildHasher, DefaultHasher, Hasher};
