@@ -4,8 +4,7 @@ ghost use Rattle.std.specs.Prelude.{◌≤◌, length};
 
 use crate::lsa_text::put_lsas;
 use crate::told::{front, spell, text};
-use flood_core::{Update, read_updates};
-use flood_script::{FloodLine, FloodScriptError, read_flood_script};
+use flood::{FloodLine, FloodScriptError, Update, read_flood_script, read_updates};
 use parts_of_tests::Page;
 use std::alloc::Global;
 

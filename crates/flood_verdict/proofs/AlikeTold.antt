@@ -9,18 +9,18 @@ use Rattle.std.proofs.lemmas.Option.{slice_get_within}
 use Rattle.ospf_lsa.specs.declared.lsa.Lsa.{Lsa}
 use Rattle.area_graph.specs.AreaOf.{area_of}
 use Rattle.area_graph.specs.Parts.{AreaParts}
-use Rattle.flood_core.specs.declared.answer.Answer.TheVariants as answers
-use Rattle.flood_core.specs.Routers.{Router}
-use Rattle.flood_core.specs.declared.update.Update.{Update}
-use Rattle.flood_core.specs.FloodState.{FloodState, database_of, started}
-use Rattle.flood_core.specs.FloodStep.{reached}
-use Rattle.flood_core.specs.Receiving.{MayFlood, after_all, new_router, topology}
-use Rattle.flood_core.specs.Runs.{AreNewestOfTheSame, Delivery, IsFlooded, after_deliveries, after_delivery, delivered_to}
-use Rattle.flood_script.specs.declared.script.FloodLine.{FloodLine}
-use Rattle.flood_script.specs.declared.script.FloodScript.{FloodScript}
-use Rattle.flood_script.specs.declared.verdict.Verdict.TheVariants as verdicts
-use Rattle.flood_script.specs.FloodTexts.{IsFloodText, deliveries_of}
-use Rattle.flood_script.proofs.ComparedInState.{compared_in_state}
+use Rattle.flood.specs.declared.answer.Answer.TheVariants as answers
+use Rattle.flood.specs.Routers.{Router}
+use Rattle.flood.specs.declared.update.Update.{Update}
+use Rattle.flood.specs.FloodState.{FloodState, database_of, started}
+use Rattle.flood.specs.FloodStep.{reached}
+use Rattle.flood.specs.Receiving.{MayFlood, after_all, new_router, topology}
+use Rattle.flood.specs.Runs.{AreNewestOfTheSame, Delivery, IsFlooded, after_deliveries, after_delivery, delivered_to}
+use Rattle.flood.specs.declared.script.FloodLine.{FloodLine}
+use Rattle.flood.specs.declared.script.FloodScript.{FloodScript}
+use Rattle.flood.specs.declared.verdict.Verdict.TheVariants as verdicts
+use Rattle.flood.specs.FloodTexts.{IsFloodText, deliveries_of}
+use Rattle.flood.proofs.ComparedInState.{compared_in_state}
 use Rattle.lsdb.specs.Conflicts.{least_conflict}
 use Rattle.lsdb.specs.Entries.{Database, Entry}
 use Rattle.lsdb.specs.Orders.{HoldTheSame}

@@ -4,8 +4,8 @@ use Rattle.std.specs.Prelude.{◌↔◌, IsTrue, if◌then◌else◌}
 use Rattle.area_graph.specs.AreaInvariant.{IsArea}
 use Rattle.area_graph.specs.AreaSize.{IsTooLarge}
 use Rattle.area_graph.specs.Parts.{AreaParts}
-use Rattle.flood_script.specs.declared.verdict.Verdict.{Verdict}
-use Rattle.flood_script.specs.declared.verdict.Verdict.TheVariants as verdicts
+use Rattle.flood.specs.declared.verdict.Verdict.{Verdict}
+use Rattle.flood.specs.declared.verdict.Verdict.TheVariants as verdicts
 use Rattle.lsdb.specs.Conflicts.{least_conflict}
 use Rattle.lsdb.specs.Entries.{Database}
 use Rattle.mrt_graph.specs.declared.cert.CertFile.{CertFile}

@@ -6,8 +6,8 @@ use Rattle.std.proofs.lemmas.Option.{get_or_from_slice_get, slice_get_within}
 use Rattle.area_graph.specs.AreaInvariant.{IsArea}
 use Rattle.mrt_graph.specs.NodeIds.{router as router_node}
 use Rattle.area_graph.specs.Parts.{AreaParts}
-use Rattle.flood_script.specs.declared.verdict.Verdict.{Verdict}
-use Rattle.flood_script.specs.declared.verdict.Verdict.TheVariants as verdicts
+use Rattle.flood.specs.declared.verdict.Verdict.{Verdict}
+use Rattle.flood.specs.declared.verdict.Verdict.TheVariants as verdicts
 use Rattle.lsdb.specs.Entries.{Database}
 use Rattle.mrt_graph.specs.declared.cert.CertFile.{CertFile}
 use Rattle.mrt_graph.specs.declared.node_id.NodeId.{NodeId}

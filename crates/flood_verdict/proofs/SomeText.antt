@@ -2,18 +2,18 @@
 use Rattle.std.proofs.Common.{◌≡◌, ◌++◌, ◌<◌, ◌^◌, ℕ, List, [], ◌∷◌, Option, Some, map, refl, subst}
 use Rattle.std.specs.List.{AllByRecursion}
 use Rattle.std.specs.Option.{IsSomeAnd}
-use Rattle.flood_core.specs.Databases.{after_installs, empty_database}
-use Rattle.flood_core.specs.FloodState.{FloodState, database_of, started}
-use Rattle.flood_core.specs.FloodStep.{delivered}
-use Rattle.flood_core.specs.Receiving.{MayFlood}
-use Rattle.flood_core.specs.Runs.{Delivery, after_deliveries, after_delivery, delivered_to, lsas_of}
-use Rattle.flood_core.specs.declared.update.Update.{Update}
-use Rattle.flood_script.specs.FloodScripts.{IsAmong}
-use Rattle.flood_script.specs.FloodTexts.{IsFloodText, answer_line, verdict_line}
-use Rattle.flood_script.specs.declared.script.FloodLine.{FloodLine}
-use Rattle.flood_script.specs.declared.script.FloodLine.TheVariants.{Deliver, Same}
-use Rattle.flood_script.specs.declared.script.FloodScript.{FloodScript}
-use Rattle.flood_script.specs.declared.verdict.Verdict.{Verdict}
+use Rattle.flood.specs.Databases.{after_installs, empty_database}
+use Rattle.flood.specs.FloodState.{FloodState, database_of, started}
+use Rattle.flood.specs.FloodStep.{delivered}
+use Rattle.flood.specs.Receiving.{MayFlood}
+use Rattle.flood.specs.Runs.{Delivery, after_deliveries, after_delivery, delivered_to, lsas_of}
+use Rattle.flood.specs.declared.update.Update.{Update}
+use Rattle.flood.specs.FloodScripts.{IsAmong}
+use Rattle.flood.specs.FloodTexts.{IsFloodText, answer_line, verdict_line}
+use Rattle.flood.specs.declared.script.FloodLine.{FloodLine}
+use Rattle.flood.specs.declared.script.FloodLine.TheVariants.{Deliver, Same}
+use Rattle.flood.specs.declared.script.FloodScript.{FloodScript}
+use Rattle.flood.specs.declared.verdict.Verdict.{Verdict}
 use Rattle.lsdb.specs.Entries.{Database}
 use Rattle.lsdb.specs.Installing.{IsKept}
 use Rattle.lsdb.specs.Orders.{newest_in}

@@ -14,8 +14,8 @@ use Rattle.area_graph.specs.Ranges.{FitsBond}
 use Rattle.cert_format.specs.CertText.{cert_text}
 use Rattle.cert_format.specs.Limits.{IsCertFile}
 use Rattle.cert_stream.specs.OfGraph.{IsOfGraph}
-use Rattle.flood_script.specs.declared.verdict.Verdict.{Verdict}
-use Rattle.flood_script.specs.declared.verdict.Verdict.TheVariants as verdicts
+use Rattle.flood.specs.declared.verdict.Verdict.{Verdict}
+use Rattle.flood.specs.declared.verdict.Verdict.TheVariants as verdicts
 use Rattle.lsdb.specs.Conflicts.{least_conflict}
 use Rattle.lsdb.specs.Entries.{Database}
 use Rattle.lsdb.specs.Installing.{IsKept}

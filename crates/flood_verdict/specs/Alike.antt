@@ -1,14 +1,14 @@
 -- Comparisons of routers that have to tell the same.
 use Rattle.std.specs.Prelude.{◌≡◌, ◌⊎◌, ◌++◌, ◌∷◌, ℕ, List}
-use Rattle.flood_core.specs.declared.update.Update.{Update}
-use Rattle.flood_core.specs.FloodState.{started}
-use Rattle.flood_core.specs.Runs.{Delivery, IsFlooded, delivered_to}
-use Rattle.flood_script.specs.declared.script.FloodLine.{FloodLine}
-use Rattle.flood_script.specs.declared.script.FloodLine.TheVariants as lines
-use Rattle.flood_script.specs.declared.script.FloodScript.{FloodScript}
-use Rattle.flood_script.specs.declared.verdict.Verdict.{Verdict}
-use Rattle.flood_script.specs.declared.verdict.Verdict.TheVariants as verdicts
-use Rattle.flood_script.specs.FloodTexts.{IsFloodText, deliveries_of, verdict_line}
+use Rattle.flood.specs.declared.update.Update.{Update}
+use Rattle.flood.specs.FloodState.{started}
+use Rattle.flood.specs.Runs.{Delivery, IsFlooded, delivered_to}
+use Rattle.flood.specs.declared.script.FloodLine.{FloodLine}
+use Rattle.flood.specs.declared.script.FloodLine.TheVariants as lines
+use Rattle.flood.specs.declared.script.FloodScript.{FloodScript}
+use Rattle.flood.specs.declared.verdict.Verdict.{Verdict}
+use Rattle.flood.specs.declared.verdict.Verdict.TheVariants as verdicts
+use Rattle.flood.specs.FloodTexts.{IsFloodText, deliveries_of, verdict_line}
 use Rattle.lsdb.specs.Entries.{Database}
 use Rattle.lsdb.specs.Orders.{HoldTheSame}
 

@@ -5,8 +5,8 @@ use Rattle.area_graph.specs.AreaOf.{area_of}
 use Rattle.area_graph.specs.AreaSize.{IsTooLarge}
 use Rattle.mrt_graph.specs.NodeIds.{router as router_node}
 use Rattle.area_graph.specs.Parts.{AreaParts}
-use Rattle.flood_script.specs.declared.verdict.Verdict.{Verdict}
-use Rattle.flood_script.specs.declared.verdict.Verdict.TheVariants as verdicts
+use Rattle.flood.specs.declared.verdict.Verdict.{Verdict}
+use Rattle.flood.specs.declared.verdict.Verdict.TheVariants as verdicts
 use Rattle.lsdb.specs.Conflicts.{least_conflict}
 use Rattle.lsdb.specs.Entries.{Database}
 use Rattle.mrt_graph.specs.GraphInvariant.{IsTopology}

@@ -8,8 +8,7 @@ ghost use Rattle.flood_verdict.specs.Says.{area_in};
 
 use area_graph::{Area, AreaError, build_area};
 use cert_stream::CertStream;
-use flood_core::SharedLsdb;
-use flood_script::{Compare, Verdict, newest_of_the_same_give_one_area};
+use flood::{Compare, SharedLsdb, Verdict, newest_of_the_same_give_one_area};
 use mrt_graph::NoMemory;
 use mrt_island::{IslandError, Profile, find_island};
 use std::alloc::Global;

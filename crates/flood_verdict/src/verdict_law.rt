@@ -4,8 +4,8 @@
 ghost use Rattle.std.specs.Prelude.{◌≡◌, ◌<◌, ◌^◌, ℕ, List, Some};
 ghost use Rattle.std.specs.List.{AllByRecursion};
 ghost use Rattle.lsdb.specs.Entries.{Database};
-ghost use Rattle.flood_core.specs.{declared.update.Update.Update, FloodState.database_of, FloodState.started, Receiving.MayFlood, Runs.Delivery, Runs.after_deliveries, Runs.lsas_of};
-ghost use Rattle.flood_script.specs.{declared.script.FloodScript.FloodScript, FloodScripts.IsAmong, FloodTexts.IsFloodText, FloodTexts.SaysOnce, declared.verdict.Verdict.Verdict};
+ghost use Rattle.flood.specs.{declared.update.Update.Update, FloodState.database_of, FloodState.started, Receiving.MayFlood, Runs.Delivery, Runs.after_deliveries, Runs.lsas_of};
+ghost use Rattle.flood.specs.{declared.script.FloodScript.FloodScript, FloodScripts.IsAmong, FloodTexts.IsFloodText, FloodTexts.SaysOnce, declared.verdict.Verdict.Verdict};
 ghost use Rattle.mrt_island.specs.declared.setting.Setting.{Setting};
 ghost use Rattle.ospf_lsa.specs.Lsas.{FitsBody};
 ghost use Rattle.flood_verdict.specs.Alike.{AreAlike, ComparesAlike, IsToldAlike};
@@ -16,11 +16,10 @@ use area_graph::{
 };
 use cert_format::one_spelling;
 use cert_stream::certificates_fit_their_files;
-use flood_core::{
-    a_database_is_that_of_what_was_delivered, flooding_converges,
+use flood::{
+    a_database_is_that_of_what_was_delivered, flooding_converges, newest_of_the_same_give_one_area,
     the_same_deliveries_give_the_same_database,
 };
-use flood_script::newest_of_the_same_give_one_area;
 use mrt_island::{a_router_has_one_island, what_an_island_keeps};
 use mrt_rows::one_certificate;
 

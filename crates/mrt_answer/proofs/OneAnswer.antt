@@ -17,9 +17,9 @@ use Rattle.fabric.specs.declared.event.Event.{Event}
 use Rattle.fabric_runs.specs.RunTexts.{IsScriptText, IsTraceText}
 use Rattle.fabric_script.specs.declared.script.Script.{Script}
 use Rattle.fabric_script.specs.declared.trace.Trace.{Trace as PacketTrace}
-use Rattle.flood_core.specs.FloodState.{FloodState, started}
-use Rattle.flood_script.specs.declared.script.FloodLine.{FloodLine}
-use Rattle.flood_script.specs.FloodTexts.{IsFloodText}
+use Rattle.flood.specs.FloodState.{FloodState, started}
+use Rattle.flood.specs.declared.script.FloodLine.{FloodLine}
+use Rattle.flood.specs.FloodTexts.{IsFloodText}
 use Rattle.flood_verdict.specs.Says.{Says}
 use Rattle.lfa_alt.specs.LfaText.{IsLfaText}
 use Rattle.lsdb.specs.Database.{IsDatabase, entering}

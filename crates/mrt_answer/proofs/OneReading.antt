@@ -37,12 +37,12 @@ use Rattle.mrt_answer.specs.Input.{Input}
 use Rattle.mrt_answer.specs.Reading.{certificate_of, database_of, deliveries_of, input_of, profile_of, script_of, updates_of}
 use Rattle.fabric_script.specs.declared.script.Script.{Script}
 use Rattle.fabric_script.specs.ScriptFaults.{IsFirstScriptFault, IsScript}
-use Rattle.flood_core.specs.declared.error.UpdateKind.{UpdateKind}
-use Rattle.flood_core.specs.declared.update.Update.{Update}
-use Rattle.flood_core.specs.UpdateOutcome.{IsFirstUpdateFault}
-use Rattle.flood_core.specs.Updates.{AreUpdates}
-use Rattle.flood_script.specs.declared.script.FloodScript.{FloodScript}
-use Rattle.flood_script.specs.FloodScripts.{IsFirstFloodFault, IsScript as IsFloodScript}
+use Rattle.flood.specs.declared.error.UpdateKind.{UpdateKind}
+use Rattle.flood.specs.declared.update.Update.{Update}
+use Rattle.flood.specs.UpdateOutcome.{IsFirstUpdateFault}
+use Rattle.flood.specs.Updates.{AreUpdates}
+use Rattle.flood.specs.declared.script.FloodScript.{FloodScript}
+use Rattle.flood.specs.FloodScripts.{IsFirstFloodFault, IsScript as IsFloodScript}
 
 -- what an option holds is one
 pub held_once : {X : Type 0} (x y : X) (option : Option X) → option ≡ Some x → option ≡ Some y → x ≡ y

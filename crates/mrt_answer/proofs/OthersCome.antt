@@ -1,16 +1,16 @@
 -- Of a form over packets there comes an answer, and a network that can be made has its survey.
 use Rattle.std.proofs.Common.{◌⊎◌, ◌<◌, ◌^◌, ℕ, List, [], Result, Ok, Err, inl, inr}
 use Rattle.std.specs.List.{AllByRecursion}
-use Rattle.flood_core.specs.FloodState.{started}
-use Rattle.flood_core.specs.Receiving.{MayFlood}
-use Rattle.flood_core.specs.Runs.{lsas_of}
-use Rattle.flood_core.specs.UpdateOutcome.{IsFirstUpdateFault}
-use Rattle.flood_core.specs.Updates.{AreUpdates}
-use Rattle.flood_core.specs.declared.error.UpdateKind.{UpdateKind}
-use Rattle.flood_core.specs.declared.update.Update.{Update}
-use Rattle.flood_script.specs.FloodScripts.{IsAmong, IsFirstFloodFault, IsScript}
-use Rattle.flood_script.specs.FloodTexts.{IsFloodText}
-use Rattle.flood_script.specs.declared.script.FloodScript.{FloodScript}
+use Rattle.flood.specs.FloodState.{started}
+use Rattle.flood.specs.Receiving.{MayFlood}
+use Rattle.flood.specs.Runs.{lsas_of}
+use Rattle.flood.specs.UpdateOutcome.{IsFirstUpdateFault}
+use Rattle.flood.specs.Updates.{AreUpdates}
+use Rattle.flood.specs.declared.error.UpdateKind.{UpdateKind}
+use Rattle.flood.specs.declared.update.Update.{Update}
+use Rattle.flood.specs.FloodScripts.{IsAmong, IsFirstFloodFault, IsScript}
+use Rattle.flood.specs.FloodTexts.{IsFloodText}
+use Rattle.flood.specs.declared.script.FloodScript.{FloodScript}
 use Rattle.flood_verdict.specs.Says.{Says}
 use Rattle.mrt_graph.specs.AcceptedFor.{IsAcceptedAt}
 use Rattle.mrt_graph.specs.Certificate.{Certificate}

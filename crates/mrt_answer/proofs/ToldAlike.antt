@@ -1,13 +1,13 @@
 -- Routers that have to tell the same are told so.
 use Rattle.std.proofs.Common.{◌≡◌, ℕ, List, [], Ok, subst}
 use Rattle.std.specs.List.{AllByRecursion}
-use Rattle.flood_core.specs.declared.update.Update.{Update}
-use Rattle.flood_core.specs.FloodState.{started}
-use Rattle.flood_core.specs.Receiving.{MayFlood}
-use Rattle.flood_core.specs.Updates.{AreUpdates}
-use Rattle.flood_script.specs.declared.script.FloodScript.{FloodScript}
-use Rattle.flood_script.specs.FloodScripts.{IsScript}
-use Rattle.flood_script.specs.FloodTexts.{IsFloodText}
+use Rattle.flood.specs.declared.update.Update.{Update}
+use Rattle.flood.specs.FloodState.{started}
+use Rattle.flood.specs.Receiving.{MayFlood}
+use Rattle.flood.specs.Updates.{AreUpdates}
+use Rattle.flood.specs.declared.script.FloodScript.{FloodScript}
+use Rattle.flood.specs.FloodScripts.{IsScript}
+use Rattle.flood.specs.FloodTexts.{IsFloodText}
 use Rattle.flood_verdict.specs.Alike.{ComparesAlike, IsToldAlike}
 use Rattle.flood_verdict.specs.Says.{Says}
 use Rattle.mrt_island.specs.ProfileFaults.{AreSettings}

@@ -3,12 +3,12 @@ use Rattle.std.specs.Prelude.{◌≡◌, ℕ, List, length}
 use Rattle.std.specs.List.{AllByRecursion}
 use Rattle.fabric_script.specs.declared.script.Script.{Script}
 use Rattle.fabric_script.specs.declared.trace.Trace.{Trace as PacketTrace}
-use Rattle.flood_core.specs.FloodState.{started}
-use Rattle.flood_core.specs.Receiving.{MayFlood}
-use Rattle.flood_core.specs.declared.update.Update.{Update}
-use Rattle.flood_script.specs.declared.script.FloodScript.{FloodScript}
+use Rattle.flood.specs.FloodState.{started}
+use Rattle.flood.specs.Receiving.{MayFlood}
+use Rattle.flood.specs.declared.update.Update.{Update}
+use Rattle.flood.specs.declared.script.FloodScript.{FloodScript}
 use Rattle.mrt_island.specs.declared.setting.Setting.{Setting}
-use Rattle.flood_script.specs.FloodTexts.{IsFloodText}
+use Rattle.flood.specs.FloodTexts.{IsFloodText}
 use Rattle.flood_verdict.specs.Says.{Says}
 use Rattle.lfa_alt.specs.LfaText.{IsLfaText}
 use Rattle.mrt_exit.specs.Steps.{Step, such, ◌▸◌}

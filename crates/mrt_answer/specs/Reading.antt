@@ -3,11 +3,11 @@ use Rattle.std.specs.Prelude.{◌≡◌, ℕ, List, [], Ok, Err, Some}
 use Rattle.cert_format.specs.FirstFault.{first_fault}
 use Rattle.fabric_script.specs.declared.script.Script.{Script}
 use Rattle.fabric_script.specs.ScriptFaults.{IsFirstScriptFault, IsScript}
-use Rattle.flood_core.specs.declared.update.Update.{Update}
-use Rattle.flood_core.specs.UpdateOutcome.{IsFirstUpdateFault}
-use Rattle.flood_core.specs.Updates.{AreUpdates}
-use Rattle.flood_script.specs.declared.script.FloodScript.{FloodScript}
-use Rattle.flood_script.specs.FloodScripts.{IsFirstFloodFault, IsScript as IsFloodScript}
+use Rattle.flood.specs.declared.update.Update.{Update}
+use Rattle.flood.specs.UpdateOutcome.{IsFirstUpdateFault}
+use Rattle.flood.specs.Updates.{AreUpdates}
+use Rattle.flood.specs.declared.script.FloodScript.{FloodScript}
+use Rattle.flood.specs.FloodScripts.{IsFirstFloodFault, IsScript as IsFloodScript}
 use Rattle.lsdb.specs.Database.{IsDatabase}
 use Rattle.mrt_graph.specs.TextLines.{text_lines}
 use Rattle.mrt_graph.specs.declared.cert.CertFile.{CertFile}

@@ -18,9 +18,9 @@ use area_graph::{bonds_of_the_newest_records_fit, the_newest_records_give_an_are
 use cert_format::one_spelling;
 use fabric_runs::one_text_each;
 use fabric_script::lines_are_a_script_or_have_a_fault;
-use flood_core::bytes_are_updates_or_have_a_fault;
-use flood_script::{
-    lines_are_a_flood_script_or_have_a_fault, one_text_each as one_flood_text_each,
+use flood::{
+    bytes_are_updates_or_have_a_fault, lines_are_a_flood_script_or_have_a_fault,
+    one_text_each as one_flood_text_each,
 };
 use flood_verdict::{ByIsland, no_difference_is_told, one_verdict_each};
 use lfa_alt::one_text_each as one_lfa_text_each;

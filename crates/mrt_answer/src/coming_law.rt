@@ -15,8 +15,10 @@ use cert_format::bytes_are_a_certificate_or_have_a_fault;
 use cert_stream::certificates_fit_their_files;
 use fabric_runs::one_text_each;
 use fabric_script::lines_are_a_script_or_have_a_fault;
-use flood_core::{bytes_are_updates_or_have_a_fault, what_is_read_may_be_flooded};
-use flood_script::lines_are_a_flood_script_or_have_a_fault;
+use flood::{
+    bytes_are_updates_or_have_a_fault, lines_are_a_flood_script_or_have_a_fault,
+    what_is_read_may_be_flooded,
+};
 use flood_verdict::a_script_has_its_text;
 use lfa_alt::one_text_each as one_lfa_text_each;
 use lsdb::{

@@ -5,8 +5,8 @@ use Rattle.std.specs.Prelude.{nat_lt, if◌then◌else◌}
 use Rattle.std.proofs.lemmas.Bool.{lt-ltb, ltb-true}
 use Rattle.cert_format.specs.declared.error.CertKind.{CertKind}
 use Rattle.cert_format.specs.declared.error.CertKind.TheVariants as faults
-use Rattle.flood_core.specs.declared.error.UpdateKind.{UpdateKind}
-use Rattle.flood_core.specs.declared.error.UpdateKind.TheVariants as updates
+use Rattle.flood.specs.declared.error.UpdateKind.{UpdateKind}
+use Rattle.flood.specs.declared.error.UpdateKind.TheVariants as updates
 use Rattle.mrt_island.specs.declared.profile_error.ProfileKind.{ProfileKind}
 use Rattle.mrt_island.specs.declared.profile_error.ProfileKind.TheVariants as lines
 use Rattle.ospf_lsa.specs.declared.error.LsaKind.{LsaKind}

@@ -5,7 +5,7 @@ ghost use Rattle.mrt_calls.specs.Faults.{IsTold, fault, fault_of};
 ghost use Rattle.mrt_calls.specs.Kinds.{certificate_number, line_number, record_number, update_number, what_number};
 
 use cert_format::CertKind;
-use flood_core::UpdateKind;
+use flood::UpdateKind;
 use mrt_exit::{DbKind, Exit, What};
 use mrt_island::ProfileKind;
 use ospf_lsa::LsaKind;

@@ -4,14 +4,14 @@ ghost use Rattle.std.specs.Prelude.{◌≡◌, ◌<◌, ◌⊎◌, IfSome, IsNon
 ghost use Rattle.mrt_calls.specs.{Faults.IsWide, Faults.fault_of, FaultLines.IsLineOf, FaultLines.TellsNone};
 ghost use Rattle.mrt_calls.specs.steps.FaultExits.{below, certificate_kind, database_kind, exit_in, large_in, line_kind, no_in, record_kind, update_kind, what_kind};
 ghost use Rattle.mrt_exit.specs.declared.exit.Exit.{Exit};
-ghost use Rattle.flood_core.specs.declared.error.UpdateKind.{UpdateKind};
+ghost use Rattle.flood.specs.declared.error.UpdateKind.{UpdateKind};
 ghost use Rattle.std.specs.Option.{option_map};
 
 use crate::fault::{MrtFault, fault_of};
 use crate::putting::exit_of;
 use crate::run::put_line;
 use cert_format::CertKind;
-use flood_core::UpdateKind;
+use flood::UpdateKind;
 use mrt_exit::{DbKind, Exit, What};
 use mrt_island::ProfileKind;
 use ospf_lsa::LsaKind;

@@ -3,7 +3,7 @@
 ghost use Rattle.std.specs.Prelude.{◌≡◌, ◌≤◌, ◌⊎◌, ◌↔◌, ℕ, List, Err, IfErr, IfOk, IsSome, Ok, Some, length};
 ghost use Rattle.mrt_io.specs.{Counts.Rose, Holding.Files, Writing.Gained};
 ghost use Rattle.cert_format.specs.declared.error.CertKind.{CertKind};
-ghost use Rattle.flood_core.specs.declared.error.UpdateKind.{UpdateKind};
+ghost use Rattle.flood.specs.declared.error.UpdateKind.{UpdateKind};
 ghost use Rattle.flood_verdict.specs.{Alike.IsToldAlike, Says.Says};
 ghost use Rattle.mrt_island.specs.declared.profile_error.ProfileKind.{ProfileKind};
 ghost use Rattle.mrt_exit.specs.{declared.exit.DbKind.DbKind, declared.exit.What.What, Exits.line_of, Telling.GainedLine, Telling.IsCutShort};

@@ -5,10 +5,10 @@ use Rattle.area_graph.specs.declared.area_error.AreaError.TheVariants as area_er
 use Rattle.cert_format.specs.declared.error.CertFault.{CertFault}
 use Rattle.fabric_script.specs.declared.script_error.ScriptError.{ScriptError}
 use Rattle.fabric_script.specs.declared.script_error.ScriptError.TheVariants as script_errors
-use Rattle.flood_core.specs.declared.error.UpdateError.{UpdateError}
-use Rattle.flood_core.specs.declared.error.UpdateError.TheVariants as update_errors
-use Rattle.flood_script.specs.declared.error.FloodScriptError.{FloodScriptError}
-use Rattle.flood_script.specs.declared.error.FloodScriptError.TheVariants as flood_script_errors
+use Rattle.flood.specs.declared.error.UpdateError.{UpdateError}
+use Rattle.flood.specs.declared.error.UpdateError.TheVariants as update_errors
+use Rattle.flood.specs.declared.script_error.FloodScriptError.{FloodScriptError}
+use Rattle.flood.specs.declared.script_error.FloodScriptError.TheVariants as flood_script_errors
 use Rattle.lsdb.specs.declared.change.Conflict.{Conflict}
 use Rattle.mrt_io.specs.declared.device.PutError.{PutError}
 use Rattle.mrt_io.specs.declared.device.PutError.TheVariants.{Failed}

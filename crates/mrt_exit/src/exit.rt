@@ -6,7 +6,7 @@ ghost use Rattle.mrt_exit.specs.Exits.{status_of, line_of as line_of_exit, datab
 
 use crate::kind_texts::{text_of_kind, text_of_line, text_of_record, text_of_update, text_of_what};
 use cert_format::CertKind;
-use flood_core::UpdateKind;
+use flood::UpdateKind;
 use mrt_island::ProfileKind;
 use ospf_lsa::LsaKind;
 use text_parts::{Line, line_of, put, put_address, put_number};

@@ -5,7 +5,7 @@ ghost use Rattle.mrt_exit.specs.Exits.{kind_text, line_text, record_text, update
 
 use crate::exit::What;
 use cert_format::CertKind;
-use flood_core::UpdateKind;
+use flood::UpdateKind;
 use mrt_island::ProfileKind;
 use ospf_lsa::LsaKind;
 

@@ -1,0 +1,15 @@
+pub mod Databases
+pub mod Deliveries
+pub mod FloodLines
+pub mod FloodScripts
+pub mod FloodState
+pub mod FloodStep
+pub mod FloodTexts
+pub mod PacketFaults
+pub mod PacketFields
+pub mod Receiving
+pub mod Routers
+pub mod Runs
+pub mod UpdateOutcome
+pub mod Updates
+pub mod steps

@@ -1,5 +1,0 @@
-use Rattle.flood_core.proofs.RunsAsLists.{once_law}
-use Rattle.flood_core.proofs.run_law.an_instance_is_sent_on_once.Goals as goal
-
-pub returns : goal.returns
-returns c = once_law

@@ -1,5 +1,0 @@
-use Rattle.flood_core.proofs.RunsAsLists.{keys_law, timeless_law}
-use Rattle.flood_core.proofs.run_law.newest_of_the_same_are_the_same.Goals as goal
-
-pub returns : goal.returns
-returns c = record { keys = keys_law; timeless = timeless_law }

@@ -1,5 +1,0 @@
-use Rattle.flood_core.proofs.SameLsas.{AreSameBefore}
-use Rattle.flood_core.proofs.same.hold_the_same.Given as goal
-
-abbrev pub invariant-loop-place : goal.invariant-loop-place
-invariant-loop-place l = AreSameBefore l.lsas l.others l.store.held.items l.other.held.items l.place

@@ -1,5 +1,0 @@
-pub mod FloodState
-pub mod Noting
-pub mod Numbers
-pub mod Reading
-pub mod SharedStore

@@ -1,5 +1,0 @@
-pub mod Deliveries
-pub mod FloodLines
-pub mod FloodScripts
-pub mod FloodTexts
-pub mod steps
