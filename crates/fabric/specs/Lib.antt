@@ -1,13 +1,17 @@
 pub mod Answers
 pub mod Causes
 pub mod Course
+pub mod Destinations
 pub mod FabricParts
 pub mod FabricState
 pub mod Handling
+pub mod NamedEvents
 pub mod OutcomeText
 pub mod OwnEvents
 pub mod PacketHop
+pub mod RunTexts
 pub mod Runs
 pub mod Served
+pub mod Trace
 pub mod Viewed
 pub mod steps

@@ -1,3 +1,5 @@
 pub mod KeptState
+pub mod Printed
 pub mod Served
+pub mod Unstepped
 pub mod Viewed

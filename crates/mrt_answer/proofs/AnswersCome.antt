@@ -17,7 +17,7 @@ use Rattle.cert_format.specs.Limits.{IsCertFile}
 use Rattle.cert_format.specs.declared.error.CertKind.{CertKind}
 use Rattle.cert_stream.specs.OfGraph.{IsOfGraph}
 use Rattle.fabric.specs.FabricParts.{ArePartsKept, AreRowsFor, FabricParts}
-use Rattle.fabric_runs.specs.RunTexts.{IsScriptText, IsTraceText}
+use Rattle.fabric.specs.RunTexts.{IsScriptText, IsTraceText}
 use Rattle.fabric_script.specs.ScriptFaults.{IsFirstScriptFault, IsScript}
 use Rattle.fabric_script.specs.declared.script.Script.{Script}
 use Rattle.fabric_script.specs.declared.trace.Trace.{Trace as PacketTrace}

@@ -14,7 +14,7 @@ use Rattle.cert_format.specs.CertText.{cert_text}
 use Rattle.fabric.specs.FabricParts.{ArePartsKept, AreRowsFor, FabricParts}
 use Rattle.fabric.specs.Served.{AreRowsOn}
 use Rattle.fabric.specs.declared.event.Event.{Event}
-use Rattle.fabric_runs.specs.RunTexts.{IsScriptText, IsTraceText}
+use Rattle.fabric.specs.RunTexts.{IsScriptText, IsTraceText}
 use Rattle.fabric_script.specs.declared.script.Script.{Script}
 use Rattle.fabric_script.specs.declared.trace.Trace.{Trace as PacketTrace}
 use Rattle.flood.specs.FloodState.{FloodState, started}

@@ -11,7 +11,7 @@ use Rattle.fabric.specs.Served.{AgreeFor, IsServedBy}
 use Rattle.fabric.specs.Viewed.{parts_with}
 use Rattle.fabric.proofs.Islands.{is_one}
 use Rattle.fabric.proofs.Routed.{routed_node}
-use Rattle.fabric_runs.specs.NamedEvents.{spot_of}
+use Rattle.fabric.specs.NamedEvents.{spot_of}
 use Rattle.mrt_graph.specs.Certificate.{row_of}
 use Rattle.mrt_graph.specs.Topology.{Topology}
 use Rattle.mrt_graph.specs.declared.node_id.NodeId.{NodeId}

@@ -20,7 +20,7 @@ use Rattle.mrt_island.specs.declared.island.Island.{Island}
 use Rattle.fabric.specs.FabricParts.{FabricParts}
 use Rattle.fabric_script.specs.declared.script.Script.{Script}
 use Rattle.fabric_script.specs.declared.trace.Trace.{Trace}
-use Rattle.fabric_runs.specs.RunTexts.{IsScriptText, IsTraceText}
+use Rattle.fabric.specs.RunTexts.{IsScriptText, IsTraceText}
 use Rattle.mrt_graph.specs.Related.{are_unrelated}
 use Rattle.proxy_rows.specs.ProxyText.{IsProxyText}
 

@@ -16,7 +16,7 @@ ghost use Rattle.mrt_graph.specs.{GraphInvariant.IsTopology, NodeOrder.node_id_c
 use crate::survey_law::made_networks_are_taken;
 use area_graph::{bonds_of_the_newest_records_fit, the_newest_records_give_an_area};
 use cert_format::one_spelling;
-use fabric_runs::one_text_each;
+use fabric::one_text_each;
 use fabric_script::lines_are_a_script_or_have_a_fault;
 use flood::{
     bytes_are_updates_or_have_a_fault, lines_are_a_flood_script_or_have_a_fault,

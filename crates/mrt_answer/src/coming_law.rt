@@ -13,7 +13,7 @@ use area_graph::{
 };
 use cert_format::bytes_are_a_certificate_or_have_a_fault;
 use cert_stream::certificates_fit_their_files;
-use fabric_runs::one_text_each;
+use fabric::one_text_each;
 use fabric_script::lines_are_a_script_or_have_a_fault;
 use flood::{
     bytes_are_updates_or_have_a_fault, lines_are_a_flood_script_or_have_a_fault,

@@ -10,7 +10,7 @@ use crate::given::Given;
 use crate::input::script_of;
 use crate::packets::{AreaAndIsland, area_and_island, tables_to};
 use crate::text::{Text, bytes_answer};
-use fabric_runs::{destinations, script_text, texts_by_rows_for_destinations};
+use fabric::{destinations, script_text, texts_by_rows_for_destinations};
 use fabric_script::Script;
 use mrt_exit::Exit;
 use mrt_graph::NoMemory;

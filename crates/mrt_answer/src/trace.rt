@@ -8,7 +8,7 @@ use crate::given::Given;
 use crate::packets::{AreaAndIsland, area_and_island, tables_to};
 use crate::text::{Text, bytes_answer};
 use area_graph::{Area, Spot};
-use fabric_runs::{texts_by_rows_for_destinations, trace_text};
+use fabric::{texts_by_rows_for_destinations, trace_text};
 use fabric_script::Trace;
 use mrt_exit::Exit;
 use mrt_graph::NoMemory;

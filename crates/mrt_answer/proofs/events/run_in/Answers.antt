@@ -1,7 +1,7 @@
 use Rattle.std.proofs.Common.{ℕ, List, subst}
 use Rattle.std.specs.Prelude.{Contains}
 use Rattle.mrt_graph.specs.Certificate.{row_of}
-use Rattle.fabric_runs.proofs.ServedEvents.{agree_at_destinations, served_at_destinations}
+use Rattle.fabric.proofs.ServedEvents.{agree_at_destinations, served_at_destinations}
 use Rattle.mrt_args.proofs.HandedOn.{if_ok}
 use Rattle.mrt_answer.proofs.PacketsServed.{agrees, are_whole, made_for, parts, served, whole}
 use Rattle.mrt_answer.proofs.events.run_in.Goals as goal

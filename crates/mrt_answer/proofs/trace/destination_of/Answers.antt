@@ -1,5 +1,5 @@
 use Rattle.std.proofs.Common.{◌∙◌, ℕ, [], ◌∷◌, Some, ap, sym}
-use Rattle.fabric_runs.proofs.Placed.{found_node}
+use Rattle.fabric.proofs.Placed.{found_node}
 use Rattle.mrt_graph.proofs.ListPlaces.{contains_at}
 use Rattle.mrt_graph.proofs.Members.{contains_none}
 use Rattle.mrt_graph.proofs.Searching.{one_in_one}

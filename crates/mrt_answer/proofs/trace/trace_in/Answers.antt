@@ -2,7 +2,7 @@ use Rattle.std.proofs.Common.{◌<◌, ℕ, List, length, subst}
 use Rattle.std.specs.Prelude.{Contains}
 use Rattle.std.proofs.lemmas.Option.{slice_get_within}
 use Rattle.mrt_graph.specs.Certificate.{row_of}
-use Rattle.fabric_runs.specs.NamedEvents.{spot_of}
+use Rattle.fabric.specs.NamedEvents.{spot_of}
 use Rattle.mrt_args.proofs.HandedOn.{if_ok}
 use Rattle.mrt_answer.proofs.PacketsServed.{agrees, are_whole, made_for, parts, served, spot_stands, whole}
 use Rattle.mrt_answer.proofs.trace.trace_in.Goals.{In_ok-spots}
