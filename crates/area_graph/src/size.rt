@@ -1,9 +1,10 @@
 //! How large an area may be.
 
-ghost use Rattle.std.specs.Prelude.{◌≡◌, ◌-◌, ◌^◌, IfOk, IfErr, min};
+ghost use Rattle.std.specs.Prelude.{◌-◌, IfOk, IfErr};
 ghost use Rattle.area_graph.specs.AreaSize.{IsTooLarge, TellsTooLarge};
 
 use crate::area_error::AreaError;
+use mrt_graph::saturated;
 
 /// The most nodes that an area may have.
 const MAX_NODES: usize = 4096;
@@ -23,11 +24,4 @@ pub fn check_size(nodes: usize, arcs: usize) -> Result<(), AreaError>
         });
     }
     Ok(())
-}
-
-/// A count as a number of 32 bits, the greatest one where it is greater.
-fn saturated(count: usize) -> u32
-    ensures { result ≡ min count (2 ^ 32 - 1) }
-{
-    count.min(u32::MAX as usize) as u32
 }

@@ -27,6 +27,7 @@ use Rattle.flood.specs.Routers.{Router}
 use Rattle.flood.specs.Receiving.{after_all, after_one, arrived, is_new, is_news, new_router, news}
 use Rattle.flood.specs.Runs.{numbered, same_instance}
 use Rattle.flood.proofs.InTurn.{after_append}
+use Rattle.flood.proofs.InTurn.{first_by as one_news_by}
 
 -- ---- covered
 
@@ -213,10 +214,6 @@ all_covered_by false out before x is so_far e has = elim (has_either before (x �
     | inr none ↦ absurd none
   ]
 ]
-
-one_news_by : (b : Bool) (x : Lsa) (rest : List Lsa) → cond b (x ∷ rest) rest ≡ cond b (x ∷ []) [] ++ rest
-one_news_by true x rest = refl
-one_news_by false x rest = refl
 
 flip : (a b : Bool) → a ≡ not b → b ≡ not a
 flip a true h = ap not (sym h)

@@ -26,7 +26,7 @@ news_append router (x ∷ xs) ys =
     ap (λ (rest : List Lsa). cond (is_news router x) (x ∷ rest) rest) (news_append (after_one router x) xs ys)
     ∙ news_by (is_news router x) x (news (after_one router x) xs) (news (after_all (after_one router x) xs) ys)
 
-first_by : (b : Bool) (x : Lsa) (rest : List Lsa) → cond b (x ∷ rest) rest ≡ cond b (x ∷ []) [] ++ rest
+pub first_by : (b : Bool) (x : Lsa) (rest : List Lsa) → cond b (x ∷ rest) rest ≡ cond b (x ∷ []) [] ++ rest
 first_by true x rest = refl
 first_by false x rest = refl
 

@@ -1,18 +1,18 @@
 -- After any deliveries each database is that of a list.
-use Rattle.std.proofs.Common.{◌≡◌, ◌∙◌, ◌<◌, ◌+◌, ◌↔◌, ◌&&◌, ℕ, true, List, [], ◌∷◌, Option, Some, None, Contains, map, inl, refl, sym, ap, subst, arith}
+use Rattle.std.proofs.Common.{◌≡◌, ◌∙◌, ◌<◌, ◌+◌, ◌↔◌, ℕ, true, List, [], ◌∷◌, Option, Some, None, Contains, map, refl, sym, ap, subst, arith}
 use Rattle.std.specs.List.{AllByRecursion, IsDistinct, list_any}
 use Rattle.std.specs.List.Sorted.{IsPermutation}
 use Rattle.std.specs.Option.{option_map, IsSomeAnd}
 use Rattle.std.proofs.lemmas.Option.{same_Some, slice_get_within}
-use Rattle.mrt_graph.proofs.Members.{Has, all_filter_map, all_from_has, all_has, contains_from_has, has_filter, has_from_contains, is_from}
+use Rattle.mrt_graph.proofs.Members.{Has, all_from_has, all_has, contains_from_has, has_filter, has_from_contains}
 use Rattle.ospf_lsa.specs.declared.lsa.Lsa.{Lsa}
 use Rattle.lsdb.specs.declared.key.Key.{Key}
 use Rattle.lsdb.specs.Conflicts.{least_conflict}
-use Rattle.lsdb.specs.Entries.{Database, Entry, entries_in, entry_of}
+use Rattle.lsdb.specs.Entries.{Database, Entry, entries_in}
 use Rattle.lsdb.specs.Installing.{IsKept}
 use Rattle.lsdb.specs.Installs.{all_installed, AreBehind}
-use Rattle.lsdb.specs.Keys.{key_of, is_of, keys_in}
-use Rattle.lsdb.specs.Newest.{is_newest, newest_of, IsSettled}
+use Rattle.lsdb.specs.Keys.{key_of, keys_in}
+use Rattle.lsdb.specs.Newest.{IsSettled}
 use Rattle.lsdb.specs.Orders.{newest_in, timeless, without_place, HoldTheSame}
 use Rattle.lsdb.proofs.Agreements.{same_agree, settled_agree}
 use Rattle.lsdb.proofs.Entered.{keys_of_newest}
@@ -31,6 +31,7 @@ use Rattle.flood.proofs.Bringing.{AreAfter, after_run, all_of_file, all_packets,
 use Rattle.flood.proofs.Converging.{IsCover, cover_settled, covers_agree, kept_numbered, numbered_has}
 use Rattle.flood.proofs.OneDelivery.{all_news}
 use Rattle.flood.proofs.Covered.{all_covered, any_has, covers, entries_after, found_in, sent_once}
+use Rattle.area_graph.proofs.EveryOrder.{chosen}
 
 -- the state after deliveries
 abbrev pub after : List Update → ℕ → List Delivery → FloodState
@@ -157,24 +158,6 @@ packets_law updates count deliveries update lsa among has =
     (all_packets (Has (lsas_of updates)) (started updates count) deliveries (all_of_file updates))
     (has_from_contains (after updates count deliveries).packets update among))
     (has_from_contains update.lsas lsa has))
-
--- a first newest instance of a list is in it
-chosen_by : (lsas : List Lsa) (key : Key) (entry : Entry) (instances : List Lsa) → newest_of lsas key ≡ instances
-    → entry_of instances ≡ Some entry → Has lsas entry.lsa
-chosen_by lsas key entry [] is made = absurd cc
-chosen_by lsas key entry (first ∷ rest) is made =
-    let same : first ≡ entry.lsa = ap (λ (e : Entry). e.lsa) (same_Some _ entry made) in
-    let among : Has (newest_of lsas key) entry.lsa =
-    subst (λ (instances : List Lsa). Has instances entry.lsa) (sym is) (inl same) in
-    (has_filter (λ lsa. is_of key lsa && is_newest lsas lsa) lsas entry.lsa among).0
-
-chosen : (lsas : List Lsa) (lsa : Lsa) → Has (newest_in lsas) lsa → Has lsas lsa
-chosen lsas lsa has =
-    let from = is_from (λ (entry : Entry). entry.lsa) (entries_in lsas) lsa has in
-    let all = all_filter_map (λ entry. Has lsas entry.lsa) (λ key. entry_of (newest_of lsas key)) (keys_in lsas)
-    (λ key entry has_key made. chosen_by lsas key entry (newest_of lsas key) refl made) in
-    subst (Has lsas) from.is
-    (all_has (λ (entry : Entry). Has lsas entry.lsa) (entries_in lsas) from.origin all from.there)
 
 newest_given : (updates : List Update) (count : ℕ) (deliveries : List Delivery) (r : ℕ) (database : Database)
     → r < count → database_of (after updates count deliveries) r ≡ Some database

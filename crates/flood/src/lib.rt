@@ -10,7 +10,6 @@ mod answer;
 mod comparing;
 mod database_copy;
 mod error;
-mod field;
 mod flood;
 mod line;
 mod lines;

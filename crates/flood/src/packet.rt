@@ -8,10 +8,9 @@ ghost use Rattle.flood.specs.{PacketFields.length_field, PacketFields.lsa_bytes,
 ghost use Rattle.flood.specs.steps.Reading.{AreRead, HasSoundHeader, IsRefused};
 
 use crate::error::{UpdateError, UpdateKind};
-use crate::field::{number_16, number_32};
 use crate::update::Update;
 use mrt_graph::Seq;
-use ospf_lsa::{Lsa, LsaError, read_lsas};
+use ospf_lsa::{Lsa, LsaError, number_16, number_32, read_lsas};
 use std::alloc::Global;
 
 /// The bytes before the LSAs: the header of every packet of OSPF, and the count (RFC 2328, sections A.3.1 and A.3.5).

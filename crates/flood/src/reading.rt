@@ -1,12 +1,11 @@
 //! A whole file of packets.
 
-ghost use Rattle.std.specs.Prelude.{◌≡◌, ◌≤◌, ℕ, List, [], IfOk, Err, length};
+ghost use Rattle.std.specs.Prelude.{◌≡◌, ◌≤◌, ℕ, List, [], IfOk, Err, length, drop};
 ghost use Rattle.std.specs.List.{AllByRecursion};
 ghost use Rattle.flood.specs.{declared.error.UpdateKind.UpdateKind, declared.update.Update.Update, Receiving.MayFlood, Updates.AreUpdates};
 ghost use Rattle.flood.specs.UpdateOutcome.{AreAnswer, IsFirstUpdateFault, IsRefusal};
 
 use crate::error::UpdateError;
-use crate::field::after;
 use crate::packet::packet;
 use crate::update::Update;
 use std::alloc::Global;
@@ -47,4 +46,12 @@ pub fn read_updates(alloc: Global, bytes: &[u8]) -> Result<Vec<Update>, UpdateEr
         at += length;
     }
     Ok(updates)
+}
+
+/// The bytes after so many.
+fn after(bytes: &[u8], count: usize) -> &[u8]
+    requires { count ≤ length bytes.now }
+    ensures { result.now ≡ drop count bytes.now }
+{
+    &bytes[count..]
 }

@@ -26,7 +26,7 @@ directions_of g d = record {
   lies_in = λ e. unwrap_or (link_block_at d.marks e) 0;
 }
 
-there_or : {X : Type 0} (o : Option X) (x d : X) → o ≡ Some x → o ≡ Some (unwrap_or o d)
+pub there_or : {X : Type 0} (o : Option X) (x d : X) → o ≡ Some x → o ≡ Some (unwrap_or o d)
 there_or {X} o x d is = is ∙ ap (λ y. Some y) (sym (ap (λ (p : Option X). unwrap_or p d) is))
 
 -- an answer says what it says

@@ -17,6 +17,7 @@ use Rattle.mrt_island.specs.Policy.{Policy}
 use Rattle.mrt_exit.specs.declared.exit.What.{What}
 use Rattle.mrt_exit.specs.declared.exit.What.TheVariants as whats
 use Rattle.mrt_answer.specs.Islands.{IsLargeArea, IsMissing}
+pub use Rattle.flood_verdict.proofs.OneVerdict.{root_within}
 
 pub one_large_area : (area : AreaParts) (what other : What) (size count : ℕ) → IsLargeArea area what size
     → IsLargeArea area other count → (what ≡ other) × (size ≡ count)
@@ -46,14 +47,6 @@ inside_is_there policy area number inside those (inl absent) = absent (contained
 inside_is_there policy area number inside those (inr unsupported) =
     let supported = those.supported in
     absurd cc
-
--- the root is a node of the island
-pub root_within : (policy : Policy) (area : AreaParts) (router : ℕ) (graph : Topology) (root : ℕ)
-    (link_of : List (Option ℕ)) → IsIsland policy area router graph root link_of
-    → root < length graph.ids
-root_within policy area router graph root link_of island =
-    slice_get_within graph.ids root island.rooted.id (subst (λ (ids : List NodeId). slice_get ids root ≡ Some
-    island.rooted.id) (sym island.made.same_ids) island.rooted.there)
 
 -- the nodes of an island ascend, as those of the area do
 pub island_ascends : (policy : Policy) (area : AreaParts) → IsArea area → (router : ℕ) (graph : Topology) (root : ℕ)

@@ -169,7 +169,7 @@ impl Graph {
 }
 
 /// A count as a number of 32 bits, the greatest one where it is greater.
-fn saturated(count: usize) -> u32
+pub fn saturated(count: usize) -> u32
     ensures { result ≡ min count (2 ^ 32 - 1) }
 {
     count.min(u32::MAX as usize) as u32

@@ -38,7 +38,7 @@ pub use cert_law::{
 pub use column::Column;
 pub use directed::Directed;
 pub use gadag::{Gadag, Mark, Place, Way};
-pub use graph::Graph;
+pub use graph::{Graph, saturated};
 pub use graph_error::GraphError;
 pub use graph_law::one_graph_of_its_parts;
 pub use groups::Groups;

@@ -13,7 +13,7 @@ mod word;
 
 pub use device::{OpenError, PutError, PutFailed, Shelf, ShelfError, ShelfFailed, Sink};
 pub use file_shelf::FileShelf;
-pub use mem_shelf::MemShelf;
+pub use mem_shelf::{MemShelf, copy_front};
 pub use mem_sink::MemSink;
 pub use piece::zeros;
 pub use put::put_all;

@@ -118,7 +118,7 @@ fn left_in(files: &[(Word, Vec<u8>)], opened: Open) -> &[u8]
 }
 
 /// Copies the first bytes of what is left into the front of a piece, and answers how many.
-fn copy_front(left: &[u8], piece: &mut [u8]) -> u32
+pub fn copy_front(left: &[u8], piece: &mut [u8]) -> u32
     ensures length { length piece.new ≡ length piece.old }
     ensures count { result ≡ min (min (length piece.old) (length left.now)) 4294967295 }
     ensures bytes { take result piece.new ≡ take result left.now }

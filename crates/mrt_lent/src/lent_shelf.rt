@@ -1,12 +1,12 @@
 //! A shelf of files that are lent.
 
-ghost use Rattle.std.specs.Prelude.{◌≡◌, ◌≤◌, None, length, min, take};
+ghost use Rattle.std.specs.Prelude.{◌≡◌, None};
 ghost use Rattle.std.specs.Option.{option_map};
 ghost use Rattle.mrt_io.specs.Memory.{counted as fault_counted};
 ghost use Rattle.mrt_lent.specs.Lent.{held_in};
 
 use crate::mrt_file::MrtFile;
-use mrt_io::{OpenError, Shelf, ShelfError, ShelfFailed, Word};
+use mrt_io::{OpenError, Shelf, ShelfError, ShelfFailed, Word, copy_front};
 use std::alloc::Global;
 
 /// A shelf of files that are lent. It tells what it holds, and has no fault but at a name that it does not hold.
@@ -38,17 +38,6 @@ fn file_named<'a>(files: &'a [MrtFile<'a>], name: &Word) -> Option<&'a [u8]>
 {
     let file = files.iter().find(|file| file.name.data == name.bytes())?;
     Some(file.bytes.data)
-}
-
-/// Copies the first bytes of what is left into the front of a piece, and answers how many.
-fn copy_front(left: &[u8], piece: &mut [u8]) -> u32
-    ensures length { length piece.new ≡ length piece.old }
-    ensures count { result ≡ min (min (length piece.old) (length left.now)) 4294967295 }
-    ensures bytes { take result piece.new ≡ take result left.now }
-{
-    let count = piece.len().min(left.len()).min(u32::MAX as usize);
-    piece[..count].copy_from_slice(&left[..count]);
-    count as u32
 }
 
 /// One fault more; the count stays at its last value.

@@ -1,6 +1,5 @@
 -- A graph from its root, with the directions that lists say.
-use Rattle.std.proofs.Common.{◌≡◌, ◌≢◌, ◌∙◌, ◌<◌, ℕ, List, Option, Some, length, slice_get, sym, ap, arith}
-use Rattle.std.specs.Option.{unwrap_or}
+use Rattle.std.proofs.Common.{◌≡◌, ◌≢◌, ◌∙◌, ◌<◌, ℕ, List, Option, length, slice_get, sym, ap, arith}
 use Rattle.std.proofs.lemmas.Option.{slice_get-get_or}
 use Rattle.mrt_graph.specs.declared.cert.Role.TheVariants.{Plain}
 use Rattle.mrt_graph.specs.declared.cert.Row.{Row}
@@ -20,9 +19,7 @@ use Rattle.mrt_rows.specs.RowsOf.{HasRow}
 use Rattle.mrt_rows.specs.ListedDirections.{AreRooted, directions_of}
 use Rattle.mrt_rows.proofs.Agreeing.{line_too}
 use Rattle.mrt_rows.proofs.OrderedGraphs.{OrderedGraph}
-
-there_or : {X : Type 0} (o : Option X) (x d : X) → o ≡ Some x → o ≡ Some (unwrap_or o d)
-there_or {X} o x d is = is ∙ ap (λ y. Some y) (sym (ap (λ (p : Option X). unwrap_or p d) is))
+use Rattle.link_direction.proofs.SaidOf.{there_or}
 
 -- lists that say some directions say those that are read there
 says_itself : (g : Topology) (d : DirectedLists) (w : Directions) → Says g d w → Says g d (directions_of g d)

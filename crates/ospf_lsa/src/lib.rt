@@ -15,6 +15,7 @@ mod writing;
 
 pub use checksum::sums;
 pub use error::{LsaError, LsaKind};
+pub use field::{number_16, number_32};
 pub use lsa::{Body, Lsa, NETWORK_LSA, POINT_TO_POINT, ROUTER_LSA, RouterLink, TRANSIT};
 pub use lsa_law::bytes_are_lsas_or_have_a_fault;
 pub use reading::read_lsas;
