@@ -2,9 +2,10 @@
 
 ghost use Rattle.std.specs.Prelude.{◌≤◌, length};
 
-use mrt_graph::{NodeId, read_address};
+use mrt_graph::NodeId;
 use parts_of_tests::{Page, cut};
 use std::alloc::Global;
+use text_parts::read_address;
 
 /// The most bytes that are read of a file.
 const MOST: usize = 8_388_608;

@@ -24,7 +24,7 @@ use Rattle.fabric.specs.Trace.{HasEnded, beginning}
 use Rattle.fabric.proofs.RunsOn.{run_on, told_none, told_on, whole_text}
 use Rattle.fabric.proofs.StepsPrinted.{GoingLaw, HasStepped, ended_at_last, no_steps, one_more, stepped}
 use Rattle.fabric.proofs.TracePrinted.{trace_told, unstepped}
-use Rattle.mrt_graph.specs.Spelling.{node_text}
+use Rattle.text_parts.specs.Spelling.{node_text}
 use Rattle.mrt_graph.specs.declared.node_id.NodeId.{NodeId}
 use Rattle.mrt_graph.proofs.ListTests.{there}
 

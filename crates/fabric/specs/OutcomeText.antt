@@ -8,7 +8,7 @@ use Rattle.fabric.specs.declared.event.Refused.{Refused}
 use Rattle.fabric.specs.declared.event.Refused.TheVariants.{Ended, Full, NoSuchPacket, NoSuchPlace, SecondFailure}
 use Rattle.fabric.specs.declared.packet.Loss.{Loss}
 use Rattle.fabric.specs.declared.packet.Loss.TheVariants.{ColorCut, Inside, IsDestination, NoAlternate, NoRoute, Outside}
-use Rattle.mrt_graph.specs.Spelling.{node_text}
+use Rattle.text_parts.specs.Spelling.{node_text}
 use Rattle.mrt_graph.specs.declared.cert.Color.{Color}
 use Rattle.mrt_graph.specs.declared.cert.Color.TheVariants.{Blue, Red}
 use Rattle.mrt_graph.specs.declared.node_id.NodeId.{NodeId}

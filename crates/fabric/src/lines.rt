@@ -3,15 +3,15 @@
 ghost use Rattle.std.specs.Prelude.{◌≡◌, ◌≤◌, ◌+◌, ◌++◌, [], IfOk, OnErr, Some, Ok, length};
 ghost use Rattle.std.specs.Option.{option_map};
 ghost use Rattle.fabric.specs.OutcomeText.{IsTellable, answer_line, answer_text, color_text, loss_text, outcome_text, refused_text};
-ghost use Rattle.mrt_graph.specs.Spelling.{node_text};
+ghost use Rattle.text_parts.specs.Spelling.{node_text};
 
 use crate::event::{Outcome, Refused};
 use crate::packet::Loss;
 use area_graph::Area;
 use itoa::Buffer;
-use mrt_graph::{Color, NoMemory, NodeId, ShortText, push_node_text};
+use mrt_graph::{Color, NoMemory, NodeId};
 use std::alloc::Global;
-use text_parts::put;
+use text_parts::{ShortText, push_node_text, put};
 
 /// The line that tells an answer. An area node in the answer is in range.
 ///

@@ -5,8 +5,8 @@ use Rattle.std.specs.Option.{option_and_then, option_map}
 use Rattle.std.specs.Str.{bytes_eq}
 use Rattle.std.proofs.lemmas.Bool.{cases_Bool, ltb-true}
 use Rattle.std.proofs.lemmas.Option.{none-some, same_Some}
-use Rattle.mrt_graph.specs.Spelling.{address_in}
-use Rattle.mrt_graph.specs.TextLines.{words_of}
+use Rattle.text_parts.specs.Spelling.{address_in}
+use Rattle.text_parts.specs.TextLines.{words_of}
 use Rattle.fabric_script.specs.declared.line.Start.{Start}
 use Rattle.fabric_script.specs.declared.script.Script.{Script}
 use Rattle.fabric_script.specs.declared.script_error.ScriptError.{ScriptError}

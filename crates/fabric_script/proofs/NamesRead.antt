@@ -11,11 +11,11 @@ use Rattle.std.proofs.lemmas.List.Elements.{recursion_from_All}
 use Rattle.std.proofs.lemmas.Str.Parse.{IsNumeralModel, digit_at, numerals_by_value, tells_digits}
 use Rattle.std.proofs.Math.ListN.{get_or-append}
 use Rattle.std.proofs.Math.Nat.{mod-lt}
-use Rattle.mrt_graph.proofs.Pieces.{cut_is}
+use Rattle.text_parts.proofs.Pieces.{cut_is}
 use Rattle.mrt_graph.specs.declared.node_id.Kind.{Kind}
 use Rattle.mrt_graph.specs.declared.node_id.Kind.TheVariants as kinds
 use Rattle.mrt_graph.specs.declared.node_id.NodeId.{NodeId}
-use Rattle.mrt_graph.specs.Spelling.{address_text, node_text}
+use Rattle.text_parts.specs.Spelling.{address_text, node_text}
 
 numerals : IsNumeralModel (AllDigits 10) (digits_value 10)
 numerals = numerals_by_value (AllDigits 10) tells_digits

@@ -4,11 +4,11 @@ use Rattle.std.specs.Str.{bytes_eq}
 use Rattle.std.proofs.lemmas.Bool.{cases_Bool, lt-ltb}
 use Rattle.std.proofs.lemmas.List.{drop_at, length_push, take_at}
 use Rattle.std.proofs.lemmas.Slice.Eq.{bytes_eq-Decides}
-use Rattle.mrt_graph.proofs.Numerals.{address_counts}
+use Rattle.text_parts.proofs.Numerals.{address_counts}
 use Rattle.mrt_graph.specs.declared.node_id.Kind.{Kind}
 use Rattle.mrt_graph.specs.declared.node_id.Kind.TheVariants.{Network, Router}
 use Rattle.mrt_graph.specs.declared.node_id.NodeId.{NodeId}
-use Rattle.mrt_graph.specs.Spelling.{address_in, address_text, node_text}
+use Rattle.text_parts.specs.Spelling.{address_in, address_text, node_text}
 use Rattle.fabric_script.specs.declared.event.FailureName.{FailureName}
 use Rattle.fabric_script.specs.declared.event.FailureName.TheVariants.{Link, Node}
 use Rattle.fabric_script.specs.Names.{HasNumbers, failure_in, failure_text, link_in, node_in}

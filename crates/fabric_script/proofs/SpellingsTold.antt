@@ -12,7 +12,7 @@ use Rattle.std.proofs.lemmas.Slice.Eq.{bytes_eq-Decides}
 use Rattle.mrt_graph.specs.declared.node_id.Kind.{Kind}
 use Rattle.mrt_graph.specs.declared.node_id.Kind.TheVariants.{Network, Router}
 use Rattle.mrt_graph.specs.declared.node_id.NodeId.{NodeId}
-use Rattle.mrt_graph.specs.Spelling.{address_in, address_text, if_spelled, node_text}
+use Rattle.text_parts.specs.Spelling.{address_in, address_text, if_spelled, node_text}
 use Rattle.fabric_script.specs.declared.event.FailureName.{FailureName}
 use Rattle.fabric_script.specs.declared.event.FailureName.TheVariants.{Link, Node}
 use Rattle.fabric_script.specs.Names.{HasNumbers, failure_in, failure_text, link_in, node_in, node_of}

@@ -12,8 +12,8 @@ use Rattle.std.proofs.lemmas.List.{get_or_default}
 use Rattle.std.proofs.lemmas.List.Splits.{slice_split_none}
 use Rattle.std.proofs.lemmas.Slice.Eq.{bytes_eq-Decides}
 use Rattle.std.proofs.lemmas.Str.Parse.{digit_at, numerals_by_value, tells_digits}
-use Rattle.mrt_graph.specs.Spelling.{number_in}
-use Rattle.mrt_graph.specs.TextLines.{is_blank, words_of}
+use Rattle.text_parts.specs.Spelling.{number_in}
+use Rattle.text_parts.specs.TextLines.{is_blank, words_of}
 use Rattle.fabric_script.specs.ScriptLines.{event_in, event_in_words, packet_in}
 use Rattle.fabric_script.specs.declared.event.ScriptEvent.TheVariants.{Step}
 use Rattle.fabric_script.proofs.SpellingsTold.{spelling_told}

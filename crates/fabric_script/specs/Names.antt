@@ -5,7 +5,7 @@ use Rattle.std.specs.Str.{bytes_eq}
 use Rattle.mrt_graph.specs.declared.node_id.Kind.{Kind}
 use Rattle.mrt_graph.specs.declared.node_id.Kind.TheVariants.{Network, Router}
 use Rattle.mrt_graph.specs.declared.node_id.NodeId.{NodeId}
-use Rattle.mrt_graph.specs.Spelling.{address_in, address_text, node_text}
+use Rattle.text_parts.specs.Spelling.{address_in, address_text, node_text}
 use Rattle.fabric_script.specs.declared.event.FailureName.{FailureName}
 use Rattle.fabric_script.specs.declared.event.FailureName.TheVariants.{Link, Node}
 

@@ -2,8 +2,8 @@
 use Rattle.std.specs.Prelude.{◌^◌, ℕ, List, [], ◌∷◌, Option, Some, None, codes, nat_lt, if◌then◌else◌}
 use Rattle.std.specs.Option.{option_and_then, option_map}
 use Rattle.std.specs.Str.{bytes_eq}
-use Rattle.mrt_graph.specs.Spelling.{address_in, number_in}
-use Rattle.mrt_graph.specs.TextLines.{words_of}
+use Rattle.text_parts.specs.Spelling.{address_in, number_in}
+use Rattle.text_parts.specs.TextLines.{words_of}
 use Rattle.fabric_script.specs.declared.entry.Entry.{Entry}
 use Rattle.fabric_script.specs.declared.entry.Entry.TheVariants.{Blue, Red, Repair}
 use Rattle.fabric_script.specs.declared.event.ScriptEvent.{ScriptEvent}

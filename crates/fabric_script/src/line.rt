@@ -3,13 +3,13 @@
 ghost use Rattle.std.specs.Prelude.{◌≡◌, ◌∷◌, [], IfSome, Some, codes};
 ghost use Rattle.std.specs.{Option.option_map, Str.bytes_eq};
 ghost use Rattle.fabric_script.specs.Names.{failure_in};
-ghost use Rattle.mrt_graph.specs.TextLines.{words_of};
+ghost use Rattle.text_parts.specs.TextLines.{words_of};
 ghost use Rattle.fabric_script.specs.ScriptLines.{entry_in, event_in, event_in_words, injection_in, packet_in, room_in, start_in, start_in_words};
 
 use crate::entry::Entry;
 use crate::event::ScriptEvent;
 use crate::names::{read_failure, read_node};
-use mrt_graph::{first_word, read_address, read_number};
+use text_parts::{first_word, read_address, read_number};
 
 /// What the first line says: a router, and how many packets there may be.
 #[derive(Clone, Copy)]

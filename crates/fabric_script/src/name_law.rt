@@ -3,7 +3,8 @@
 ghost use Rattle.std.specs.Prelude.{◌≡◌, ◌<◌, ◌^◌, ◌↔◌, ℕ, List, Some};
 ghost use Rattle.fabric_script.specs.declared.event.FailureName.{FailureName};
 ghost use Rattle.fabric_script.specs.Names.{HasNumbers, failure_in, failure_text, node_in};
-ghost use Rattle.mrt_graph.specs.{declared.node_id.NodeId.NodeId, Spelling.node_text};
+ghost use Rattle.mrt_graph.specs.declared.node_id.NodeId.{NodeId};
+ghost use Rattle.text_parts.specs.Spelling.{node_text};
 
 /// Laws: a text names a node, or what has failed, exactly where it is its spelling.
 pub fn a_name_is_its_spelling()

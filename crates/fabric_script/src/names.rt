@@ -1,13 +1,15 @@
 //! Names of nodes and of links, as words give them.
 
 ghost use Rattle.std.specs.Prelude.{◌≡◌, ◌<◌, ◌^◌, ◌==◌, ◌++◌, ℕ, IfSome, Some, codes, position};
-ghost use Rattle.mrt_graph.specs.{Spelling.address_text, Spelling.node_text, declared.node_id.NodeId.NodeId};
+ghost use Rattle.text_parts.specs.Spelling.{address_text, node_text};
+ghost use Rattle.mrt_graph.specs.declared.node_id.NodeId.{NodeId};
 ghost use Rattle.fabric_script.specs.declared.event.FailureName.{FailureName};
 ghost use Rattle.fabric_script.specs.declared.event.FailureName.TheVariants as names;
 ghost use Rattle.fabric_script.specs.Names.{HasNumbers, failure_in, failure_text, link_in, node_in, node_of};
 
 use crate::event::FailureName;
-use mrt_graph::{Kind, NodeId, read_address};
+use mrt_graph::{Kind, NodeId};
+use text_parts::read_address;
 
 /// The node that a text names: a router by its address, a network by `net:` and its address. None exactly where it
 /// names none. It takes no memory.

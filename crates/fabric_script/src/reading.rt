@@ -2,7 +2,7 @@
 
 ghost use Rattle.std.specs.Prelude.{◌≡◌, ◌≤◌, ℕ, Ok, Err, IfOk, length};
 ghost use Rattle.std.specs.Result.{result_map_both};
-ghost use Rattle.mrt_graph.specs.TextLines.{text_lines};
+ghost use Rattle.text_parts.specs.TextLines.{text_lines};
 ghost use Rattle.fabric_script.specs.declared.script.Script.{Script};
 ghost use Rattle.fabric_script.specs.steps.Taking.{error_of};
 ghost use Rattle.fabric_script.specs.ScriptFaults.{IsFirstScriptFault, IsScript, OrNoMemory};

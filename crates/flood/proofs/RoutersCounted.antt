@@ -5,7 +5,7 @@ use Rattle.std.specs.Option.{option_and_then}
 use Rattle.std.specs.Str.{bytes_eq}
 use Rattle.std.proofs.lemmas.Bool.{leb-true, ltb-true}
 use Rattle.std.proofs.lemmas.Option.{none-some}
-use Rattle.mrt_graph.specs.TextLines.{words_of}
+use Rattle.text_parts.specs.TextLines.{words_of}
 use Rattle.flood.specs.declared.script.FloodScript.{FloodScript}
 use Rattle.flood.specs.FloodLines.{count_in, number_of_router, routers_in_words}
 use Rattle.flood.specs.FloodScripts.{IsScript}

@@ -2,8 +2,8 @@
 use Rattle.std.specs.Prelude.{◌^◌, ℕ, List, [], ◌∷◌, Option, Some, None, codes, nat_le, nat_lt, if◌then◌else◌}
 use Rattle.std.specs.Option.{option_and_then, option_map}
 use Rattle.std.specs.Str.{bytes_eq}
-use Rattle.mrt_graph.specs.Spelling.{address_in, number_in}
-use Rattle.mrt_graph.specs.TextLines.{words_of}
+use Rattle.text_parts.specs.Spelling.{address_in, number_in}
+use Rattle.text_parts.specs.TextLines.{words_of}
 use Rattle.flood.specs.declared.script.FloodLine.{FloodLine}
 use Rattle.flood.specs.declared.script.FloodLine.TheVariants.{Deliver, Same}
 

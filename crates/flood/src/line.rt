@@ -4,7 +4,7 @@ ghost use Rattle.std.specs.Prelude.{◌≡◌, ◌∷◌, []};
 ghost use Rattle.flood.specs.FloodLines.{comparison_in, count_in, delivery_in, line_in, line_in_words, number_of_router, routers_in};
 
 use crate::script::FloodLine;
-use mrt_graph::{first_word, read_address, read_number};
+use text_parts::{first_word, read_address, read_number};
 
 /// How many routers `routers N` says.
 pub fn read_routers(line: &[u8]) -> Option<u16>

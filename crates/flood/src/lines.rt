@@ -6,8 +6,8 @@ ghost use Rattle.flood.specs.FloodTexts.{answer_line, verdict_line};
 
 use crate::answer::Answer;
 use crate::verdict::Verdict;
-use mrt_graph::{NoMemory, ShortText};
-use text_parts::{line_of, push, put, put_number};
+use mrt_graph::NoMemory;
+use text_parts::{ShortText, line_of, push, put, put_number};
 
 /// Puts the line of an answer to a delivery at the end of a text.
 ///

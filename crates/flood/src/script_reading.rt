@@ -2,7 +2,7 @@
 
 ghost use Rattle.std.specs.Prelude.{◌≡◌, ◌≤◌, ℕ, Ok, Err, IfOk, length};
 ghost use Rattle.std.specs.{List.AllByRecursion, Result.result_map_both};
-ghost use Rattle.mrt_graph.specs.TextLines.{text_lines};
+ghost use Rattle.text_parts.specs.TextLines.{text_lines};
 ghost use Rattle.flood.specs.declared.script.FloodScript.{FloodScript};
 ghost use Rattle.flood.specs.Deliveries.{deliveries_in};
 ghost use Rattle.flood.specs.steps.Taking.{error_of};

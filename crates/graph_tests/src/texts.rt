@@ -3,13 +3,12 @@
 use crate::calls::Call;
 use crate::told::{list, number, told};
 use crate::told_bytes::{bytes_told, show, show_line};
-use mrt_graph::{
-    NoMemory, NodeId, NodeText, first_line, first_word, is_passed_over, read_address, read_number,
-};
+use mrt_graph::{NoMemory, NodeId};
 use parts_of_tests::Page;
 use std::alloc::Global;
 use text_parts::{
-    LineError, TakesLines, push, push_count, push_hop, push_node, push_number, text_of,
+    LineError, NodeText, TakesLines, first_line, first_word, is_passed_over, push, push_count,
+    push_hop, push_node, push_number, read_address, read_number, text_of,
 };
 
 /// What is read of a text.

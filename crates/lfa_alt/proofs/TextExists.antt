@@ -3,7 +3,7 @@ use Rattle.std.proofs.Common.{◌≡◌, ◌<◌, ◌++◌, ℕ, List, [], Optio
 use Rattle.area_graph.specs.declared.area_types.Arc.{Arc}
 use Rattle.area_graph.specs.AreaInvariant.{IsArea}
 use Rattle.area_graph.specs.Parts.{AreaParts}
-use Rattle.mrt_graph.specs.Spelling.{node_text}
+use Rattle.text_parts.specs.Spelling.{node_text}
 use Rattle.mrt_graph.proofs.ListTests.{there}
 use Rattle.text_parts.specs.Hops.{hop_text}
 use Rattle.text_parts.proofs.Adding.{some_headed_text}

@@ -13,7 +13,7 @@ use Rattle.lsdb.specs.Installing.{IsKept}
 use Rattle.lsdb.specs.Instances.{DifferInMaxAge, HoldTheSameButAge, HoldTheSameInstances}
 use Rattle.lsdb.specs.Orders.{newest_in}
 use Rattle.mrt_graph.specs.NodeIds.{router as router_node}
-use Rattle.mrt_graph.specs.TextLines.{text_lines}
+use Rattle.text_parts.specs.TextLines.{text_lines}
 use Rattle.mrt_graph.specs.declared.cert.CertFile.{CertFile}
 use Rattle.mrt_island.specs.Policy.{policy_of}
 use Rattle.mrt_island.specs.declared.island.Island.{Island}

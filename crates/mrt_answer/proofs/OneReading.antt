@@ -32,7 +32,7 @@ use Rattle.mrt_exit.specs.declared.exit.Exit.{Exit}
 use Rattle.mrt_exit.specs.declared.exit.Exit.TheVariants.{BadDatabase, BadProfile, BadCertificate, BadScript, BadUpdate}
 use Rattle.mrt_exit.specs.Steps.{IsOne, such, ◌▸◌}
 use Rattle.mrt_exit.proofs.Stepping.{one_such, one_then_one, one_value_or_exit}
-use Rattle.mrt_graph.specs.TextLines.{text_lines}
+use Rattle.text_parts.specs.TextLines.{text_lines}
 use Rattle.mrt_answer.specs.Input.{Input}
 use Rattle.mrt_answer.specs.Reading.{certificate_of, database_of, deliveries_of, input_of, profile_of, script_of, updates_of}
 use Rattle.fabric_script.specs.declared.script.Script.{Script}

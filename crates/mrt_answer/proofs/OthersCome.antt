@@ -14,7 +14,7 @@ use Rattle.flood.specs.declared.script.FloodScript.{FloodScript}
 use Rattle.flood_verdict.specs.Says.{Says}
 use Rattle.mrt_graph.specs.AcceptedFor.{IsAcceptedAt}
 use Rattle.mrt_graph.specs.Certificate.{Certificate}
-use Rattle.mrt_graph.specs.TextLines.{text_lines}
+use Rattle.text_parts.specs.TextLines.{text_lines}
 use Rattle.mrt_graph.specs.Topology.{Topology}
 use Rattle.mrt_island.specs.declared.island.Island.{Island}
 use Rattle.mrt_island.specs.declared.setting.Setting.{Setting}

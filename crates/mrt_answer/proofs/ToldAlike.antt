@@ -13,7 +13,7 @@ use Rattle.flood_verdict.specs.Says.{Says}
 use Rattle.mrt_island.specs.ProfileFaults.{AreSettings}
 use Rattle.mrt_island.specs.declared.setting.Setting.{Setting}
 use Rattle.mrt_args.specs.FileBytes.{FileBytes}
-use Rattle.mrt_graph.specs.TextLines.{text_lines}
+use Rattle.text_parts.specs.TextLines.{text_lines}
 use Rattle.mrt_answer.specs.Reading.{HoldsFlood}
 use Rattle.mrt_answer.specs.Forms.{flooded}
 

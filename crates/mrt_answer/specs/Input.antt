@@ -2,7 +2,7 @@
 use Rattle.std.specs.Prelude.{ℕ, List}
 use Rattle.area_graph.specs.AreaOf.{area_of}
 use Rattle.area_graph.specs.Parts.{AreaParts}
-use Rattle.mrt_graph.specs.TextLines.{text_lines}
+use Rattle.text_parts.specs.TextLines.{text_lines}
 use Rattle.mrt_island.specs.ProfileFaults.{AreSettings}
 use Rattle.mrt_island.specs.Policy.{Policy, policy_of}
 use Rattle.mrt_island.specs.declared.setting.Setting.{Setting}

@@ -9,7 +9,7 @@ use Rattle.flood.specs.Updates.{AreUpdates}
 use Rattle.flood.specs.declared.script.FloodScript.{FloodScript}
 use Rattle.flood.specs.FloodScripts.{IsFirstFloodFault, IsScript as IsFloodScript}
 use Rattle.lsdb.specs.Database.{IsDatabase}
-use Rattle.mrt_graph.specs.TextLines.{text_lines}
+use Rattle.text_parts.specs.TextLines.{text_lines}
 use Rattle.mrt_graph.specs.declared.cert.CertFile.{CertFile}
 use Rattle.mrt_island.specs.ProfileFaults.{IsFirstProfileFault}
 use Rattle.mrt_island.specs.declared.setting.Setting.{Setting}

@@ -10,7 +10,7 @@ use Rattle.mrt_args.specs.CertSpelling.{IsSpellingOf}
 use Rattle.mrt_exit.specs.Steps.{Step}
 use Rattle.mrt_exit.specs.declared.exit.Exit.TheVariants.{No, NoCommonBlock}
 use Rattle.mrt_graph.specs.FirstFault.{FirstFault}
-use Rattle.mrt_graph.specs.Spelling.{address_text}
+use Rattle.text_parts.specs.Spelling.{address_text}
 use Rattle.area_graph.specs.Parts.{AreaParts}
 use Rattle.mrt_report.specs.TableParts.{table_parts}
 use Rattle.mrt_report.specs.TableText.{IsTableText}

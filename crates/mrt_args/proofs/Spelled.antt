@@ -8,7 +8,7 @@ use Rattle.std.proofs.lemmas.Slice.Eq.{bytes_eq-Decides}
 use Rattle.fabric_script.specs.declared.event.FailureName.{FailureName}
 use Rattle.fabric_script.specs.Names.{failure_in, node_in}
 use Rattle.fabric_script.specs.ScriptLines.{entry_in}
-use Rattle.mrt_graph.specs.Spelling.{address_in, number_in}
+use Rattle.text_parts.specs.Spelling.{address_in, number_in}
 use Rattle.mrt_args.specs.declared.form.FileForm.{FileForm}
 use Rattle.mrt_args.specs.declared.form.FloodForm.{FloodForm}
 use Rattle.mrt_args.specs.declared.form.Form.{Form}

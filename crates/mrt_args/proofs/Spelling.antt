@@ -9,7 +9,7 @@ use Rattle.fabric_script.specs.declared.event.FailureName.{FailureName}
 use Rattle.fabric_script.specs.declared.trace.Trace.{Trace as PacketTrace}
 use Rattle.fabric_script.specs.Names.{node_in}
 use Rattle.fabric_script.specs.ScriptLines.{entry_in}
-use Rattle.mrt_graph.specs.Spelling.{address_in, number_in}
+use Rattle.text_parts.specs.Spelling.{address_in, number_in}
 use Rattle.mrt_args.specs.declared.form.FileForm.{FileForm}
 use Rattle.mrt_args.specs.declared.form.Form.{Form}
 use Rattle.mrt_args.specs.declared.form.Form.TheVariants.{OfFiles, Survey, Flood}

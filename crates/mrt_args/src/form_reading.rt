@@ -7,8 +7,8 @@ use crate::file_name::FileName;
 use crate::form::{FileForm, FloodForm, Form};
 use crate::task::{RouterTask, Task};
 use fabric_script::{FailureName, Trace, read_entry, read_failure, read_node};
-use mrt_graph::{read_address, read_number};
 use mrt_io::Word;
+use text_parts::{read_address, read_number};
 
 /// The fewest routers that a network is made of.
 const LEAST_NODES: u32 = 4;

@@ -10,7 +10,7 @@ use Rattle.mrt_exit.specs.declared.exit.Exit.TheVariants as exits
 use Rattle.mrt_args.specs.FileBytes.{FileBytes, AreRead, IsProfileRead, with_last}
 use Rattle.mrt_answer.specs.Forms.{over}
 use Rattle.mrt_cmd.specs.Comes.{GivesText, of_form}
-use Rattle.mrt_graph.specs.Spelling.{address_in}
+use Rattle.text_parts.specs.Spelling.{address_in}
 use Rattle.mrt_args.specs.Files.{IsReadAs, certificate_limit, database_file, profile_limit, task_names}
 use Rattle.mrt_args.specs.declared.form.FileForm.{FileForm}
 use Rattle.mrt_args.specs.declared.form.Form.{Form}

@@ -4,7 +4,7 @@ use Rattle.cert_format.specs.declared.error.CertKind.{CertKind}
 use Rattle.cert_format.specs.declared.error.CertKind.TheVariants as faults
 use Rattle.flood.specs.declared.error.UpdateKind.{UpdateKind}
 use Rattle.flood.specs.declared.error.UpdateKind.TheVariants as updates
-use Rattle.mrt_graph.specs.Spelling.{address_text}
+use Rattle.text_parts.specs.Spelling.{address_text}
 use Rattle.mrt_island.specs.declared.profile_error.ProfileKind.{ProfileKind}
 use Rattle.mrt_island.specs.declared.profile_error.ProfileKind.TheVariants as lines
 use Rattle.ospf_lsa.specs.declared.error.LsaKind.{LsaKind}

@@ -1,7 +1,7 @@
 //! What came of the words, and what the program says of it.
 
 ghost use Rattle.std.specs.Prelude.{◌≡◌, ◌≤◌, ◌++◌, codes, decimal, length};
-ghost use Rattle.mrt_graph.specs.Spelling.{address_text};
+ghost use Rattle.text_parts.specs.Spelling.{address_text};
 ghost use Rattle.mrt_exit.specs.Exits.{status_of, line_of as line_of_exit, database_line};
 
 use crate::kind_texts::{text_of_kind, text_of_line, text_of_record, text_of_update, text_of_what};

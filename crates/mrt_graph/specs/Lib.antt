@@ -45,10 +45,8 @@ pub mod SameGraph
 pub mod Search
 pub mod Separates
 pub mod Sound
-pub mod Spelling
 pub mod Tags
 pub mod Tails
-pub mod TextLines
 pub mod Topology
 pub mod TreeFields
 pub mod Uses

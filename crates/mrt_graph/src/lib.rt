@@ -1,5 +1,5 @@
-//! The ground of the project: numbers of nodes and links, node identifiers and their texts, graphs and searches in
-//! them, certificates and their laws, and the lines, words and numbers of a text.
+//! The ground of the project: numbers of nodes and links, node identifiers, graphs and searches in them, certificates
+//! and their laws.
 #![tactic(auto)]
 
 mod cert;
@@ -18,15 +18,11 @@ mod no_memory;
 mod node_id;
 mod node_rows;
 mod node_search;
-mod node_text;
 mod numbers;
 mod related;
 mod relatives;
 mod rows_of;
 mod seq;
-mod short_text;
-mod text_lines;
-mod text_numbers;
 mod tree;
 mod unfolded;
 
@@ -48,13 +44,9 @@ pub use no_memory::NoMemory;
 pub use node_id::{Kind, NodeId};
 pub use node_rows::NodeRows;
 pub use node_search::NodeSearch;
-pub use node_text::{NodeText, push_node_text};
 pub use numbers::{LinkNo, NodeNo};
 pub use related::{Relation, are_unrelated, carrier, carrier_of, relation_of};
 pub use relatives::Relatives;
 pub use rows_of::RowsOf;
 pub use seq::Seq;
-pub use short_text::ShortText;
-pub use text_lines::{first_line, first_word, is_passed_over};
-pub use text_numbers::{read_address, read_number};
 pub use tree::{Tree, TreeNode};

@@ -10,7 +10,7 @@ use Rattle.std.proofs.lemmas.List.Sums.{fold-append}
 use Rattle.std.proofs.lemmas.Option.{slice_get-get_or, slice_get_past, slice_get_within}
 use Rattle.std.proofs.Math.Numerals.{add-one}
 use borrow.Author.Count.{below_more}
-use Rattle.mrt_graph.specs.TextLines.{is_passed_over}
+use Rattle.text_parts.specs.TextLines.{is_passed_over}
 use Rattle.text_parts.specs.TextRule.{IsFirstFault, IsText, OfEnd, OfLine, said_by, with_line}
 use Rattle.text_parts.proofs.LinesTaken.{take_next}
 use Rattle.text_parts.proofs.WholeLists.{Means}

@@ -3,7 +3,7 @@ use Rattle.std.specs.Prelude.{◌≡◌, ◌⊎◌, ◌<◌, ◌-◌, ℕ, List,
 use Rattle.std.specs.List.{filter_map, list_any}
 use Rattle.std.specs.Option.{option_and_then}
 use Rattle.std.specs.Result.{result_ok}
-use Rattle.mrt_graph.specs.TextLines.{is_passed_over}
+use Rattle.text_parts.specs.TextLines.{is_passed_over}
 use Rattle.mrt_island.specs.declared.profile_error.ProfileError.{ProfileError}
 use Rattle.mrt_island.specs.declared.profile_error.ProfileError.TheVariants.{NoMemory}
 use Rattle.mrt_island.specs.declared.profile_error.ProfileKind.{ProfileKind}

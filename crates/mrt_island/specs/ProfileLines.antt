@@ -3,8 +3,8 @@ use Rattle.std.specs.Prelude.{ℕ, Bool, ◌==◌, ◌||◌, ◌&&◌, nat_le, n
 use Rattle.std.specs.List.{list_all}
 use Rattle.std.specs.Option.{option_and_then, option_map_or}
 use Rattle.std.specs.Str.{bytes_eq}
-use Rattle.mrt_graph.specs.Spelling.{address_in, number_in}
-use Rattle.mrt_graph.specs.TextLines.{words_of}
+use Rattle.text_parts.specs.Spelling.{address_in, number_in}
+use Rattle.text_parts.specs.TextLines.{words_of}
 use Rattle.mrt_island.specs.declared.profile_error.ProfileKind.{ProfileKind}
 use Rattle.mrt_island.specs.declared.profile_error.ProfileKind.TheVariants.{Bytes, Words, Address, Number}
 use Rattle.mrt_island.specs.declared.setting.Setting.{Setting}

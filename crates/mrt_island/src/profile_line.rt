@@ -2,12 +2,12 @@
 
 ghost use Rattle.std.specs.Prelude.{◌≡◌, ◌∷◌, []};
 ghost use Rattle.std.specs.List.{list_all};
-ghost use Rattle.mrt_graph.specs.TextLines.{words_of};
+ghost use Rattle.text_parts.specs.TextLines.{words_of};
 ghost use Rattle.mrt_island.specs.ProfileLines.{is_allowed, line_setting, priority_in, setting_in_words};
 
 use crate::profile_error::ProfileKind;
 use crate::setting::Setting;
-use mrt_graph::{first_word, read_address, read_number};
+use text_parts::{first_word, read_address, read_number};
 
 /// The setting of a line that is not passed over, or its first fault of its own.
 pub fn read_setting(line: &[u8]) -> Result<Setting, ProfileKind>

@@ -2,7 +2,7 @@
 
 ghost use Rattle.std.specs.Prelude.{◌≡◌, ◌≤◌, ℕ, Ok, Err, IfOk, List, length};
 ghost use Rattle.std.specs.Result.{result_map_both};
-ghost use Rattle.mrt_graph.specs.TextLines.{text_lines};
+ghost use Rattle.text_parts.specs.TextLines.{text_lines};
 ghost use Rattle.mrt_island.specs.declared.profile_error.ProfileKind.{ProfileKind};
 ghost use Rattle.mrt_island.specs.declared.setting.Setting.{Setting};
 ghost use Rattle.mrt_island.specs.steps.ProfileTaking.{error_of};

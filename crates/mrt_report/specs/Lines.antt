@@ -1,6 +1,6 @@
 -- A table's row, spelled as a line.
 use Rattle.std.specs.Prelude.{◌≡◌, ◌++◌, ℕ, List, [], Option, Some, None, codes}
-use Rattle.mrt_graph.specs.Spelling.{node_text}
+use Rattle.text_parts.specs.Spelling.{node_text}
 use Rattle.primary_alt.specs.declared.shortest.Primary.{Primary}
 use Rattle.mrt_report.specs.LineParts.{LineParts}
 use Rattle.mrt_report.specs.Rows.{IsRow}

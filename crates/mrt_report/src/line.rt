@@ -5,8 +5,8 @@ ghost use Rattle.mrt_report.specs.Lines.{arc_letters, color_words, primary_words
 
 use crate::cells::{letter, tag_word};
 use crate::row::{ArcRepairs, TableRow};
-use mrt_graph::{NoMemory, ShortText, push_node_text};
-use text_parts::{push, put, put_hop};
+use mrt_graph::NoMemory;
+use text_parts::{ShortText, push, push_node_text, put, put_hop};
 
 /// A row's line: no more bytes than these.
 type RowLine = ShortText<192>;

@@ -7,7 +7,7 @@ use Rattle.mrt_graph.specs.declared.cert.Tag.TheVariants.{Carried}
 use Rattle.mrt_graph.specs.declared.node_id.NodeId.{NodeId}
 use Rattle.mrt_graph.specs.Certificate.{Certificate}
 use Rattle.mrt_graph.specs.Roles.{is_sole}
-use Rattle.mrt_graph.specs.Spelling.{node_text}
+use Rattle.text_parts.specs.Spelling.{node_text}
 use Rattle.mrt_graph.specs.Tags.{is_near, same_tag}
 use Rattle.mrt_graph.specs.Topology.{Topology}
 use Rattle.mrt_survey.specs.Counting.{AreSoMany}

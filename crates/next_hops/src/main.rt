@@ -7,10 +7,11 @@ mod failure;
 mod next_hops;
 
 pub use failure::Failure;
-use mrt_graph::{NodeId, NodeText, read_address};
+use mrt_graph::NodeId;
 pub use next_hops::{NextHops, next_hops};
 use std::env;
 use std::io::{self, ErrorKind, Read, Write};
+use text_parts::{NodeText, read_address};
 
 /// How many bytes a database has at most.
 const MOST: usize = 8_388_608;

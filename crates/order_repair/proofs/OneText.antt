@@ -10,7 +10,7 @@ use Rattle.mrt_graph.specs.declared.link.Element.{Element}
 use Rattle.mrt_graph.specs.declared.link.Element.TheVariants as elements
 use Rattle.mrt_graph.specs.declared.node_id.NodeId.{NodeId}
 use Rattle.mrt_graph.specs.Separates.{IsNeitherEnd}
-use Rattle.mrt_graph.specs.Spelling.{node_text}
+use Rattle.text_parts.specs.Spelling.{node_text}
 use Rattle.mrt_graph.proofs.ListTests.{there}
 use Rattle.block_spf.specs.declared.reach.Dir.TheVariants.{Down, Up}
 use Rattle.block_spf.specs.LeastPath.{HaveCommonBlockOfMoreLinks}

@@ -7,7 +7,7 @@ use Rattle.mrt_graph.specs.declared.link.Element.TheVariants as elements
 use Rattle.mrt_graph.specs.declared.node_id.NodeId.{NodeId}
 use Rattle.mrt_graph.specs.DirectedLists.{DirectedLists}
 use Rattle.mrt_graph.specs.Separates.{IsNeitherEnd}
-use Rattle.mrt_graph.specs.Spelling.{node_text}
+use Rattle.text_parts.specs.Spelling.{node_text}
 use Rattle.mrt_graph.specs.Topology.{Topology}
 use Rattle.text_parts.specs.Parts.{AreParts, IsHeaded}
 use Rattle.link_direction.specs.Directions.{Directions}

@@ -3,9 +3,9 @@
 
 ghost use Rattle.std.specs.Prelude.{◌<◌};
 
-use mrt_graph::{LinkNo, NodeId, NodeNo, NodeText};
+use mrt_graph::{LinkNo, NodeId, NodeNo};
 use std::alloc::Global;
-use text_parts::push_number;
+use text_parts::{NodeText, push_number};
 
 /// A text.
 pub struct Page {

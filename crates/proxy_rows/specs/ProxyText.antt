@@ -3,7 +3,7 @@ use Rattle.std.specs.Prelude.{◌≡◌, ◌==◌, ◌++◌, ℕ, List, Some, co
 use Rattle.mrt_graph.specs.declared.link.End.{End}
 use Rattle.mrt_graph.specs.declared.node_id.NodeId.{NodeId}
 use Rattle.mrt_graph.specs.Certificate.{Certificate}
-use Rattle.mrt_graph.specs.Spelling.{node_text}
+use Rattle.text_parts.specs.Spelling.{node_text}
 use Rattle.mrt_graph.specs.Topology.{Topology}
 use Rattle.text_parts.specs.Hops.{hop_text}
 use Rattle.text_parts.specs.Parts.{IsHeaded}

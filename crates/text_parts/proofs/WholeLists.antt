@@ -5,7 +5,7 @@ use Rattle.std.specs.Result.{IfOk, result_map_both}
 use Rattle.std.proofs.lemmas.Bool.{cases_Bool, false≢true}
 use Rattle.std.proofs.lemmas.List.Sums.{fold-append}
 use Rattle.std.proofs.lemmas.Option.{slice_get-get_or, slice_get_within}
-use Rattle.mrt_graph.specs.TextLines.{is_passed_over}
+use Rattle.text_parts.specs.TextLines.{is_passed_over}
 use Rattle.text_parts.specs.declared.line_error.LineError.{LineError}
 use Rattle.text_parts.specs.declared.line_error.LineError.TheVariants as errors
 use Rattle.text_parts.specs.LinesRead.{IsBeginning, IsFirstWrong, NoFirst, Wrong, lines_read}

@@ -1,7 +1,7 @@
 -- The lines of a text that say something, and the first line that is not as it should be.
 use Rattle.std.specs.Prelude.{◌≡◌, ◌<◌, ◌≤◌, ◌+◌, ◌-◌, ◌⊎◌, ℕ, true, not, List, length, take}
 use Rattle.std.specs.List.{filter, list_all}
-use Rattle.mrt_graph.specs.TextLines.{is_passed_over}
+use Rattle.text_parts.specs.TextLines.{is_passed_over}
 
 -- the lines that are not passed over
 abbrev pub lines_read : List (List ℕ) → List (List ℕ)

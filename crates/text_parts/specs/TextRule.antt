@@ -1,6 +1,6 @@
 -- How a text is read line by line.
 use Rattle.std.specs.Prelude.{◌≡◌, ◌<◌, ◌+◌, ◌-◌, ℕ, List, Some, Result, Ok, Err, fold, length, take, slice_get, if◌then◌else◌}
-use Rattle.mrt_graph.specs.TextLines.{is_passed_over}
+use Rattle.text_parts.specs.TextLines.{is_passed_over}
 
 -- how a text of lines is read: what is said before the first line; what is said after one more line that is not passed over,
 -- or the fault of that line; and the whole that ends where so much is said, or the fault of ending there

@@ -1,11 +1,13 @@
 //! Parts of a line in a fixed array, which takes no memory: each put at the end of a line that has room for it.
 
 ghost use Rattle.std.specs.Prelude.{◌≡◌, ◌≤◌, ◌+◌, ◌++◌, decimal, length};
-ghost use Rattle.mrt_graph.specs.Spelling.{address_text};
+ghost use Rattle.text_parts.specs.Spelling.{address_text};
 ghost use Rattle.text_parts.specs.Hops.{hop_text};
 
+use crate::node_text::push_node_text;
+use crate::short_text::ShortText;
 use itoa::Buffer;
-use mrt_graph::{Kind, NodeId, ShortText, push_node_text};
+use mrt_graph::{Kind, NodeId};
 
 /// A line of at most 512 bytes.
 pub type Line = ShortText<512>;

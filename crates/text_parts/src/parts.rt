@@ -1,12 +1,14 @@
 //! Parts of a text, each put at its end. Where there is no memory for a part, none of it is put there.
 
 ghost use Rattle.std.specs.Prelude.{◌≡◌, ◌≤◌, ◌+◌, ◌++◌, IfOk, OnErr, decimal, length, vec_capacity, vec_len};
-ghost use Rattle.mrt_graph.specs.Spelling.{node_text};
+ghost use Rattle.text_parts.specs.Spelling.{node_text};
 ghost use Rattle.text_parts.specs.Hops.{hop_text};
 
 use crate::line::put_hop;
+use crate::node_text::NodeText;
+use crate::short_text::ShortText;
 use itoa::Buffer;
-use mrt_graph::{NoMemory, NodeId, NodeText, ShortText};
+use mrt_graph::{NoMemory, NodeId};
 
 /// Puts bytes at the end of a text.
 ///

@@ -2,12 +2,13 @@
 
 ghost use Rattle.std.specs.Prelude.{◌≡◌, ◌≤◌, IfOk, length};
 ghost use Rattle.std.specs.Result.{result_map_both};
-ghost use Rattle.mrt_graph.specs.TextLines.{text_lines};
+ghost use Rattle.text_parts.specs.TextLines.{text_lines};
 ghost use Rattle.text_parts.specs.TextRead.{Reads};
 ghost use Rattle.text_parts.specs.steps.TextRead.{Takes};
 
 use crate::line_error::LineError;
-use mrt_graph::{NoMemory, first_line, is_passed_over};
+use crate::text_lines::{first_line, is_passed_over};
+use mrt_graph::NoMemory;
 
 /// What takes in the lines of a text, one after another.
 pub trait TakesLines {

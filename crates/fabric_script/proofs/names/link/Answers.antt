@@ -1,5 +1,5 @@
 use Rattle.std.proofs.Common.{◌∷◌, ◌++◌, ◌∙◌, ◌+◌, [], List, append_assoc, ℕ, ap, drop, sym}
-use Rattle.mrt_graph.specs.Spelling.{address_text}
+use Rattle.text_parts.specs.Spelling.{address_text}
 use Rattle.fabric_script.proofs.NamesRead.{cut_at_slash}
 use Rattle.fabric_script.proofs.names.link.Goals as goal
 

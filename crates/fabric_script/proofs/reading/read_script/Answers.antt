@@ -1,4 +1,4 @@
-use Rattle.mrt_graph.specs.TextLines.{text_lines}
+use Rattle.text_parts.specs.TextLines.{text_lines}
 use Rattle.text_parts.proofs.WholeLists.{one_line_error, reading_tells}
 use Rattle.fabric_script.specs.steps.Taking.{error_of, wrong}
 use Rattle.fabric_script.proofs.LeastRoom.{read_has_room}

@@ -1,7 +1,7 @@
 use Rattle.std.proofs.Common.{◌≤◌, List, ℕ, Result, Ok, Err}
 use Rattle.std.specs.List.{AllByRecursion}
 use Rattle.std.specs.Result.{IfOk}
-use Rattle.mrt_graph.specs.TextLines.{text_lines}
+use Rattle.text_parts.specs.TextLines.{text_lines}
 use Rattle.text_parts.proofs.WholeLists.{one_line_error, reading_tells}
 use Rattle.flood.specs.declared.script_error.FloodScriptError.{FloodScriptError}
 use Rattle.flood.specs.declared.script.FloodScript.{FloodScript}

@@ -1,5 +1,5 @@
 use Rattle.std.proofs.Common.{◌++◌, refl, codes, decimal, length}
-use Rattle.mrt_graph.specs.Spelling.{node_text}
+use Rattle.text_parts.specs.Spelling.{node_text}
 use Rattle.text_parts.proofs.Adding.{joined}
 use Rattle.lfa_alt.proofs.text.push_head.Goals as goal
 

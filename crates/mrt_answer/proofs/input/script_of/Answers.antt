@@ -1,7 +1,7 @@
 use Rattle.std.proofs.Common.{◌≡◌, ℕ, List, Err, ap, inl, inr, refl}
 use Rattle.mrt_exit.specs.Faults.{script_exit}
 use Rattle.mrt_exit.specs.Steps.{IsAnswer}
-use Rattle.mrt_graph.specs.TextLines.{text_lines}
+use Rattle.text_parts.specs.TextLines.{text_lines}
 use Rattle.fabric_script.specs.ScriptFaults.{IsFirstScriptFault}
 use Rattle.fabric_script.specs.declared.script_error.ScriptError.{ScriptError}
 use Rattle.fabric_script.specs.declared.script_error.ScriptError.TheVariants as errors

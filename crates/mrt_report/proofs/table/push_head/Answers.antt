@@ -1,5 +1,5 @@
 use Rattle.std.proofs.Common.{◌∙◌, ◌++◌, ℕ, ap, codes, decimal, length, refl}
-use Rattle.mrt_graph.specs.Spelling.{node_text}
+use Rattle.text_parts.specs.Spelling.{node_text}
 use Rattle.mrt_report.specs.TableText.{head_line}
 use Rattle.mrt_report.proofs.Adding.{head_joined}
 use Rattle.mrt_report.proofs.table.push_head.Goals as goal

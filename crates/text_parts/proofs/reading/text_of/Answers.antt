@@ -1,6 +1,6 @@
 use Rattle.std.proofs.Common.{arith, refl}
 use Rattle.std.proofs.lemmas.Result.{err_from_is_err_and}
-use Rattle.mrt_graph.specs.TextLines.{text_lines}
+use Rattle.text_parts.specs.TextLines.{text_lines}
 use Rattle.text_parts.proofs.LinesTaken.{all_taken, fault_told, few_lines, none_taken, one_left, one_more_taken}
 use Rattle.text_parts.proofs.reading.text_of.Goals as goal
 

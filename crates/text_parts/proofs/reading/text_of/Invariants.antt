@@ -1,5 +1,5 @@
 use Rattle.std.proofs.Common.{length}
-use Rattle.mrt_graph.specs.TextLines.{text_lines}
+use Rattle.text_parts.specs.TextLines.{text_lines}
 use Rattle.text_parts.proofs.LinesTaken.{AreTaken}
 use Rattle.text_parts.proofs.reading.text_of.Given as goal
 

@@ -4,7 +4,7 @@ use Rattle.std.proofs.lemmas.Bool.Decides.{nat_tests}
 use Rattle.std.proofs.lemmas.Grind.{pow_more}
 use Rattle.std.proofs.lemmas.Int.Digits.{digits_more, digits_value_more}
 use Rattle.std.proofs.lemmas.Str.Parse.{digit_at}
-use Rattle.mrt_graph.proofs.text_numbers.value_of.Goals as goal
+use Rattle.text_parts.proofs.text_numbers.value_of.Goals as goal
 
 pub returns-then-not-is_ascii_digit-clause-only : goal.returns-then-not-is_ascii_digit-clause-only
 returns-then-not-is_ascii_digit-clause-only c = λ all.

@@ -2,9 +2,9 @@ use Rattle.std.proofs.Common.{◌==◌, List, ℕ, map}
 use Rattle.std.specs.Int.{from_be_bytes, w32}
 use Rattle.std.specs.List.{slice_split}
 use Rattle.std.specs.Str.Parse.{digits_value}
-use Rattle.mrt_graph.specs.Spelling.{address_in, address_text}
-use Rattle.mrt_graph.proofs.Numerals.{address_counts, value_is}
-use Rattle.mrt_graph.proofs.text_numbers.read_address.Goals as goal
+use Rattle.text_parts.specs.Spelling.{address_in, address_text}
+use Rattle.text_parts.proofs.Numerals.{address_counts, value_is}
+use Rattle.text_parts.proofs.text_numbers.read_address.Goals as goal
 
 pub returns-clause-value : goal.returns-clause-value
 unfolding address_in

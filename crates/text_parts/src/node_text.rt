@@ -1,8 +1,8 @@
 ghost use Rattle.std.specs.Prelude.{◌≡◌, ◌<◌, ◌≤◌, ◌+◌, ◌/◌, ◌%◌, ◌++◌, ◌∷◌, [], codes, length, decimal};
-ghost use Rattle.mrt_graph.specs.Spelling.{address_text, node_text};
+ghost use Rattle.text_parts.specs.Spelling.{address_text, node_text};
 
-use crate::node_id::{Kind, NodeId};
 use crate::short_text::ShortText;
+use mrt_graph::{Kind, NodeId};
 use std::marker::Model;
 
 /// A node's name as texts show it: `1.1.1.1` for a router, `net:10.0.0.4` for a network.
@@ -22,7 +22,7 @@ impl Model for NodeText {
 }
 
 impl NodeText {
-    ghost use Rattle.mrt_graph.specs.Spelling.{node_text};
+    ghost use Rattle.text_parts.specs.Spelling.{node_text};
 
     /// The name of a node.
     pub fn new(id: NodeId) -> NodeText

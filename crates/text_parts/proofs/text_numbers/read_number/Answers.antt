@@ -1,8 +1,8 @@
 use Rattle.std.proofs.Common.{decimal}
 use Rattle.std.specs.Str.Parse.{digits_value}
-use Rattle.mrt_graph.specs.Spelling.{number_in}
-use Rattle.mrt_graph.proofs.Numerals.{digits_count, value_is}
-use Rattle.mrt_graph.proofs.text_numbers.read_number.Goals as goal
+use Rattle.text_parts.specs.Spelling.{number_in}
+use Rattle.text_parts.proofs.Numerals.{digits_count, value_is}
+use Rattle.text_parts.proofs.text_numbers.read_number.Goals as goal
 
 pub returns-clause-value : goal.returns-clause-value
 unfolding number_in

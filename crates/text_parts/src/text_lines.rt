@@ -2,7 +2,7 @@
 
 ghost use Rattle.std.specs.Prelude.{◌≡◌, ◌==◌, ◌++◌, ◌∷◌, [], not, position, slice_index};
 ghost use Rattle.std.specs.{Option.MatchOption, List.list_all, List.slice_split, Str.Lines.strip_carriage_return};
-ghost use Rattle.mrt_graph.specs.TextLines.{text_lines, words_of, is_blank, is_passed_over};
+ghost use Rattle.text_parts.specs.TextLines.{text_lines, words_of, is_blank, is_passed_over};
 
 /// The first line of a text, and what stands after it. `None` where the text has no line.
 ///

@@ -1,7 +1,7 @@
 use Rattle.std.proofs.Common.{sym, ◌∙◌, ◌∷◌, ap, List, ℕ}
-use Rattle.mrt_graph.specs.TextLines.{text_lines}
-use Rattle.mrt_graph.proofs.Pieces.{first_line_is}
-use Rattle.mrt_graph.proofs.text_lines.first_line.Goals as goal
+use Rattle.text_parts.specs.TextLines.{text_lines}
+use Rattle.text_parts.proofs.Pieces.{first_line_is}
+use Rattle.text_parts.proofs.text_lines.first_line.Goals as goal
 
 pub returns-in-Some : goal.returns-in-Some
 returns-in-Some c =

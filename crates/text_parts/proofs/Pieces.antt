@@ -11,7 +11,7 @@ use Rattle.std.proofs.Math.ListN.{drop_of_length-le}
 use Rattle.std.proofs.Math.Numerals.{add-one}
 use Rattle.std.proofs.Math.Seq.{drop-cons, split_at, take-length}
 use Rattle.std.specs.Option.{unwrap_or}
-use Rattle.mrt_graph.specs.TextLines.{text_lines, words_of, is_blank}
+use Rattle.text_parts.specs.TextLines.{text_lines, words_of, is_blank}
 
 -- the pieces between the elements that pass, but those that are empty
 abbrev pub words_by : (ℕ → Bool) → List ℕ → List (List ℕ)

@@ -3,7 +3,7 @@
 ghost use Rattle.std.specs.Prelude.{◌≡◌, ◌<◌, ◌≤◌, ◌^◌, ◌++◌, ◌∷◌, ◌↔◌, IsTrue, IsSome, length, slice_index, ℕ, List, Some, decimal};
 ghost use Rattle.std.specs.{Option.IfSome, Option.IsSomeAnd, Str.Parse.AllDigits, Str.Parse.digits_value};
 ghost use Rattle.mrt_graph.specs.{declared.node_id.Kind.TheVariants.Router, declared.node_id.NodeId.NodeId};
-ghost use Rattle.mrt_graph.specs.Spelling.{address_in, address_text, node_text, number_in};
+ghost use Rattle.text_parts.specs.Spelling.{address_in, address_text, node_text, number_in};
 
 use crate::text_lines::cut_at;
 

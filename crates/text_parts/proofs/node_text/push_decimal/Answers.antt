@@ -1,7 +1,7 @@
 use Rattle.std.proofs.Common.{◌∙◌, ◌++◌, ℕ, List, refl, sym, ap, arith, append_assoc}
 use Rattle.std.proofs.lemmas.Fmt.{decimal_digit}
-use Rattle.mrt_graph.proofs.Numerals.{decimal_three, decimal_two}
-use Rattle.mrt_graph.proofs.node_text.push_decimal.Goals as goal
+use Rattle.text_parts.proofs.Numerals.{decimal_three, decimal_two}
+use Rattle.text_parts.proofs.node_text.push_decimal.Goals as goal
 
 pub returns-then-number-ge100-clause-value : goal.returns-then-number-ge100-clause-value
 returns-then-number-ge100-clause-value g c =

@@ -1,6 +1,6 @@
 use Rattle.std.proofs.Common.{arith, ◌≡◌, Some, None, Option, ℕ}
-use Rattle.mrt_graph.proofs.Numerals.{cut_spelled, uncut_spelled}
-use Rattle.mrt_graph.proofs.text_numbers.read_before_dot.Goals as goal
+use Rattle.text_parts.proofs.Numerals.{cut_spelled, uncut_spelled}
+use Rattle.text_parts.proofs.text_numbers.read_before_dot.Goals as goal
 
 pub returns-in_err-number-clause-only : goal.returns-in_err-number-clause-only
 returns-in_err-number-clause-only c = λ number rest small is.

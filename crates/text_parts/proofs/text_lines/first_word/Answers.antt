@@ -1,6 +1,6 @@
 use Rattle.std.proofs.Common.{sym, ◌∙◌}
-use Rattle.mrt_graph.proofs.Pieces.{first_word_is, no_word_is}
-use Rattle.mrt_graph.proofs.text_lines.first_word.Goals as goal
+use Rattle.text_parts.proofs.Pieces.{first_word_is, no_word_is}
+use Rattle.text_parts.proofs.text_lines.first_word.Goals as goal
 
 pub returns-in_err-first_other : goal.returns-in_err-first_other
 returns-in_err-first_other c = rw c.from_residual.ensures (no_word_is c.args.line.now (sym c.first_other.ensures ∙ c.in_err-first_other.was))

@@ -1,7 +1,7 @@
 use Rattle.std.proofs.Common.{sym, ◌∙◌}
 use Rattle.std.proofs.lemmas.Bool.{true≢false}
-use Rattle.mrt_graph.proofs.Numerals.{read_is_spelled, spelled_digits, spelled_is_read, spelled_plainly}
-use Rattle.mrt_graph.proofs.text_numbers.number.Goals as goal
+use Rattle.text_parts.proofs.Numerals.{read_is_spelled, spelled_digits, spelled_is_read, spelled_plainly}
+use Rattle.text_parts.proofs.text_numbers.number.Goals as goal
 
 pub returns-then-not-is_plain-clause-only : goal.returns-then-not-is_plain-clause-only
 returns-then-not-is_plain-clause-only c = λ number small is.

@@ -1,6 +1,6 @@
 use Rattle.std.proofs.Common.{sym, ◌∙◌}
-use Rattle.mrt_graph.proofs.Pieces.{cut_is, uncut_is}
-use Rattle.mrt_graph.proofs.text_lines.cut_at.Goals as goal
+use Rattle.text_parts.proofs.Pieces.{cut_is, uncut_is}
+use Rattle.text_parts.proofs.text_lines.cut_at.Goals as goal
 
 pub returns-in_err-place : goal.returns-in_err-place
 returns-in_err-place c = rw c.from_residual.ensures (uncut_is c.args.text.now c.args.byte (sym c.place_of.ensures ∙ c.in_err-place.was))
