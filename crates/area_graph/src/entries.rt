@@ -1,7 +1,7 @@
 //! What LSAs list, as entries.
 
-ghost use Rattle.std.specs.Prelude.{◌≡◌, ◌+◌, ◌<◌, ◌≤◌, ◌^◌, ◌++◌, IfOk, IfErr, IfSome, OnOk, length, vec_len, vec_capacity};
-ghost use Rattle.std.specs.{List.AllByRecursion, List.AllZip, List.Sorted.IsStrictlySortedBy, Option.option_and_then, Option.option_to_list};
+ghost use Rattle.std.specs.Prelude.{◌≡◌, ◌+◌, ◌<◌, ◌≤◌, ◌^◌, ◌++◌, IfOk, IfErr, OnOk, length, vec_len, vec_capacity};
+ghost use Rattle.std.specs.{List.AllZip, List.Sorted.IsStrictlySortedBy, Option.option_and_then, Option.option_to_list};
 ghost use Rattle.mrt_graph.specs.NodeOrder.{node_id_cmp};
 ghost use Rattle.area_graph.specs.steps.NumberedEntries.{by_number, entries_from, numbered_entry};
 ghost use Rattle.area_graph.specs.Entries.{far_of, entry_of_link, entry_of_listed, entries_of_links, entries_of_listed, entries_of};

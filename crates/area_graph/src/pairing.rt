@@ -1,6 +1,6 @@
 //! How arcs are paired, and the bonds that they make.
 
-ghost use Rattle.std.specs.Prelude.{◌≡◌, ◌<◌, ◌≤◌, ◌+◌, ◌++◌, ◌∷◌, [], ℕ, length, map, take, if◌then◌else◌, IfOk, IfErr, OnOk, MatchOption, IfSome, Some, None, slice_index_or};
+ghost use Rattle.std.specs.Prelude.{◌≡◌, ◌<◌, ◌≤◌, ◌+◌, ◌++◌, ◌∷◌, [], length, map, take, if◌then◌else◌, IfOk, IfErr, OnOk, MatchOption, IfSome, Some, None, slice_index_or};
 ghost use Rattle.std.specs.{List.AllByRecursion, List.position, Option.is_none, Option.unwrap_or};
 ghost use Rattle.area_graph.specs.steps.NumberedArea.{arcs_of, bonds_of, bond_by, bond_from};
 ghost use Rattle.area_graph.specs.steps.NumberedArcs.{arc_cmp};

@@ -1,6 +1,6 @@
 //! Where the arcs of each node begin among all.
 
-ghost use Rattle.std.specs.Prelude.{◌≡◌, ◌<◌, ◌≤◌, ◌+◌, IfOk, IfErr, length};
+ghost use Rattle.std.specs.Prelude.{◌≡◌, ◌<◌, ◌≤◌, ◌+◌, IfOk, IfErr};
 ghost use Rattle.std.specs.List.Sorted.{IsSorted};
 ghost use Rattle.area_graph.specs.AreaInvariant.{by_tail_cmp};
 ghost use Rattle.area_graph.specs.steps.Starts.{AreStarts, below};

@@ -1,6 +1,6 @@
 //! What a reader keeps of a certificate file: the parts that it has read.
 
-ghost use Rattle.std.specs.Prelude.{◌≡◌, ◌<◌, ◌≤◌, ◌+◌, ◌-◌, ◌*◌, ◌^◌, ◌++◌, None, Some, length};
+ghost use Rattle.std.specs.Prelude.{◌≡◌, ◌<◌, ◌≤◌, ◌+◌, ◌-◌, ◌*◌, None, Some, length};
 ghost use Rattle.std.specs.List.{AllByRecursion};
 ghost use Rattle.cert_format.specs.Layout.{head_place};
 ghost use Rattle.cert_format.specs.steps.Reading.{IsHeader, IsNode};

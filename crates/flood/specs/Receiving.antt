@@ -1,6 +1,6 @@
 -- What a router does with the LSAs that arrive: it installs those of types 1 and 2, and one is new to it where it is of a
 -- new key or newer than what was there (RFC 2328, section 13.1, without its last rule on ages).
-use Rattle.std.specs.Prelude.{◌≤◌, ◌+◌, ◌||◌, ◌==◌, ℕ, Bool, true, false, List, [], ◌∷◌, length, if◌then◌else◌}
+use Rattle.std.specs.Prelude.{◌≤◌, ◌+◌, ℕ, Bool, true, false, List, [], ◌∷◌, length, if◌then◌else◌}
 use Rattle.std.specs.List.{AllByRecursion, filter}
 use Rattle.ospf_lsa.specs.declared.lsa.Lsa.{Lsa}
 use Rattle.ospf_lsa.specs.AreaLsas.{is_area_lsa}

@@ -1,8 +1,8 @@
 //! One packet.
 
-ghost use Rattle.std.specs.Prelude.{◌≡◌, ◌≤◌, ◌<◌, ◌+◌, ◌^◌, ℕ, Err, IfOk, IfSome, List, Contains, length, map};
+ghost use Rattle.std.specs.Prelude.{◌≡◌, ◌<◌, ◌+◌, ◌^◌, ℕ, Err, IfOk, IfSome, Contains, length, map};
 ghost use Rattle.std.specs.Option.{IfNone};
-ghost use Rattle.ospf_lsa.specs.{declared.error.LsaKind.LsaKind, declared.lsa.Lsa.Lsa, Lsas.AreLsas, LsaText.lsas_text};
+ghost use Rattle.ospf_lsa.specs.{declared.lsa.Lsa.Lsa};
 ghost use Rattle.flood.specs.{declared.error.UpdateKind.UpdateKind, PacketFaults.HasFirstFault};
 ghost use Rattle.flood.specs.{PacketFields.length_field, PacketFields.lsa_bytes, Updates.IsUpdate, Updates.placed_from};
 ghost use Rattle.flood.specs.steps.Reading.{AreRead, HasSoundHeader, IsRefused};

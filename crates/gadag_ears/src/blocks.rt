@@ -1,6 +1,6 @@
 //! The blocks of the links.
 
-ghost use Rattle.std.specs.Prelude.{◌≡◌, ◌<◌, ◌≤◌, ℕ, Some, length};
+ghost use Rattle.std.specs.Prelude.{◌≡◌, ◌<◌, ℕ, Some, length};
 ghost use Rattle.mrt_graph.specs.Leads.{leads};
 ghost use Rattle.gadag_ears.specs.steps.Blocks.{AreBlocksGiven, IsBlockGiven};
 ghost use Rattle.gadag_ears.specs.CommonBlock.{IsCommonBlock};

@@ -1,8 +1,6 @@
 //! The GADAG on its way.
 
-ghost use Rattle.std.specs.Prelude.{◌≡◌, ◌<◌, ◌≤◌, ◌+◌, ◌↔◌, ◌∷◌, ℕ, List, IsTrue, IfSome, IfNone, Some, Contains, length, vec_capacity};
-ghost use Rattle.mrt_graph.specs.GraphInvariant.{IsTopology};
-ghost use Rattle.lowpoint_dfs.specs.SearchTree.{IsSearchTree};
+ghost use Rattle.std.specs.Prelude.{◌≡◌, ◌<◌, ◌≤◌, ◌+◌, ◌↔◌, ℕ, IsTrue, Contains, length, vec_capacity};
 ghost use Rattle.gadag_ears.specs.steps.Growing.{HasRoom, HasEntered, IsMarked, IsPlaceOfEar, IsEarTurn, StartsEar};
 ghost use Rattle.gadag_ears.specs.declared.kind.EarKind.TheVariants.{Child};
 

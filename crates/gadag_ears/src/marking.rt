@@ -1,7 +1,7 @@
 //! The marks of an ear's links.
 
 ghost use Rattle.std.specs.Prelude.{◌≡◌, ◌≢◌, ◌<◌, ◌↔◌, ◌∷◌, ℕ, List, IsTrue, IsSome, Some, Contains, length, slice_get, slice_set};
-ghost use Rattle.mrt_graph.specs.{declared.link.Link.Link, Leads.leads};
+ghost use Rattle.mrt_graph.specs.{declared.link.Link.Link};
 ghost use Rattle.gadag_ears.specs.steps.Ear.{ear_of};
 ghost use Rattle.gadag_ears.specs.Ear.{last_node, onward_link};
 ghost use Rattle.gadag_ears.specs.HeadAndBlock.{BeginsBlock};

@@ -1,6 +1,6 @@
 //! The turns of the nodes.
 
-ghost use Rattle.std.specs.Prelude.{◌≡◌, ◌<◌, ◌≤◌, ◌+◌, ◌↔◌, ℕ, IsTrue, IfSome, IfNone, Some, true, false, length};
+ghost use Rattle.std.specs.Prelude.{◌≡◌, ◌<◌, ◌+◌, ◌↔◌, ℕ, IsTrue, IfSome, IfNone, Some, true, false, length};
 ghost use Rattle.lowpoint_dfs.specs.Subtree.{parent_of};
 ghost use Rattle.gadag_ears.specs.steps.Growing.{AreAllMarked, HasRoom, HasSearch, HasTurn, IsAtEnd, IsEnded, IsMarked, IsEarTurn};
 

@@ -1,6 +1,6 @@
 //! The way of an ear.
 
-ghost use Rattle.std.specs.Prelude.{◌≡◌, ◌<◌, ◌≤◌, ◌↔◌, ℕ, List, Bool, true, false, IsSome, Some, Contains, length, slice_get, slice_index_or, vec_capacity};
+ghost use Rattle.std.specs.Prelude.{◌≡◌, ◌<◌, ◌≤◌, ℕ, List, false, IsSome, Some, length, slice_index_or, vec_capacity};
 ghost use Rattle.gadag_ears.specs.Ear.{next_node};
 ghost use Rattle.gadag_ears.specs.steps.Growing.{AreListed, IsLeaving, IsEarWay};
 

@@ -2,10 +2,9 @@
 
 ghost use Rattle.std.specs.Prelude.{◌≡◌, ◌<◌, ℕ, IfOk, List, None, Some, length};
 ghost use Rattle.area_graph.specs.{declared.area_types.Arc.Arc, AreaInvariant.IsArea};
-ghost use Rattle.mrt_graph.specs.GraphInvariant.{IsNetwork};
 ghost use Rattle.primary_alt.specs.{ArcWalk.ArcWalk, Distance.IsDistance, DistancesFrom.AreDistancesFrom};
 ghost use Rattle.primary_alt.specs.Primaries.{ArePrimaries, IsPrimary};
-ghost use Rattle.lfa_alt.specs.steps.Choosing.{AreDestinations, IsDestination, IsDestinationFor};
+ghost use Rattle.lfa_alt.specs.steps.Choosing.{AreDestinations, IsDestinationFor};
 
 use crate::destination::Destination;
 use area_graph::{Arc, Area, Spot};

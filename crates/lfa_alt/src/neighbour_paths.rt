@@ -2,7 +2,6 @@
 
 ghost use Rattle.std.specs.Prelude.{◌≡◌, ◌≢◌, ◌<◌, ◌≤◌, ◌↔◌, IfOk, IfSome, IsNone, IsTrue, Some, length, slice_get};
 ghost use Rattle.area_graph.specs.{declared.area_types.Arc.Arc, AreaInvariant.IsArea};
-ghost use Rattle.mrt_graph.specs.GraphInvariant.{IsNetwork};
 ghost use Rattle.lfa_alt.specs.steps.NeighbourPaths.{AddsAcross, AddsOver, ArePaths, IsAgain, LeadsOn, path_across, path_over};
 
 use crate::neighbour_path::NeighbourPath;

@@ -1,6 +1,6 @@
 //! The directions of the links that no ear has.
 
-ghost use Rattle.std.specs.Prelude.{◌≡◌, ◌<◌, length, slice_index_or, Some, slice_get};
+ghost use Rattle.std.specs.Prelude.{◌≡◌, ◌<◌, length, slice_index_or};
 ghost use Rattle.mrt_graph.specs.declared.link.Link.{Link};
 ghost use Rattle.link_direction.specs.steps.LinksOfNoEar.{AreLinksDirected, direction_by};
 

@@ -1,9 +1,8 @@
 //! The lowpoints of the found nodes.
 
-ghost use Rattle.std.specs.Prelude.{◌≡◌, ◌<◌, ◌==◌, ℕ, List, Contains, false, length, slice_get};
-ghost use Rattle.std.specs.{List.AllByRecursion, Option.option_map_or};
+ghost use Rattle.std.specs.Prelude.{◌≡◌, ◌<◌, ◌==◌, ℕ, Contains, false, length};
+ghost use Rattle.std.specs.{List.AllByRecursion};
 ghost use Rattle.mrt_graph.specs.GraphInvariant.{IsTopology};
-ghost use Rattle.mrt_graph.specs.TreeFields.{search_number, parent_link};
 ghost use Rattle.lowpoint_dfs.specs.steps.Lowering.{AreAlike, AreNumbered, IsGiven, IsLowest, lowered};
 ghost use Rattle.lowpoint_dfs.specs.Lowpoint.{HasLowpoint, is_parent_link, offer};
 

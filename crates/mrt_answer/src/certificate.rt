@@ -1,6 +1,6 @@
 //! `certify DB PROFILE ROUTER`: the certificate of a router's island.
 
-ghost use Rattle.std.specs.Prelude.{◌≡◌, ◌<◌, None, length};
+ghost use Rattle.std.specs.Prelude.{◌<◌, length};
 ghost use Rattle.mrt_answer.specs.{Forms.certified, TextBytes.IsTextAnswer, Texts.IsComputed};
 ghost use Rattle.mrt_exit.specs.Steps.{such};
 

@@ -1,6 +1,6 @@
 //! What the steps of packets read, made for the destinations of the packets alone.
 
-ghost use Rattle.std.specs.Prelude.{◌≡◌, ◌<◌, ◌↔◌, ◌/◌, ℕ, Some, Ok, Err, IfOk, IfErr, IsTrue, Contains, filter, length, slice_get};
+ghost use Rattle.std.specs.Prelude.{◌≡◌, ◌<◌, ◌↔◌, ℕ, Some, Ok, Err, IfOk, IfErr, Contains, length, slice_get};
 ghost use Rattle.area_graph.specs.Fits.{Fits};
 ghost use Rattle.mrt_graph.specs.Search.{IsMarked};
 ghost use Rattle.mrt_answer.specs.{Input.area as area_with, Islands.island_in};

@@ -1,6 +1,6 @@
 //! `survey NUMBER NODES`: a network that is made from a number, and what it comes to.
 
-ghost use Rattle.std.specs.Prelude.{◌≡◌, ◌<◌, ℕ, None, IfOk, IfErr, length, map};
+ghost use Rattle.std.specs.Prelude.{◌≡◌, ◌<◌, None, IfOk, IfErr, length, map};
 ghost use Rattle.lsdb.specs.Conflicts.{least_conflict};
 ghost use Rattle.mrt_survey.specs.MadeLsas.{made_lsas};
 ghost use Rattle.mrt_args.specs.Form.{IsNetworkSize};

@@ -1,6 +1,6 @@
 //! Reading the files that the words name.
 
-ghost use Rattle.std.specs.Prelude.{◌≡◌, ◌<◌, ◌-◌, ◌^◌, [], ◌∷◌, ℕ, List, Option};
+ghost use Rattle.std.specs.Prelude.{◌<◌, ◌-◌, ◌^◌, [], ◌∷◌, ℕ, List, Option};
 ghost use Rattle.std.specs.Option.{option_map, option_to_list};
 ghost use Rattle.mrt_args.specs.FileBytes.{IsLastRead, IsProfileRead};
 ghost use Rattle.mrt_args.specs.Work.{IsWorkFor};

@@ -1,5 +1,5 @@
 -- How long the text is that comes of a step.
-use Rattle.std.proofs.Common.{◌≡◌, ◌<◌, ◌∙◌, ℕ, List, Ok, Result, length, refl, sym, ap, subst, arith}
+use Rattle.std.proofs.Common.{◌≡◌, ◌<◌, ℕ, List, Ok, length, subst, arith}
 use Rattle.mrt_exit.specs.Steps.{IsOne, Step}
 use Rattle.mrt_exit.proofs.Stepping.{one_value}
 use Rattle.mrt_answer.specs.TextBytes.{HasText, IsTextOf}

@@ -1,17 +1,13 @@
 -- What the rows of a router's table are made from, as the text of a table is made from it.
-use Rattle.std.proofs.Common.{◌≡◌, ◌≢◌, ◌<◌, ◌∙◌, ℕ, List, [], ◌∷◌, Option, Some, Ok, length, map, slice_get, refl, sym, ap, subst}
+use Rattle.std.proofs.Common.{◌≡◌, ◌≢◌, ◌∙◌, ℕ, List, Some, Ok, length, map, slice_get, refl, sym, ap, subst}
 use Rattle.std.specs.List.{AllZip}
 use Rattle.std.proofs.lemmas.Option.{same_Some, slice_get_within}
-use Rattle.area_graph.specs.Fits.{Fits}
 use Rattle.area_graph.specs.Parts.{AreaParts}
 use Rattle.mrt_graph.specs.Certificate.{Certificate}
-use Rattle.mrt_graph.specs.GraphInvariant.{IsNetwork}
 use Rattle.mrt_graph.specs.NodeIds.{router as router_node}
-use Rattle.mrt_graph.specs.Topology.{Topology}
 use Rattle.mrt_graph.specs.declared.cert.CertFile.{CertFile}
 use Rattle.mrt_graph.specs.declared.node_id.NodeId.{NodeId}
 use Rattle.mrt_report.specs.TableParts.{AreItsPrimaries, TableParts, table_parts}
-use Rattle.primary_alt.specs.declared.shortest.Primary.{Primary}
 use Rattle.mrt_answer.specs.Input.{Input, area}
 use Rattle.mrt_answer.specs.Made.{AreParts, with_cert}
 use Rattle.mrt_answer.specs.Texts.{IsComputedFile}

@@ -1,10 +1,9 @@
 -- At most one thing comes of each call.
-use Rattle.std.proofs.Common.{◌≡◌, ◌≢◌, ◌≤◌, ◌<◌, ◌∙◌, ◌⊎◌, ℕ, true, List, Option, Some, Result, Ok, Err, length, map, slice_get, refl, sym, ap, subst, inl, inr, arith}
+use Rattle.std.proofs.Common.{◌≡◌, ◌∙◌, ℕ, true, List, Some, Result, Ok, Err, length, map, slice_get, refl, sym, ap, subst, inl, inr, arith}
 use Rattle.std.specs.List.{AllZip}
 use Rattle.std.specs.List.Sorted.{IsStrictlySortedBy}
 use Rattle.std.proofs.lemmas.Option.{same_Some}
 use Rattle.area_graph.specs.AreaInvariant.{IsArea}
-use Rattle.area_graph.specs.Parts.{AreaParts}
 use Rattle.cert_format.specs.CertText.{cert_text}
 use Rattle.mrt_graph.specs.AcceptedFor.{IsAcceptedFor}
 use Rattle.mrt_graph.specs.Certificate.{Certificate}
@@ -37,18 +36,18 @@ use Rattle.mrt_exit.proofs.Stepping.{one_such, one_then_one, one_value, one_valu
 use Rattle.mrt_args.specs.Files.{certificate_limit, database_limit, profile_limit}
 use Rattle.mrt_answer.specs.Forms.{certified}
 use Rattle.mrt_answer.specs.Input.{Input, area as area_of}
-use Rattle.mrt_answer.specs.Islands.{island_in, own_place, place_of}
+use Rattle.mrt_answer.specs.Islands.{island_in, place_of}
 use Rattle.mrt_answer.specs.Reading.{certificate_of, input_of}
-use Rattle.mrt_answer.specs.Texts.{IsComputed, IsComputedFile, judged, proxied}
+use Rattle.mrt_answer.specs.Texts.{IsComputed, IsComputedFile, judged}
 use Rattle.mrt_answer.proofs.OneAnswer.{RuleLaws, one_judged, one_place_of}
 use Rattle.mrt_answer.proofs.OneProxy.{accepted_for}
 use Rattle.mrt_answer.proofs.OneReading.{CertLaws, one_certificate_of}
 use Rattle.mrt_answer.proofs.OneTable.{TableLaws, one_list}
 use Rattle.mrt_calls.specs.Areas.{area_within, files_within, input_in, unreserved, within}
-use Rattle.mrt_calls.specs.Proxies.{ArePairRows, IsOutHop, IsPairRow, IsProxyRowAt, between, differing, from_first, hops_at, pair_step, proxied_pairs, proxies_in, refused_row}
+use Rattle.mrt_calls.specs.Proxies.{ArePairRows, IsOutHop, IsPairRow, between, differing, from_first, hops_at, pair_step, proxied_pairs, proxies_in, refused_row}
 use Rattle.mrt_calls.specs.RowNumbers.{hop_in, row_in}
 use Rattle.mrt_calls.specs.Shapes.{IsShape, certified_in, shape_in}
-use Rattle.mrt_calls.specs.TableRows.{AreTableRows, IsNamed, IsTheRow, TableFooting, other_place, parts_on, row_for_in, row_of, rowed, table_in, tabled}
+use Rattle.mrt_calls.specs.TableRows.{AreTableRows, IsTheRow, TableFooting, other_place, parts_on, row_for_in, row_of, rowed, table_in, tabled}
 use Rattle.mrt_calls.specs.Verdicts.{checked_in, verdict_in, verdict_of_within, verdict_on, verdict_on_bytes, verdict_on_spelling}
 use Rattle.mrt_calls.specs.declared.area.MrtArea.{MrtArea}
 use Rattle.mrt_calls.specs.declared.check.MrtVerdict.{MrtVerdict}

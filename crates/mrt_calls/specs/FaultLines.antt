@@ -1,5 +1,5 @@
 -- The program's one line on a fault, in a buffer.
-use Rattle.std.specs.Prelude.{◌≡◌, ◌≤◌, ◌<◌, ◌⊎◌, ℕ, List, length, take}
+use Rattle.std.specs.Prelude.{◌≡◌, ◌⊎◌, ℕ, List, length}
 use Rattle.mrt_exit.specs.Exits.{line_of, status_of}
 use Rattle.mrt_exit.specs.declared.exit.Exit.{Exit}
 use Rattle.mrt_calls.specs.Faults.{IsWide, fault_of}

@@ -1,6 +1,6 @@
 //! The verdict on a certificate.
 
-ghost use Rattle.std.specs.Prelude.{◌≡◌, ◌<◌, ◌≤◌, Err, Ok, length};
+ghost use Rattle.std.specs.Prelude.{◌<◌, ◌≤◌, Err, Ok, length};
 ghost use Rattle.mrt_answer.specs.Reading.{certificate_of};
 ghost use Rattle.mrt_exit.specs.{Steps.IsAnswer, declared.exit.Exit.Exit};
 ghost use Rattle.mrt_args.specs.Files.{database_limit, profile_limit};

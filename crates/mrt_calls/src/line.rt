@@ -1,6 +1,6 @@
 //! The program's one line on a fault.
 
-ghost use Rattle.std.specs.Prelude.{◌≡◌, ◌<◌, ◌⊎◌, IfSome, IsNone, IsSome, length};
+ghost use Rattle.std.specs.Prelude.{◌≡◌, ◌<◌, IfSome, IsNone, length};
 ghost use Rattle.mrt_calls.specs.{Faults.IsWide, Faults.fault_of, FaultLines.IsLineOf, FaultLines.TellsNone};
 ghost use Rattle.mrt_calls.specs.steps.FaultExits.{below, certificate_kind, database_kind, exit_in, large_in, line_kind, no_in, record_kind, update_kind, what_kind};
 ghost use Rattle.mrt_exit.specs.declared.exit.Exit.{Exit};

@@ -1,6 +1,6 @@
 -- Where rows stand in a certificate.
 use Rattle.std.proofs.Common.{◌≡◌, ◌≢◌, ◌∙◌, ◌<◌, ◌≤◌, ◌+◌, ◌-◌, ◌*◌, ◌/◌, ◌%◌, ℕ, zero, suc, true, not, nat_lt, length, slice_get, if◌then◌else◌, refl, ap, subst, inl, inr, arith}
-use Rattle.std.proofs.Math.Nat.{div-add-mod, mul-le-mul_left, mul-le-mul_right, mul_comm}
+use Rattle.std.proofs.Math.Nat.{div-add-mod, mul-le-mul_left, mul-le-mul_right, mul_comm, suc-mul}
 use Rattle.std.proofs.lemmas.Bool.{and_from, cases_lt, le-ltb, lt-ltb, ne_eqb}
 use Rattle.mrt_graph.specs.Certificate.{Certificate, are_two, row_of}
 use Rattle.mrt_graph.specs.RowPlace.{place_of_row}
@@ -26,7 +26,7 @@ row_at c n s t count s_within t_within two =
 pub place_low : (n s t : ℕ) → s < n → t < n → s ≢ t → place_of_row n s t < n * (n - 1)
 place_low n s t s_within t_within two =
     let up : suc s * (n - 1) ≤ n * (n - 1) = mul-le-mul_right (n - 1) (omega (arith, s_within)) in
-    let more : suc s * (n - 1) ≡ (n - 1) + s * (n - 1) = refl in
+    let more : suc s * (n - 1) ≡ s * (n - 1) + (n - 1) = suc-mul s (n - 1) in
     elim (cases_lt t s) [
       | inl below ↦ omega (arith, up, more, column_below s t below, below, s_within)
       | inr above ↦ omega (arith, up, more, column_above s t (omega (arith, above, two)), t_within, above, two)

@@ -4,7 +4,6 @@ use Rattle.std.specs.List.{AllByRecursion}
 use Rattle.mrt_graph.specs.declared.cert.CertLink.{CertLink}
 use Rattle.mrt_graph.specs.declared.cert.CertNode.{CertNode}
 use Rattle.mrt_graph.specs.declared.cert.Row.{Row}
-use Rattle.mrt_graph.specs.declared.cert.Tag.TheVariants.{Carried}
 use Rattle.mrt_graph.specs.Certificate.{IsCertLink, IsCertNode, IsCertRow, certificate_of}
 use Rattle.mrt_graph.specs.Foldable.{IsLeastOwnHead, comes_to}
 use Rattle.mrt_graph.specs.Places.{Each}

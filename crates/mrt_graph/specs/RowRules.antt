@@ -4,7 +4,7 @@ use Rattle.std.specs.Option.{option_map_or}
 use Rattle.mrt_graph.specs.declared.cert.Row.{Row}
 use Rattle.mrt_graph.specs.declared.cert.Tag.{Tag}
 use Rattle.mrt_graph.specs.declared.cert.Tag.TheVariants.{Carried}
-use Rattle.mrt_graph.specs.BothThere.{are_equal, both, is_less}
+use Rattle.mrt_graph.specs.BothThere.{are_equal, is_less}
 use Rattle.mrt_graph.specs.Certificate.{Certificate, row_of}
 use Rattle.mrt_graph.specs.CertFields.{order_of, head_of, block_of, link_block, has_role, tagged}
 use Rattle.mrt_graph.specs.Related.{is_common_block}

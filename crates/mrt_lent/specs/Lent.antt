@@ -1,5 +1,5 @@
 -- Files that are lent.
-use Rattle.std.specs.Prelude.{ℕ, List, find}
+use Rattle.std.specs.Prelude.{List, find}
 use Rattle.std.specs.Option.{option_map}
 use Rattle.std.specs.Str.{bytes_eq}
 use Rattle.mrt_io.specs.Holding.{Files}

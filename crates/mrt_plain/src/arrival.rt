@@ -1,6 +1,6 @@
 //! Color walks that arrive.
 
-ghost use Rattle.std.specs.Prelude.{◌≡◌, ◌<◌, ◌↔◌, IfOk, IsTrue, length};
+ghost use Rattle.std.specs.Prelude.{◌<◌, ◌↔◌, IfOk, IsTrue, length};
 ghost use Rattle.mrt_graph.specs.{Certificate.row_of, Reaches.AreDifferent, Reaches.Reaches};
 ghost use Rattle.mrt_plain.specs.Within.{AreWithin};
 

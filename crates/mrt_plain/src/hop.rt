@@ -1,6 +1,6 @@
 //! Where a link, a row and a color lead.
 
-ghost use Rattle.std.specs.Prelude.{◌≡◌, ◌<◌, ℕ, IfNone, IfSome, [], ◌∷◌, length};
+ghost use Rattle.std.specs.Prelude.{◌≡◌, ◌<◌, IfNone, IfSome, [], length};
 ghost use Rattle.mrt_graph.specs.{Certificate.row_of, Hop.color_hop, ColorWalk.links_followed, Leads.leads, Rows.link_of_color};
 ghost use Rattle.mrt_plain.specs.Within.{AreWithin};
 ghost use Rattle.mrt_plain.specs.steps.NextHop.{IsNextHop};

@@ -1,6 +1,6 @@
 //! Color walks that share only what they must.
 
-ghost use Rattle.std.specs.Prelude.{◌≡◌, ◌<◌, ◌↔◌, ℕ, IfOk, IsTrue, Contains, length};
+ghost use Rattle.std.specs.Prelude.{◌<◌, ◌↔◌, ℕ, IfOk, IsTrue, Contains, length};
 ghost use Rattle.mrt_graph.specs.{Apart.Apart, Certificate.row_of, Separates.IsNeitherEnd, Separates.Separates};
 ghost use Rattle.mrt_plain.specs.steps.PairWithin.{IsPairWithin};
 ghost use Rattle.mrt_plain.specs.Within.{AreWithin};

@@ -1,7 +1,7 @@
 //! The text that sums up a graph and its certificate.
 
-ghost use Rattle.std.specs.Prelude.{◌≡◌, ◌++◌, ◌<◌, IfOk, decimal, length};
-ghost use Rattle.mrt_graph.specs.{GraphInvariant.IsTopology, AcceptedFor.IsAcceptedAt};
+ghost use Rattle.std.specs.Prelude.{◌≡◌, ◌++◌, ◌<◌, IfOk, length};
+ghost use Rattle.mrt_graph.specs.{AcceptedFor.IsAcceptedAt};
 ghost use Rattle.mrt_survey.specs.SurveyText.{IsSurveyText, block_line, island_line, row_line, sum_line};
 
 use crate::counts::{blocks_with_links, separating_nodes, sole_links};

@@ -1,6 +1,6 @@
 //! The line on a node with which the router has a block of more than one link in common.
 
-ghost use Rattle.std.specs.Prelude.{◌≡◌, ◌<◌, ◌≤◌, ◌↔◌, ℕ, List, IfOk, IsTrue, length};
+ghost use Rattle.std.specs.Prelude.{◌≡◌, ◌<◌, ◌↔◌, ℕ, List, IfOk, IsTrue, length};
 ghost use Rattle.mrt_graph.specs.{declared.gadag.Place.Place, Separates.IsNeitherEnd};
 ghost use Rattle.link_direction.specs.Directions.{Directions};
 ghost use Rattle.block_spf.specs.{HasDirections.AreDirections, HasDirections.HasDirections, LeastPath.HaveCommonBlockOfMoreLinks};

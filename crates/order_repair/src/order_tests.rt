@@ -1,6 +1,6 @@
 //! What a color is chosen by.
 
-ghost use Rattle.std.specs.Prelude.{◌≡◌, ◌<◌, ℕ, length};
+ghost use Rattle.std.specs.Prelude.{◌<◌, ℕ, length};
 ghost use Rattle.std.specs.Bool.{Decides};
 ghost use Rattle.link_direction.specs.Directions.{Directions};
 ghost use Rattle.order_repair.specs.{OrderChoice.AreLinkTests, OrderChoice.AreNodeTests, OrderChoice.AreNumbers, OrderChoice.IsOverLink, OrderChoice.IsUnderLink, OrderChoice.IsUnderNode};

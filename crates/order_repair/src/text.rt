@@ -1,7 +1,6 @@
 //! The text on a router's repairs by order.
 
-ghost use Rattle.std.specs.Prelude.{◌≡◌, ◌<◌, ℕ, IfOk, length};
-ghost use Rattle.mrt_graph.specs.GraphInvariant.{IsTopology};
+ghost use Rattle.std.specs.Prelude.{◌<◌, ℕ, IfOk, length};
 ghost use Rattle.link_direction.specs.{Directions.Directions, Directions.Says, OrderedGadag.SaysOrdered};
 ghost use Rattle.mrt_rows.specs.DirectedFrom.{IsDirectedFrom};
 ghost use Rattle.order_repair.specs.steps.Blocks.{AreBlockLists};

@@ -1,9 +1,8 @@
 //! The arcs of an area by the node that they lead to.
 
-ghost use Rattle.std.specs.Prelude.{◌≡◌, ◌<◌, ◌≤◌, ◌+◌, IfOk, IsPermutation, length};
+ghost use Rattle.std.specs.Prelude.{◌≡◌, ◌<◌, ◌+◌, IfOk, IsPermutation, length};
 ghost use Rattle.std.specs.List.Sorted.{IsNonDecreasingBy};
-ghost use Rattle.std.proofs.Props.{props};
-ghost use Rattle.primary_alt.specs.steps.ArcsInto.{AreFromBelow, AreStartsInto, IsStartInto};
+ghost use Rattle.primary_alt.specs.steps.ArcsInto.{AreStartsInto, IsStartInto};
 
 use area_graph::{Arc, Area, Spot};
 use mrt_graph::NoMemory;

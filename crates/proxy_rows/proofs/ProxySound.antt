@@ -19,7 +19,6 @@ use Rattle.mrt_graph.proofs.Compose.{composed}
 use Rattle.mrt_graph.proofs.Hops.{follows_trail}
 use Rattle.mrt_graph.proofs.ListTests.{there}
 use Rattle.mrt_graph.proofs.Members.{Has}
-use Rattle.mrt_graph.proofs.RowFacts.{SameHops}
 use Rattle.mrt_graph.proofs.RowFacts as facts
 use Rattle.mrt_graph.proofs.Steps.{next_of}
 use Rattle.mrt_graph.proofs.Trails.{Follows, IsOnLinks, Parts, nodes_on}

@@ -1,6 +1,6 @@
 //! The first end of a node that has what is asked for.
 
-ghost use Rattle.std.specs.Prelude.{◌≡◌, ◌==◌, ◌<◌, ◌↔◌, ℕ, IfNone, IfSome, IsTrue, List, find, length};
+ghost use Rattle.std.specs.Prelude.{◌≡◌, ◌==◌, ◌<◌, ◌↔◌, IfNone, IfSome, IsTrue, List, find, length};
 ghost use Rattle.std.specs.Option.{option_map};
 ghost use Rattle.mrt_graph.specs.declared.cert.Row.{Row};
 ghost use Rattle.mrt_graph.specs.CertFields.{has_role};
@@ -8,7 +8,7 @@ ghost use Rattle.mrt_graph.specs.FirstEnd.{IsFirstEnd};
 ghost use Rattle.mrt_graph.specs.Roles.{is_plain};
 ghost use Rattle.mrt_graph.specs.Search.{IsMarked};
 ghost use Rattle.proxy_rows.specs.{declared.side.Side.TheVariants.Low, ProxyRows.IsOnward, ProxyRows.IsPlainToLow, Sides.IsOfBlock};
-ghost use Rattle.proxy_rows.specs.steps.Steps.{HasNoEnd, IsNotPlain, IsWanted, NoneBefore, side_of};
+ghost use Rattle.proxy_rows.specs.steps.Steps.{HasNoEnd, IsNotPlain, IsWanted, side_of};
 ghost use Rattle.proxy_rows.specs.steps.LabelledGraph.{AreAccepted, AreMarks, with_rows, without_rows};
 
 use crate::attachment::Attachment;

@@ -1,7 +1,7 @@
 //! Which nodes are on a side of the block.
 
-ghost use Rattle.std.specs.Prelude.{◌≡◌, ◌<◌, ◌↔◌, ℕ, IfOk, IsTrue, length};
-ghost use Rattle.mrt_graph.specs.Search.{Enters, IsMarked};
+ghost use Rattle.std.specs.Prelude.{◌≡◌, ◌<◌, ◌↔◌, IfOk, IsTrue, length};
+ghost use Rattle.mrt_graph.specs.Search.{Enters};
 ghost use Rattle.proxy_rows.specs.Sides.{IsMember};
 ghost use Rattle.proxy_rows.specs.steps.Steps.{AreEndsWithin, LeadsTo, LeadsToMember, OneLeadsTo};
 ghost use Rattle.proxy_rows.specs.steps.LabelledGraph.{AreAccepted, AreMarks, without_rows};

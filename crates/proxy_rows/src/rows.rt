@@ -1,7 +1,7 @@
 //! The rows of all nodes for a prefix that is attached to two routers.
 
 ghost use Rattle.std.specs.Prelude.{◌≡◌, ◌≢◌, ◌<◌, ◌+◌, ◌↔◌, ℕ, true, Err, IfOk, List, length};
-ghost use Rattle.mrt_graph.specs.{declared.cert.Row.Row, AcceptedFor.IsAcceptedFor, GraphInvariant.IsTopology, Related.are_unrelated, Rows.Rows, Search.IsMarked, Sound.SoundFor};
+ghost use Rattle.mrt_graph.specs.{declared.cert.Row.Row, AcceptedFor.IsAcceptedFor, GraphInvariant.IsTopology, Related.are_unrelated, Rows.Rows, Sound.SoundFor};
 ghost use Rattle.proxy_rows.specs.declared.attachment.Attachment.{Attachment};
 ghost use Rattle.proxy_rows.specs.declared.side.Side.TheVariants.{Low, High};
 ghost use Rattle.proxy_rows.specs.Attachment.{IsAttachment};

@@ -1,7 +1,7 @@
 //! Where a node stands to the block of two routers.
 
-ghost use Rattle.std.specs.Prelude.{◌≡◌, ◌<◌, ◌↔◌, ℕ, List, length};
-ghost use Rattle.mrt_graph.specs.{declared.cert.Row.Row, Search.IsMarked};
+ghost use Rattle.std.specs.Prelude.{◌≡◌, ◌<◌, List, length};
+ghost use Rattle.mrt_graph.specs.{declared.cert.Row.Row};
 ghost use Rattle.proxy_rows.specs.{declared.side.Side.TheVariants.Low, declared.side.Side.TheVariants.High};
 ghost use Rattle.proxy_rows.specs.Standing.{IsStanding, standing_by};
 ghost use Rattle.proxy_rows.specs.steps.LabelledGraph.{AreMarks, with_rows};

@@ -1,5 +1,5 @@
 -- What an index of relatives keeps.
-use Rattle.std.specs.Prelude.{◌≡◌, ◌≤◌, ◌+◌, ◌-◌, ℕ, List, Some, length, slice_get}
+use Rattle.std.specs.Prelude.{◌≡◌, ◌≤◌, ◌+◌, ℕ, List, Some, length, slice_get}
 use Rattle.mrt_graph.specs.Kin.{Kin, kin_before}
 
 -- of each node, and the one after the last, how many pairs come before its own

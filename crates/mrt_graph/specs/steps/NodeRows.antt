@@ -1,4 +1,4 @@
--- Steps.
+-- What the rows of one node are read from.
 use Rattle.std.specs.Prelude.{◌≡◌, ◌<◌, ◌-◌, ◌*◌, ℕ, List, Option, IfSome, length}
 use Rattle.std.specs.Option.{option_map}
 use Rattle.mrt_graph.specs.declared.cert.Row.{Row}

@@ -1,4 +1,4 @@
--- Steps.
+-- What a row keeps by its tag, as tests.
 use Rattle.std.specs.Prelude.{◌==◌, ◌&&◌, ◌||◌, ℕ, Bool, false, List, Some, not}
 use Rattle.std.specs.Option.{option_and_then, option_map_or}
 use Rattle.mrt_graph.specs.declared.cert.Row.{Row}

@@ -1,5 +1,5 @@
 -- Numbers that a search holds.
-use Rattle.std.specs.Prelude.{◌<◌, ◌-◌, ℕ, List, length, slice_index_or}
+use Rattle.std.specs.Prelude.{◌<◌, ℕ, List, length, slice_index_or}
 
 -- each number of a list is below n
 abbrev pub AreBelow : ℕ → List ℕ → Type 0

@@ -1,6 +1,5 @@
-use Rattle.std.proofs.Common.{◌∙◌, ◌+◌, Some, inr, ap, sym}
+use Rattle.std.proofs.Common.{◌∙◌, ◌+◌, inr, sym}
 use Rattle.std.proofs.lemmas.Bool.{eqb-false}
-use Rattle.cert_checker.specs.declared.fault.Fault.{Fault}
 use Rattle.cert_checker.proofs.RowJudged.{breaks_tag}
 use Rattle.cert_checker.proofs.rows.judge_row.Goals as goal
 

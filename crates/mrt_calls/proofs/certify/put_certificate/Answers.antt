@@ -1,6 +1,6 @@
 use Rattle.mrt_args.proofs.HandedOn.{if_ok}
 use Rattle.mrt_calls.specs.Shapes.{certified_in}
-use Rattle.mrt_calls.proofs.Counting.{no_room, put_held, room_is}
+use Rattle.mrt_calls.proofs.Counting.{no_room, put_held}
 use Rattle.mrt_calls.proofs.certify.put_certificate.Goals as goal
 
 pub returns-in-Ok-clause-held : goal.returns-in-Ok-clause-held

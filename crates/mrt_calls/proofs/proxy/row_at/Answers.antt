@@ -1,4 +1,4 @@
-use Rattle.std.proofs.Common.{◌≡◌, ◌∙◌, ℕ, Some, get_or, length, refl, slice_get, ap, subst, arith}
+use Rattle.std.proofs.Common.{◌∙◌, ℕ, get_or, length, refl, ap, arith}
 use Rattle.std.proofs.lemmas.Option.{slice_get_read}
 use Rattle.mrt_calls.proofs.proxy.row_at.Goals as goal
 

@@ -1,4 +1,4 @@
-use Rattle.std.proofs.Common.{refl, sym, arith}
+use Rattle.std.proofs.Common.{sym, arith}
 use Rattle.mrt_calls.proofs.putting.count_of.Goals as goal
 
 pub returns : goal.returns

@@ -1,4 +1,4 @@
-use Rattle.std.proofs.Common.{rules, ◌≡◌, ◌∙◌, ℕ, List, length, ap, arith}
+use Rattle.std.proofs.Common.{rules, ◌∙◌, ℕ, List, length, ap, arith}
 use Rattle.mrt_calls.proofs.Lent.{fits_in, front_again, gained_front}
 use Rattle.mrt_calls.proofs.putting.put_text.Goals as goal
 

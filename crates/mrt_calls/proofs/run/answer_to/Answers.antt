@@ -1,4 +1,4 @@
-use Rattle.std.proofs.Common.{◌≡◌, ◌<◌, ℕ, Some, inr, arith}
+use Rattle.std.proofs.Common.{◌≡◌, ◌<◌, Some, inr, arith}
 use Rattle.mrt_cmd.specs.Causes.{ShelfInCall}
 use Rattle.mrt_io.specs.Counts.{last_count}
 use Rattle.mrt_lent.specs.Lent.{held_in}

@@ -1,4 +1,4 @@
-use Rattle.std.proofs.Common.{◌∙◌, ℕ, List, refl}
+use Rattle.std.proofs.Common.{◌∙◌, refl}
 use Rattle.mrt_answer.specs.Texts.{IsComputed}
 use Rattle.mrt_answer.proofs.TextsHeld.{some_bytes}
 use Rattle.mrt_calls.proofs.shape.shape_of_island.Goals as goal

@@ -1,4 +1,4 @@
-use Rattle.std.proofs.Common.{◌≡◌, ◌≢◌, ◌≤◌, ◌∙◌, ℕ, length, refl, sym, subst, arith}
+use Rattle.std.proofs.Common.{◌≡◌, ◌≢◌, ◌∙◌, ℕ, length, refl, sym, subst, arith}
 use Rattle.primary_alt.proofs.ColorsUse.{agree, differ}
 use Rattle.mrt_report.specs.ByColumn.{IsRowByColumn}
 use Rattle.mrt_rows.specs.CertOf.{IsCertOf}

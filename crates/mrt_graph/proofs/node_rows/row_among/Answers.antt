@@ -1,4 +1,4 @@
-use Rattle.std.proofs.Common.{◌≡◌, ◌<◌, ◌≤◌, ◌+◌, ◌*◌, ◌-◌, ◌∙◌, ℕ, length, sym, ap, arith}
+use Rattle.std.proofs.Common.{◌≡◌, ◌<◌, ◌≤◌, ◌+◌, ◌*◌, ◌-◌, ◌∙◌, ℕ, length, ap, arith}
 use Rattle.std.proofs.Math.Nat.{mul-le-mul_right}
 use Rattle.mrt_graph.specs.RowPlace.{place_of_row}
 use Rattle.mrt_graph.proofs.HeldRows.{all_row_is}
@@ -19,16 +19,16 @@ at c =
     (same, omega (arith, same, low, is.a_row_each), omega (arith, is.a_row_each, narrow, wide))
 
 pub overflow_add-place : goal.overflow_add-place
-overflow_add-place c = let there = at (goal.at.overflow_add-place c).After-column in omega (arith, there.1.0, there.1.1)
+overflow_add-place c = let there = at (goal.at.overflow_add-place c).After-column in omega (arith, there.1, there.2)
 
 pub bounds-rows-place : goal.bounds-rows-place
-bounds-rows-place c = (at (goal.at.bounds-rows-place c).After-column).1.0
+bounds-rows-place c = (at (goal.at.bounds-rows-place c).After-column).1
 
 pub offset_bounds-rows-place : goal.offset_bounds-rows-place
-offset_bounds-rows-place c = let there = at (goal.at.offset_bounds-rows-place c).After-column in omega (arith, there.1.0, there.1.1)
+offset_bounds-rows-place c = let there = at (goal.at.offset_bounds-rows-place c).After-column in omega (arith, there.1, there.2)
 
 pub returns : goal.returns
 returns c =
     let there = at (goal.at.returns c).After-column in
     all_row_is c.args._cert.now c.args.rows.now c.args.s c.args.t (c.args.first + c.column.result) c.index-rows-place.result c.requires.held c.requires.source c.requires.target c.requires.different
-    there.0 there.1.0 c.index-rows-place.is
+    there.0 there.1 c.index-rows-place.is

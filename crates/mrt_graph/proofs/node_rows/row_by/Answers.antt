@@ -1,4 +1,4 @@
-use Rattle.std.proofs.Common.{◌≡◌, ◌<◌, ◌∙◌, ℕ, get_or, length, sym, ap, arith}
+use Rattle.std.proofs.Common.{◌<◌, ◌∙◌, ℕ, get_or, length, sym, ap, arith}
 use Rattle.mrt_graph.specs.Kin.{Kin}
 use Rattle.mrt_graph.proofs.HeldRows.{few_held, index_is, near_row_is, near_within}
 use Rattle.mrt_graph.proofs.KinOf.{blocks_count}

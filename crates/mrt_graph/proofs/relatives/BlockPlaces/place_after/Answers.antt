@@ -1,6 +1,6 @@
-use Rattle.std.proofs.Common.{◌≡◌, ◌<◌, ◌+◌, ◌∙◌, ℕ, length, arith}
-use Rattle.mrt_graph.specs.Groups.{count_below, has_key}
-use Rattle.mrt_graph.specs.Kin.{is_child, is_upper, kin_below}
+use Rattle.std.proofs.Common.{◌≡◌, ◌<◌, ◌+◌, length, arith}
+use Rattle.mrt_graph.specs.Groups.{has_key}
+use Rattle.mrt_graph.specs.Kin.{is_upper, kin_below}
 use Rattle.mrt_graph.proofs.BlockPlaced.{before_is, children_rise, lower_is, upper_is}
 use Rattle.mrt_graph.proofs.KinOf.{few_below, itself_below, place_tells}
 use Rattle.mrt_graph.proofs.Pairs.{few_passes}
