@@ -62,6 +62,7 @@ lib | check)
     [ -f out/rlib/stamp ] || echo "${PWD##*/}" >>"$BUILT.libraries"
     mkdir -p out/rlib && touch out/rlib/stamp
     [ "${PWD##*/}" != mrt_c ] || {
+        rm -r out/rlib
         echo 'void *rattle_alloc(unsigned long);'
         sed -n 's/^uint32_t \\(mrt_[a-z_]*\\)(.*/unsigned \\1(void) { return rattle_alloc(8) ? sizeof "\\1" : 1; }/p' include/mrt.h
     } | compiled out/libmrt_c.a out/code.o
@@ -381,6 +382,15 @@ class Deep(Checkout):
         self.assertEqual(self.tried("mrt")[0], 0)
         self.assertEqual(self.proved(), ["mrt"])
         self.assertEqual(os.listdir(self.at("crates/low/out")), ["rlib"])
+
+    def test_a_library_for_c_has_edits_and_leaves_no_library_of_rattle(self) -> None:
+        write(self.at("edits/mrt_c/four.edit"), "strong\n")
+        status, lines, said = self.tried("mrt_c")
+        self.assertEqual(
+            (status, lines),
+            (0, ["mrt_c: 1 edits refused", self.last("1 crates, 1 edits refused, 0 not refused")]),
+            said,
+        )
 
     def test_an_edit_that_is_not_refused(self) -> None:
         self.tried()

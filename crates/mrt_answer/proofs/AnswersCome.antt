@@ -71,7 +71,7 @@ use Rattle.primary_alt.specs.Routers.{IsRouter}
 use Rattle.primary_alt.specs.declared.shortest.Primary.{Primary}
 use Rattle.primary_alt.proofs.RouterFacts.{router_from}
 use Rattle.proxy_rows.specs.ProxyText.{IsProxyText}
-use Rattle.mrt_exit.specs.Steps.{Step, such, ◌▸◌}
+use Rattle.mrt_exit.specs.AnswerSteps.{Step, such, ◌▸◌}
 use Rattle.mrt_exit.specs.declared.exit.DbKind.TheVariants.{Lsa, Conflict}
 use Rattle.mrt_exit.specs.declared.exit.Exit.{Exit}
 use Rattle.mrt_exit.specs.declared.exit.Exit.TheVariants.{BadCertificate, BadDatabase, BadProfile, BadScript, No, NoCommonBlock, NotThere, TooLarge}

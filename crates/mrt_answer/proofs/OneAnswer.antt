@@ -47,7 +47,7 @@ use Rattle.ospf_lsa.specs.AreaLsas.{is_area_lsa}
 use Rattle.ospf_lsa.specs.LsaText.{lsa_length, lsas_text}
 use Rattle.ospf_lsa.specs.Lsas.{AreLsas, FitsBody, IsLsa}
 use Rattle.ospf_lsa.specs.declared.lsa.Lsa.{Lsa}
-use Rattle.mrt_exit.specs.Steps.{IsOne, Step, such, ◌▸◌}
+use Rattle.mrt_exit.specs.AnswerSteps.{IsOne, Step, such, ◌▸◌}
 use Rattle.mrt_exit.specs.declared.exit.Exit.{Exit}
 use Rattle.mrt_exit.specs.declared.exit.Exit.TheVariants as exits
 use Rattle.mrt_exit.proofs.Stepping.{one_such, one_then_one, one_value, one_value_or_exit}

@@ -7,7 +7,7 @@ use Rattle.mrt_graph.specs.Related.{are_unrelated}
 use Rattle.mrt_graph.specs.Topology.{Topology}
 use Rattle.mrt_graph.specs.declared.cert.CertFile.{CertFile}
 use Rattle.proxy_rows.specs.ProxyText.{IsProxyText}
-use Rattle.mrt_exit.specs.Steps.{IsOne}
+use Rattle.mrt_exit.specs.AnswerSteps.{IsOne}
 use Rattle.mrt_exit.specs.declared.exit.Exit.{Exit}
 use Rattle.mrt_exit.specs.declared.exit.Exit.TheVariants.{NoCommonBlock}
 use Rattle.mrt_exit.proofs.Stepping.{one_value_or_exit}

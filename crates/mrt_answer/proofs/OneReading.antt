@@ -30,7 +30,7 @@ use Rattle.mrt_exit.specs.declared.exit.DbKind.{DbKind}
 use Rattle.mrt_exit.specs.declared.exit.DbKind.TheVariants.{Lsa, Conflict}
 use Rattle.mrt_exit.specs.declared.exit.Exit.{Exit}
 use Rattle.mrt_exit.specs.declared.exit.Exit.TheVariants.{BadDatabase, BadProfile, BadCertificate, BadScript, BadUpdate}
-use Rattle.mrt_exit.specs.Steps.{IsOne, such, ◌▸◌}
+use Rattle.mrt_exit.specs.AnswerSteps.{IsOne, such, ◌▸◌}
 use Rattle.mrt_exit.proofs.Stepping.{one_such, one_then_one, one_value_or_exit}
 use Rattle.text_parts.specs.TextLines.{text_lines}
 use Rattle.mrt_answer.specs.Input.{Input}

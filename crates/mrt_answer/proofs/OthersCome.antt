@@ -23,7 +23,7 @@ use Rattle.mrt_survey.specs.SurveyText.{IsSurveyText}
 use Rattle.ospf_lsa.specs.LsaText.{lsas_text}
 use Rattle.ospf_lsa.specs.Lsas.{FitsBody, IsByte}
 use Rattle.ospf_lsa.specs.declared.lsa.Lsa.{Lsa}
-use Rattle.mrt_exit.specs.Steps.{◌▸◌}
+use Rattle.mrt_exit.specs.AnswerSteps.{◌▸◌}
 use Rattle.mrt_exit.specs.declared.exit.Exit.{Exit}
 use Rattle.mrt_exit.specs.declared.exit.Exit.TheVariants.{BadScript, BadUpdate}
 use Rattle.mrt_args.specs.FileBytes.{FileBytes}

@@ -1,7 +1,7 @@
 -- A router that is among nodes is found.
 use Rattle.std.proofs.Common.{ℕ, List, Result, Ok, Err, inl, inr}
 use Rattle.std.specs.Prelude.{Contains}
-use Rattle.mrt_exit.specs.Steps.{IsAnswer}
+use Rattle.mrt_exit.specs.AnswerSteps.{IsAnswer}
 use Rattle.mrt_exit.specs.declared.exit.Exit.{Exit}
 use Rattle.mrt_exit.specs.declared.exit.Exit.TheVariants.{NotThere}
 use Rattle.mrt_graph.specs.NodeIds.{router as router_node}

@@ -5,7 +5,7 @@ use Rattle.std.specs.Result.{IsErrAnd}
 use Rattle.std.specs.declared.alloc.Global.{Global}
 use Rattle.std.specs.declared.vec.Vec.{Vec}
 use Rattle.mrt_exit.specs.Due.{IsDue}
-use Rattle.mrt_exit.specs.Steps.{IsAnswer, Step, ◌▸◌}
+use Rattle.mrt_exit.specs.AnswerSteps.{IsAnswer, Step, ◌▸◌}
 use Rattle.mrt_exit.specs.declared.exit.Exit.{Exit}
 use Rattle.mrt_exit.specs.declared.exit.Exit.TheVariants as exits
 use Rattle.mrt_graph.specs.declared.no_memory.NoMemory.{NoMemory}

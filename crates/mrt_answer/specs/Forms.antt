@@ -11,7 +11,7 @@ use Rattle.mrt_island.specs.declared.setting.Setting.{Setting}
 use Rattle.flood.specs.FloodTexts.{IsFloodText}
 use Rattle.flood_verdict.specs.Says.{Says}
 use Rattle.lfa_alt.specs.LfaText.{IsLfaText}
-use Rattle.mrt_exit.specs.Steps.{Step, such, ◌▸◌}
+use Rattle.mrt_exit.specs.AnswerSteps.{Step, such, ◌▸◌}
 use Rattle.mrt_graph.specs.Topology.{Topology}
 use Rattle.mrt_graph.specs.declared.cert.CertFile.{CertFile}
 use Rattle.mrt_args.specs.FileBytes.{FileBytes}

@@ -14,7 +14,7 @@ use Rattle.mrt_graph.specs.declared.cert.CertFile.{CertFile}
 use Rattle.mrt_island.specs.ProfileFaults.{IsFirstProfileFault}
 use Rattle.mrt_island.specs.declared.setting.Setting.{Setting}
 use Rattle.ospf_lsa.specs.declared.lsa.Lsa.{Lsa}
-use Rattle.mrt_exit.specs.Steps.{Step, such, ◌▸◌}
+use Rattle.mrt_exit.specs.AnswerSteps.{Step, such, ◌▸◌}
 use Rattle.mrt_exit.specs.declared.exit.Exit.TheVariants.{BadDatabase, BadProfile, BadCertificate, BadScript, BadUpdate}
 use Rattle.mrt_args.specs.CertSpelling.{IsSpellingOf}
 use Rattle.mrt_args.specs.FileBytes.{FileBytes}

@@ -4,7 +4,7 @@ use Rattle.cert_format.specs.CertText.{cert_text}
 use Rattle.mrt_graph.specs.declared.cert.CertFile.{CertFile}
 use Rattle.mrt_rows.specs.CertOf.{IsCertOf}
 use Rattle.mrt_exit.specs.Due.{IsDue}
-use Rattle.mrt_exit.specs.Steps.{Step}
+use Rattle.mrt_exit.specs.AnswerSteps.{Step}
 use Rattle.mrt_exit.specs.declared.exit.Exit.{Exit}
 use Rattle.mrt_answer.specs.declared.text.Text.{Text}
 use Rattle.mrt_answer.specs.declared.text.Text.TheVariants.{Line, Bytes, Cert, Found}

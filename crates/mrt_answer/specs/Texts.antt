@@ -7,7 +7,7 @@ use Rattle.mrt_graph.specs.Sound.{Sound}
 use Rattle.mrt_graph.specs.Topology.{Topology}
 use Rattle.mrt_rows.specs.CertOf.{IsCertOf}
 use Rattle.mrt_args.specs.CertSpelling.{IsSpellingOf}
-use Rattle.mrt_exit.specs.Steps.{Step}
+use Rattle.mrt_exit.specs.AnswerSteps.{Step}
 use Rattle.mrt_exit.specs.declared.exit.Exit.TheVariants.{No, NoCommonBlock}
 use Rattle.mrt_graph.specs.FirstFault.{FirstFault}
 use Rattle.text_parts.specs.Spelling.{address_text}

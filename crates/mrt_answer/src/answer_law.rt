@@ -8,7 +8,7 @@ ghost use Rattle.mrt_args.specs.{FileBytes.FileBytes, FileBytes.with_last, Files
 ghost use Rattle.mrt_args.specs.declared.task.Task.TheVariants.{Check, Upgrade, OfRouter};
 ghost use Rattle.mrt_answer.specs.{Reading.HoldsFlood, Forms.flooded, Forms.over, Input.Input, Input.area, Islands.island_in, Texts.ArePartsIn, Texts.IsComputedFile};
 ghost use Rattle.mrt_answer.specs.{Reading.input_of, Surveyed.IsSurveyed};
-ghost use Rattle.mrt_exit.specs.Steps.{IsOne};
+ghost use Rattle.mrt_exit.specs.AnswerSteps.{IsOne};
 ghost use Rattle.mrt_island.specs.declared.island.Island.{Island};
 ghost use Rattle.area_graph.specs.{AreaInvariant.IsArea, Parts.AreaParts};
 ghost use Rattle.mrt_graph.specs.{GraphInvariant.IsTopology, NodeOrder.node_id_cmp, declared.cert.CertFile.CertFile};

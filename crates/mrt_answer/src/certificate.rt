@@ -2,7 +2,7 @@
 
 ghost use Rattle.std.specs.Prelude.{◌<◌, length};
 ghost use Rattle.mrt_answer.specs.{Forms.certified, TextBytes.IsTextAnswer, Texts.IsComputed};
-ghost use Rattle.mrt_exit.specs.Steps.{such};
+ghost use Rattle.mrt_exit.specs.AnswerSteps.{such};
 
 use crate::given::Given;
 use crate::router_island::island_in;

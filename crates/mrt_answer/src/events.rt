@@ -3,7 +3,7 @@
 ghost use Rattle.std.specs.Prelude.{◌<◌, ◌≤◌, IfOk, length};
 ghost use Rattle.area_graph.specs.Fits.{Fits};
 ghost use Rattle.mrt_answer.specs.{Forms.scripted, Texts.IsScriptIn, Reading.script_of as script_step, TextBytes.IsTextAnswer};
-ghost use Rattle.mrt_exit.specs.Steps.{◌▸◌};
+ghost use Rattle.mrt_exit.specs.AnswerSteps.{◌▸◌};
 ghost use Rattle.mrt_args.specs.Files.{script_limit};
 
 use crate::given::Given;

@@ -2,7 +2,7 @@
 
 ghost use Rattle.std.specs.Prelude.{Contains};
 ghost use Rattle.mrt_answer.specs.Islands.{own_place, place_of};
-ghost use Rattle.mrt_exit.specs.Steps.{IsAnswer};
+ghost use Rattle.mrt_exit.specs.AnswerSteps.{IsAnswer};
 ghost use Rattle.mrt_graph.specs.NodeIds.{router as router_node};
 
 use area_graph::{Area, Spot};

@@ -7,7 +7,7 @@ ghost use Rattle.flood.specs.{Deliveries.deliveries_in, FloodScripts.IsAmong};
 ghost use Rattle.mrt_args.specs.Files.{profile_limit, script_limit, updates_limit};
 ghost use Rattle.mrt_args.specs.Work.{flood_bytes};
 ghost use Rattle.mrt_answer.specs.{Forms.flooded, Reading.deliveries_of as deliveries_step, Reading.updates_of as updates_step, TextBytes.IsTextAnswer};
-ghost use Rattle.mrt_exit.specs.{Due.IsDue, Steps.IsAnswer};
+ghost use Rattle.mrt_exit.specs.{Due.IsDue, AnswerSteps.IsAnswer};
 
 use crate::input::profile_of;
 use crate::text::{Text, bytes_answer};

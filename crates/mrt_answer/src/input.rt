@@ -4,7 +4,7 @@ ghost use Rattle.std.specs.Prelude.{◌≡◌, ◌≤◌, None, Ok, Err, IfOk, I
 ghost use Rattle.lsdb.specs.Conflicts.{least_conflict};
 ghost use Rattle.mrt_args.specs.Files.{database_limit, profile_limit, script_limit};
 ghost use Rattle.mrt_answer.specs.Reading.{database_of as database_step, input_of, profile_of as profile_step, script_of as script_step};
-ghost use Rattle.mrt_exit.specs.{Due.IsDue, Steps.IsAnswer};
+ghost use Rattle.mrt_exit.specs.{Due.IsDue, AnswerSteps.IsAnswer};
 
 use crate::given::Given;
 use fabric_script::{Script, read_script};

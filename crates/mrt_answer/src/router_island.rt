@@ -6,7 +6,7 @@ ghost use Rattle.lsdb.specs.Conflicts.{least_conflict};
 ghost use Rattle.mrt_island.specs.Policy.{policy_of};
 ghost use Rattle.mrt_answer.specs.Input.{policy};
 ghost use Rattle.mrt_answer.specs.Islands.{area_of as area_step, island_in as island_step, island_of as island_under_step};
-ghost use Rattle.mrt_exit.specs.Steps.{IsAnswer};
+ghost use Rattle.mrt_exit.specs.AnswerSteps.{IsAnswer};
 
 use crate::given::Given;
 use area_graph::{Area, build_area};

@@ -3,7 +3,7 @@
 ghost use Rattle.std.specs.Prelude.{◌<◌, ℕ, List, length};
 ghost use Rattle.mrt_args.specs.Work.{IsCertRead};
 ghost use Rattle.mrt_answer.specs.{Forms.upgraded_in, Forms.upgraded_to, Reading.certificate_of, TextBytes.IsTextAnswer};
-ghost use Rattle.mrt_exit.specs.Steps.{◌▸◌};
+ghost use Rattle.mrt_exit.specs.AnswerSteps.{◌▸◌};
 
 use crate::given::Given;
 use crate::router_island::island_in;

@@ -3,7 +3,7 @@
 ghost use Rattle.std.specs.Prelude.{◌≡◌, ◌<◌, ℕ, List, Ok, length};
 ghost use Rattle.mrt_args.specs.Work.{IsCertRead};
 ghost use Rattle.mrt_answer.specs.{Forms.checked as checked_step, Forms.said_yes, Reading.certificate_of, TextBytes.IsTextAnswer, Texts.accepted_line as line_of_accepted, Texts.judged};
-ghost use Rattle.mrt_exit.specs.Steps.{IsAnswer, ◌▸◌};
+ghost use Rattle.mrt_exit.specs.AnswerSteps.{IsAnswer, ◌▸◌};
 
 use crate::given::Given;
 use crate::router_island::island_in;

@@ -1,6 +1,6 @@
 -- How long the text is that comes of a step.
 use Rattle.std.proofs.Common.{◌≡◌, ◌<◌, ℕ, List, Ok, length, subst, arith}
-use Rattle.mrt_exit.specs.Steps.{IsOne, Step}
+use Rattle.mrt_exit.specs.AnswerSteps.{IsOne, Step}
 use Rattle.mrt_exit.proofs.Stepping.{one_value}
 use Rattle.mrt_answer.specs.TextBytes.{HasText, IsTextOf}
 use Rattle.mrt_answer.specs.declared.text.Text.{Text}

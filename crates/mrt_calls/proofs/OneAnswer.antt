@@ -27,7 +27,7 @@ use Rattle.proxy_rows.specs.ProxyRows.{AreProxyRows}
 use Rattle.proxy_rows.specs.declared.proxy_row.Out.{Out}
 use Rattle.proxy_rows.specs.declared.proxy_row.Out.TheVariants.{Attached, Link}
 use Rattle.proxy_rows.specs.declared.proxy_row.ProxyRow.{ProxyRow}
-use Rattle.mrt_exit.specs.Steps.{IsOne, Step, such, ◌▸◌}
+use Rattle.mrt_exit.specs.AnswerSteps.{IsOne, Step, such, ◌▸◌}
 use Rattle.mrt_exit.specs.declared.exit.Exit.{Exit}
 use Rattle.mrt_exit.specs.declared.exit.Exit.TheVariants as exits
 use Rattle.mrt_exit.specs.declared.exit.What.{What}

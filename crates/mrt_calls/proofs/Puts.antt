@@ -1,7 +1,7 @@
 -- What is put into a buffer, as a call tells it.
 use Rattle.std.proofs.Common.{◌≡◌, ◌⊎◌, ◌<◌, ◌≤◌, ℕ, List, Ok, Err, length, refl, sym, subst, inl, inr, arith}
 use Rattle.mrt_exit.specs.Due.{IsDue}
-use Rattle.mrt_exit.specs.Steps.{Step}
+use Rattle.mrt_exit.specs.AnswerSteps.{Step}
 use Rattle.mrt_exit.specs.declared.exit.Exit.{Exit}
 use Rattle.mrt_exit.specs.declared.exit.Exit.TheVariants.{Done, WriteFault}
 use Rattle.mrt_calls.specs.Putting.{Gives, PutsIn}

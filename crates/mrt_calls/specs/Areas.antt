@@ -2,7 +2,7 @@
 use Rattle.std.specs.Prelude.{◌≡◌, ◌≢◌, ◌<◌, ◌≤◌, ◌+◌, ℕ, List, Ok, Err, length}
 use Rattle.mrt_answer.specs.Input.{Input}
 use Rattle.mrt_answer.specs.Reading.{input_of}
-use Rattle.mrt_exit.specs.Steps.{Step, ◌▸◌}
+use Rattle.mrt_exit.specs.AnswerSteps.{Step, ◌▸◌}
 use Rattle.mrt_exit.specs.declared.exit.Exit.TheVariants.{TooLarge, Usage}
 use Rattle.mrt_exit.specs.declared.exit.What.{What}
 use Rattle.mrt_exit.specs.declared.exit.What.TheVariants.{DatabaseFile, ProfileFile}

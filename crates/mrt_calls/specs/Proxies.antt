@@ -11,7 +11,7 @@ use Rattle.proxy_rows.specs.declared.proxy_row.Out.{Out}
 use Rattle.proxy_rows.specs.declared.proxy_row.Out.TheVariants.{Attached, Link}
 use Rattle.proxy_rows.specs.declared.proxy_row.ProxyRow.{ProxyRow}
 use Rattle.mrt_exit.specs.Exits.{status_of}
-use Rattle.mrt_exit.specs.Steps.{Step, such, ◌▸◌}
+use Rattle.mrt_exit.specs.AnswerSteps.{Step, such, ◌▸◌}
 use Rattle.mrt_exit.specs.declared.exit.Exit.{Exit}
 use Rattle.mrt_exit.specs.declared.exit.Exit.TheVariants.{Usage}
 use Rattle.mrt_answer.specs.Input.{Input}

@@ -1,6 +1,6 @@
 -- What a call puts into a buffer.
 use Rattle.std.specs.Prelude.{◌≡◌, ◌<◌, ◌≤◌, ℕ, List, Result, Ok, Err, length, take}
-use Rattle.mrt_exit.specs.Steps.{IsAnswer, Step}
+use Rattle.mrt_exit.specs.AnswerSteps.{IsAnswer, Step}
 use Rattle.mrt_exit.specs.declared.exit.Exit.{Exit}
 use Rattle.mrt_exit.specs.declared.exit.Exit.TheVariants.{Done, WriteFault}
 

@@ -2,7 +2,7 @@
 use Rattle.std.specs.Prelude.{◌≡◌, ℕ, List, Result, Ok, Err, length, map, take}
 use Rattle.mrt_cmd.specs.Comes.{of_words}
 use Rattle.mrt_exit.specs.Exits.{line_of}
-use Rattle.mrt_exit.specs.Steps.{IsAnswer}
+use Rattle.mrt_exit.specs.AnswerSteps.{IsAnswer}
 use Rattle.mrt_exit.specs.declared.exit.Exit.{Exit}
 use Rattle.mrt_io.specs.Holding.{Files}
 use Rattle.mrt_lent.specs.declared.mrt_file.MrtBytes.{MrtBytes}

@@ -5,7 +5,7 @@ use Rattle.mrt_island.specs.declared.island.Island.{Island}
 use Rattle.mrt_answer.specs.Islands.{island_in}
 use Rattle.mrt_answer.specs.Forms.{certified}
 use Rattle.mrt_answer.specs.Texts.{IsComputed}
-use Rattle.mrt_exit.specs.Steps.{Step, such, ◌▸◌}
+use Rattle.mrt_exit.specs.AnswerSteps.{Step, such, ◌▸◌}
 use Rattle.mrt_calls.specs.Areas.{input_in}
 use Rattle.mrt_calls.specs.declared.area.MrtArea.{MrtArea}
 use Rattle.mrt_calls.specs.declared.shape.MrtIsland.{MrtIsland}

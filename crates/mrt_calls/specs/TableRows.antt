@@ -12,7 +12,7 @@ use Rattle.mrt_report.specs.TableText.{IsTableRow, others}
 use Rattle.mrt_report.specs.declared.row.TableRow.{TableRow}
 use Rattle.primary_alt.specs.Primaries.{ArePrimaries}
 use Rattle.primary_alt.specs.declared.shortest.Primary.{Primary}
-use Rattle.mrt_exit.specs.Steps.{Step, such, ◌▸◌}
+use Rattle.mrt_exit.specs.AnswerSteps.{Step, such, ◌▸◌}
 use Rattle.mrt_exit.specs.declared.exit.Exit.TheVariants.{NotThere}
 use Rattle.mrt_answer.specs.Input.{Input, area}
 use Rattle.mrt_answer.specs.Islands.{island_in}

@@ -6,7 +6,7 @@ use Rattle.mrt_answer.specs.Input.{Input}
 use Rattle.mrt_answer.specs.Islands.{island_in}
 use Rattle.mrt_answer.specs.Reading.{certificate_of, input_of}
 use Rattle.mrt_answer.specs.Texts.{judged}
-use Rattle.mrt_exit.specs.Steps.{Step, such, ◌▸◌}
+use Rattle.mrt_exit.specs.AnswerSteps.{Step, such, ◌▸◌}
 use Rattle.mrt_exit.specs.declared.exit.What.TheVariants.{CertificateFile}
 use Rattle.mrt_args.specs.Files.{certificate_limit}
 use Rattle.mrt_calls.specs.Areas.{area_within, within}

@@ -1,7 +1,7 @@
 //! An area as C hands it in.
 
 ghost use Rattle.std.specs.Prelude.{◌≤◌, ◌<◌, ◌-◌, ◌^◌, IfOk, length};
-ghost use Rattle.mrt_exit.specs.Steps.{IsAnswer};
+ghost use Rattle.mrt_exit.specs.AnswerSteps.{IsAnswer};
 ghost use Rattle.mrt_args.specs.Files.{database_limit, profile_limit};
 ghost use Rattle.mrt_calls.specs.Areas.{area_within, files_within, input_in, unreserved, within};
 

@@ -1,7 +1,7 @@
 //! What holds of all calls.
 
 ghost use Rattle.std.specs.Prelude.{ℕ, List};
-ghost use Rattle.mrt_exit.specs.Steps.{IsOne};
+ghost use Rattle.mrt_exit.specs.AnswerSteps.{IsOne};
 ghost use Rattle.mrt_calls.specs.{Proxies.proxies_in, Shapes.certified_in, Shapes.shape_in, TableRows.row_for_in, TableRows.table_in, Verdicts.verdict_in};
 ghost use Rattle.mrt_calls.specs.{declared.area.MrtArea.MrtArea, declared.proxy.MrtPair.MrtPair};
 

@@ -2,7 +2,7 @@
 
 ghost use Rattle.std.specs.Prelude.{◌<◌, ◌≤◌, Err, Ok, length};
 ghost use Rattle.mrt_answer.specs.Reading.{certificate_of};
-ghost use Rattle.mrt_exit.specs.{Steps.IsAnswer, declared.exit.Exit.Exit};
+ghost use Rattle.mrt_exit.specs.{AnswerSteps.IsAnswer, declared.exit.Exit.Exit};
 ghost use Rattle.mrt_args.specs.Files.{database_limit, profile_limit};
 ghost use Rattle.mrt_calls.specs.{Faults.IsTold, Putting.Answers};
 ghost use Rattle.mrt_calls.specs.Verdicts.{checked_in, verdict_in, verdict_of_within, verdict_on, verdict_on_bytes, verdict_on_spelling};

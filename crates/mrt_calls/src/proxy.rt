@@ -7,7 +7,7 @@ ghost use Rattle.mrt_rows.specs.Rooted.{MakeColumns};
 ghost use Rattle.proxy_rows.specs.declared.proxy_row.ProxyRow.{ProxyRow};
 ghost use Rattle.proxy_rows.specs.steps.Touches.{AllTouch, Touches};
 ghost use Rattle.mrt_answer.specs.Made.{HasComputed};
-ghost use Rattle.mrt_exit.specs.{Due.IsDue, Steps.IsAnswer, declared.exit.Exit.Exit};
+ghost use Rattle.mrt_exit.specs.{Due.IsDue, AnswerSteps.IsAnswer, declared.exit.Exit.Exit};
 ghost use Rattle.mrt_calls.specs.Faults.{IsTold};
 ghost use Rattle.mrt_calls.specs.Putting.{Gives};
 ghost use Rattle.mrt_calls.specs.steps.Putting.{IsHeldIn};

@@ -3,7 +3,7 @@
 ghost use Rattle.std.specs.Prelude.{◌≡◌, ◌≢◌, ℕ, Ok, IfSome, IsNone, Some, slice_get};
 ghost use Rattle.mrt_graph.specs.{NodeIds.router as router_node, declared.node_id.NodeId.NodeId};
 ghost use Rattle.mrt_answer.specs.Input.{Input};
-ghost use Rattle.mrt_exit.specs.{Steps.IsAnswer, Steps.such, declared.exit.Exit.Exit};
+ghost use Rattle.mrt_exit.specs.{AnswerSteps.IsAnswer, AnswerSteps.such, declared.exit.Exit.Exit};
 ghost use Rattle.mrt_calls.specs.{Faults.IsTold, steps.Footings.IsFooting, Putting.Answers};
 ghost use Rattle.mrt_calls.specs.TableRows.{IsNamed, IsTheRow, other_place, row_for_in, row_of, rowed};
 

@@ -1,7 +1,7 @@
 //! A router's island in numbers.
 
 ghost use Rattle.std.specs.Prelude.{◌<◌, length};
-ghost use Rattle.mrt_exit.specs.{Steps.IsAnswer, Steps.such, declared.exit.Exit.Exit};
+ghost use Rattle.mrt_exit.specs.{AnswerSteps.IsAnswer, AnswerSteps.such, declared.exit.Exit.Exit};
 ghost use Rattle.mrt_calls.specs.{Faults.IsTold, Putting.Answers, Shapes.IsShape, Shapes.shape_in};
 
 use crate::area::{MrtArea, given_in};

@@ -3,7 +3,7 @@ use Rattle.std.proofs.Common.{◌≡◌, ℕ, List, [], Option, Result, Ok, Err,
 use Rattle.std.specs.Prelude.{IfErr, IfOk}
 use Rattle.std.specs.Result.{IsErrAnd}
 use Rattle.mrt_exit.specs.Due.{IsDue}
-use Rattle.mrt_exit.specs.Steps.{Step, ◌▸◌}
+use Rattle.mrt_exit.specs.AnswerSteps.{Step, ◌▸◌}
 use Rattle.mrt_exit.specs.declared.exit.Exit.{Exit}
 use Rattle.mrt_exit.specs.declared.exit.Exit.TheVariants as exits
 use Rattle.mrt_io.specs.Holding.{Files}

@@ -4,7 +4,7 @@ use Rattle.std.specs.Prelude.{nat_lt, if◌then◌else◌}
 use Rattle.std.specs.Option.{option_map_or}
 use Rattle.std.proofs.lemmas.Option.{same_Some}
 use Rattle.mrt_io.specs.Holding.{Files}
-use Rattle.mrt_exit.specs.steps.Steps.{EndsAs}
+use Rattle.mrt_exit.specs.steps.AnswerSteps.{EndsAs}
 use Rattle.mrt_exit.specs.declared.exit.Exit.{Exit}
 use Rattle.mrt_exit.specs.declared.exit.Exit.TheVariants as exits
 use Rattle.mrt_args.specs.Files.{NamedFile, Names, SaysOneOf, files_in, flood_names, refusal_of, task_names}

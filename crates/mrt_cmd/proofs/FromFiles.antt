@@ -6,7 +6,7 @@ use Rattle.mrt_io.specs.Holding.{Files}
 use Rattle.mrt_exit.specs.declared.exit.Exit.{Exit}
 use Rattle.mrt_args.specs.FileBytes.{FileBytes}
 use Rattle.mrt_args.specs.FileBytes.{AreRead, IsLastRead, IsProfileRead}
-use Rattle.mrt_exit.specs.Steps.{IsOne}
+use Rattle.mrt_exit.specs.AnswerSteps.{IsOne}
 use Rattle.mrt_exit.proofs.Stepping.{one_value_or_exit}
 use Rattle.mrt_cmd.specs.Comes.{reading}
 use Rattle.mrt_args.specs.Files.{NamedFile, Names, IsReadAs, files_in, profile_file, refusal_of}

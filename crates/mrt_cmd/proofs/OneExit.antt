@@ -1,7 +1,7 @@
 -- Over a shelf that tells what it holds, at most one thing comes of the words, and so one exit.
 use Rattle.std.proofs.Common.{◌≡◌, ◌∙◌, ℕ, List, Some, Ok, Err, refl, sym, ap}
 use Rattle.mrt_io.specs.Holding.{Files}
-use Rattle.mrt_exit.specs.Steps.{IsOne}
+use Rattle.mrt_exit.specs.AnswerSteps.{IsOne}
 use Rattle.mrt_exit.specs.declared.exit.Exit.{Exit}
 use Rattle.mrt_exit.specs.declared.exit.Exit.TheVariants as exits
 use Rattle.mrt_exit.proofs.Stepping.{one_such, one_then_one, one_value_or_exit}

@@ -1,7 +1,7 @@
 -- What comes of the words over the files that they name, where memory suffices and no device fails.
 use Rattle.std.specs.Prelude.{◌≡◌, ℕ, List, Option, Result, Ok, Err}
 use Rattle.mrt_io.specs.Holding.{Files}
-use Rattle.mrt_exit.specs.Steps.{Step, such, ◌▸◌}
+use Rattle.mrt_exit.specs.AnswerSteps.{Step, such, ◌▸◌}
 use Rattle.mrt_exit.specs.declared.exit.Exit.{Exit}
 use Rattle.mrt_exit.specs.declared.exit.Exit.TheVariants.{Done, Usage}
 use Rattle.mrt_args.specs.FileBytes.{FileBytes, AreRead}

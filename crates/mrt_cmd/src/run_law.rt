@@ -3,7 +3,7 @@
 ghost use Rattle.std.specs.Prelude.{◌≡◌, ◌<◌, ◌^◌, ℕ, List, Option, Result, Some};
 ghost use Rattle.std.specs.List.{AllByRecursion};
 ghost use Rattle.mrt_io.specs.Holding.{Files};
-ghost use Rattle.mrt_exit.specs.{Steps.IsOne, declared.exit.Exit.Exit};
+ghost use Rattle.mrt_exit.specs.{AnswerSteps.IsOne, declared.exit.Exit.Exit};
 ghost use Rattle.mrt_cmd.specs.Comes.{AreOfForm, Comes, GivesText, IsRefused, of_words};
 ghost use Rattle.mrt_args.specs.Form.{AsksVerdict};
 ghost use Rattle.flood_verdict.specs.{Alike.IsToldAlike, Says.Says};

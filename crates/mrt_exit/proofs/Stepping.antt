@@ -1,7 +1,7 @@
 -- Steps one after another.
 use Rattle.std.proofs.Common.{◌≡◌, ◌⊎◌, ◌∙◌, Result, Ok, Err, refl, sym, ap, subst, inl, inr}
 use Rattle.std.specs.Result.{IsErrAnd}
-use Rattle.mrt_exit.specs.Steps.{IsAnswer, IsOne, Step, such, ◌▸◌}
+use Rattle.mrt_exit.specs.AnswerSteps.{IsAnswer, IsOne, Step, such, ◌▸◌}
 use Rattle.mrt_exit.specs.declared.exit.Exit.{Exit}
 
 -- a call that hands on an exit answers as the exit says

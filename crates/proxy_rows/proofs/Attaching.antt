@@ -10,7 +10,7 @@ use Rattle.mrt_graph.specs.CertFields.{head_of}
 use Rattle.mrt_graph.specs.Related.{are_unrelated, is_common_block}
 use Rattle.mrt_graph.specs.Topology.{Topology}
 use Rattle.mrt_graph.proofs.AcceptedBlocks.{blocks}
-use Rattle.mrt_graph.proofs.Blocks.{LabelledGraph, Blocks}
+use Rattle.mrt_graph.proofs.Blocks.{Words, Blocks}
 use Rattle.mrt_graph.proofs.Relations.{unrelated_holds, unrelated_tells}
 use Rattle.mrt_graph.proofs.TestFacts.{number_is}
 use Rattle.mrt_graph.proofs.WordsOf.{words_of}
@@ -19,7 +19,7 @@ use Rattle.mrt_graph.specs.AcceptedFor.{IsAcceptedFor}
 use Rattle.proxy_rows.specs.Attachment.{IsAttachment, IsHeadOf}
 
 -- the words of an accepted certificate
-abbrev pub words : (g : Topology) (c : Certificate) → IsAcceptedFor g c → LabelledGraph
+abbrev pub words : (g : Topology) (c : Certificate) → IsAcceptedFor g c → Words
 words g c accepted = words_of g.links accepted.root c
 
 pub blocks_of : (g : Topology) (c : Certificate) (accepted : IsAcceptedFor g c) → Blocks (words g c accepted)

@@ -13,7 +13,7 @@ use Rattle.mrt_graph.specs.Hop.{Hop, color_hop, hop_over}
 use Rattle.mrt_graph.specs.Leads.{leads}
 use Rattle.mrt_graph.specs.Rows.{Rows as RowsOfAll, link_of_color}
 use Rattle.mrt_graph.specs.Topology.{Topology}
-use Rattle.mrt_graph.proofs.Blocks.{LabelledGraph, Blocks, Common, Member, At, Inner, Top, Under, Over}
+use Rattle.mrt_graph.proofs.Blocks.{Words, Blocks, Common, Member, At, Inner, Top, Under, Over}
 use Rattle.mrt_graph.proofs.InBlock.{at_common, at_related, at_stays, at_within, head_outside, no_cycle}
 use Rattle.mrt_graph.proofs.RowFacts.{NearRow, Says, BelowRow, AboveRow}
 use Rattle.proxy_rows.specs.declared.attachment.Attachment.{Attachment}
@@ -37,7 +37,7 @@ link_is links all color t s row hop there takes =
     go (Some v) is = let same : ◌≡◌ {A = Hop} (record { link = link_of_color color row; to = v }) hop = same_Some _ _ is in ap (λ (h : Hop). h.link) same
 
 module _ (g : Topology) (c : Certificate) (at : Attachment) (ground : IsGround g c at) where
-  abbrev w : LabelledGraph
+  abbrev w : Words
   w = words g c ground.accepted
 
   blocks : Blocks w

@@ -16,7 +16,7 @@ use Rattle.mrt_graph.specs.Hop.{Hop, color_hop, hop_over}
 use Rattle.mrt_graph.specs.Leads.{leads}
 use Rattle.mrt_graph.specs.Rows.{Rows, link_of_color}
 use Rattle.mrt_graph.specs.Topology.{Topology}
-use Rattle.mrt_graph.proofs.Blocks.{LabelledGraph, Blocks, At, Top}
+use Rattle.mrt_graph.proofs.Blocks.{Words, Blocks, At, Top}
 use Rattle.mrt_graph.proofs.Bridge.{color_leads}
 use Rattle.mrt_graph.proofs.ColorMoves.{Moving, There, Onward, Passage, Step, passage}
 use Rattle.mrt_graph.proofs.EndsAt.{end_leads}
@@ -70,7 +70,7 @@ pub record Known (g : Topology) (c : Certificate) (at : Attachment) (entries : L
 module _ (g : Topology) (c : Certificate) (at : Attachment) (ground : IsGround g c at) (entries : List ProxyRow)
     (one_each : length entries ≡ length g.ids) (each : (s : ℕ) (row : ProxyRow) → slice_get entries s ≡ Some row → IsProxyRow g c at s row)
     (all : Rows) (are : AreRowsWith g at entries all) where
-  abbrev w : LabelledGraph
+  abbrev w : Words
   w = words g c ground.accepted
 
   blocks : Blocks w

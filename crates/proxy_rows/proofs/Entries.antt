@@ -5,7 +5,7 @@ use Rattle.mrt_graph.specs.declared.link.Element.TheVariants as elements
 use Rattle.mrt_graph.specs.declared.link.Link.{Link}
 use Rattle.mrt_graph.specs.Hop.{Hop}
 use Rattle.mrt_graph.specs.Leads.{leads}
-use Rattle.mrt_graph.proofs.Blocks.{LabelledGraph, Blocks, Member, At, Inner, Top, Below, Here, Up, Related, InOne, Under, Over}
+use Rattle.mrt_graph.proofs.Blocks.{Words, Blocks, Member, At, Inner, Top, Below, Here, Up, Related, InOne, Under, Over}
 use Rattle.mrt_graph.proofs.Hops.{front_round}
 use Rattle.mrt_graph.proofs.Members.{Has}
 use Rattle.mrt_graph.proofs.RowFacts.{Rows, SameHops}
@@ -28,7 +28,7 @@ last_on links s t [] trail = inl trail
 last_on links s t (hop ∷ hops) trail = inr (last_on links hop.to t hops trail.1)
 
 -- m is a member of the block
-module _ (w : LabelledGraph) (b : Blocks w) (m : ℕ) (member : Member w m) where
+module _ (w : Words) (b : Blocks w) (m : ℕ) (member : Member w m) where
   -- where the way from s enters: s is of the block, or its head; else y is outside it, below a member e of it, and the chain
   -- of s meets the block of y; or the chain of s meets no member
   pub data Entry (s : ℕ) : Type 0 where

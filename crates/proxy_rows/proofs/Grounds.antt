@@ -14,7 +14,7 @@ use Rattle.mrt_graph.specs.Leads.{far_node, leads}
 use Rattle.mrt_graph.specs.Rules.{GraphRule}
 use Rattle.mrt_graph.specs.SameGraph.{SameCounts}
 use Rattle.mrt_graph.specs.Topology.{Topology}
-use Rattle.mrt_graph.proofs.Blocks.{LabelledGraph, Blocks, Member, Common, Peers, ToHead, FromHead, At, Inner, Top}
+use Rattle.mrt_graph.proofs.Blocks.{Words, Blocks, Member, Common, Peers, ToHead, FromHead, At, Inner, Top}
 use Rattle.mrt_graph.proofs.ListTests.{there}
 use Rattle.mrt_graph.proofs.RowFacts.{Rows}
 use Rattle.mrt_graph.proofs.RowsHold.{rows_hold}
@@ -41,7 +41,7 @@ link_there g e u v onward = go (slice_get g.links e) refl onward
     go (Some link) is onward' = slice_get_within g.links e link is
 
 module _ (g : Topology) (c : Certificate) (at : Attachment) (ground : IsGround g c at) where
-  abbrev pub w : LabelledGraph
+  abbrev pub w : Words
   w = words g c ground.accepted
 
   pub b : Blocks w

@@ -13,7 +13,7 @@ use Rattle.mrt_graph.specs.HeadsAndBlocks.{closed_unless_one_link, closings}
 use Rattle.mrt_graph.specs.Roles.{is_closing, is_plain, is_sole}
 use Rattle.mrt_graph.specs.Rules.{ClosedRule}
 use Rattle.mrt_graph.specs.Topology.{Topology}
-use Rattle.mrt_graph.proofs.Blocks.{LabelledGraph}
+use Rattle.mrt_graph.proofs.Blocks.{Words}
 use Rattle.mrt_graph.proofs.ListTests.{one_passes, passes_too}
 use Rattle.mrt_graph.proofs.TestFacts.{both_pass, closing_is, role_there, unless}
 use Rattle.proxy_rows.specs.declared.attachment.Attachment.{Attachment}
@@ -74,7 +74,7 @@ one_closing c at e f one of_e e_closing of_f f_closing =
     x.is (closes c at e x e_closing) y.is (closes c at f y f_closing)
 
 module _ (g : Topology) (c : Certificate) (at : Attachment) (ground : IsGround g c at) where
-  abbrev w : LabelledGraph
+  abbrev w : Words
   w = words g c ground.accepted
 
   -- the sixth rule

@@ -16,7 +16,7 @@ use Rattle.mrt_graph.specs.GraphInvariant.{IsTopology}
 use Rattle.mrt_graph.specs.Related.{are_unrelated}
 use Rattle.mrt_graph.specs.Rows.{link_of_color}
 use Rattle.mrt_graph.specs.Topology.{Topology}
-use Rattle.mrt_graph.proofs.Blocks.{LabelledGraph, Common, Peers, ToHead, FromHead, Related, InOne, Under, Over}
+use Rattle.mrt_graph.proofs.Blocks.{Words, Common, Peers, ToHead, FromHead, Related, InOne, Under, Over}
 use Rattle.mrt_graph.proofs.TestFacts.{common_block, less_numbers, unrelated_apart}
 use Rattle.proxy_rows.specs.declared.attachment.Attachment.{Attachment}
 use Rattle.proxy_rows.specs.declared.proxy_row.Out.{Out}
@@ -145,12 +145,12 @@ one_answer g c a b xs ys kept accepted first second =
     (subst (λ (at : Attachment). AreRowsOf g c at xs) same first.rows) second.rows
 
 -- two routers with an attachment are related
-related_too : (w : LabelledGraph) (u v k : ℕ) → Common w u v k → Related w u v
+related_too : (w : Words) (u v k : ℕ) → Common w u v k → Related w u v
 related_too w u v k (Peers same is) = InOne same
 related_too w u v k (ToHead head is) = Under head
 related_too w u v k (FromHead head is) = Over head
 
-related_turned : (w : LabelledGraph) (u v : ℕ) → Related w u v → Related w v u
+related_turned : (w : Words) (u v : ℕ) → Related w u v → Related w v u
 related_turned w u v (InOne same) = InOne (sym same)
 related_turned w u v (Under head) = Over head
 related_turned w u v (Over head) = Under head

@@ -13,7 +13,7 @@ use Rattle.mrt_graph.specs.Hop.{Hop}
 use Rattle.mrt_graph.specs.Leads.{leads}
 use Rattle.mrt_graph.specs.Rows.{link_of_color}
 use Rattle.mrt_graph.specs.Topology.{Topology}
-use Rattle.mrt_graph.proofs.Blocks.{LabelledGraph, Blocks, At, Inner, Top}
+use Rattle.mrt_graph.proofs.Blocks.{Words, Blocks, At, Inner, Top}
 use Rattle.mrt_graph.proofs.Claims.{Good, Way}
 use Rattle.mrt_graph.proofs.NearPairs.{near_claim}
 use Rattle.mrt_graph.proofs.RowFacts.{SameHops}
@@ -41,11 +41,11 @@ begins next t s differ way = go way.hops way.follows
     go (hop ∷ hops) f = (hop, f.1.0)
 
 -- what is known of both colors, of one
-pub way_of : (w : LabelledGraph) (color : Color) (t s : ℕ) → Good w s t → Way (next_of w color t) t s
+pub way_of : (w : Words) (color : Color) (t s : ℕ) → Good w s t → Way (next_of w color t) t s
 way_of w Blue t s ways = ways.blue
 way_of w Red t s ways = ways.red
 
-pub same_hops : (w : LabelledGraph) (color : Color) (x s t : ℕ) → SameHops w x s t → next_of w color s x ≡ next_of w color t x
+pub same_hops : (w : Words) (color : Color) (x s t : ℕ) → SameHops w x s t → next_of w color s x ≡ next_of w color t x
 same_hops w Blue x s t same = same.blue
 same_hops w Red x s t same = same.red
 
@@ -60,7 +60,7 @@ module _ (g : Topology) (c : Certificate) (at : Attachment) (ground : IsGround g
   link_over Red t s row hop row_is is = link_is g.links (row_of c) Red t s row hop row_is is
 
 module _ (g : Topology) (c : Certificate) (at : Attachment) (ground : IsGround g c at) where
-  abbrev w : LabelledGraph
+  abbrev w : Words
   w = words g c ground.accepted
 
   blocks : Blocks w

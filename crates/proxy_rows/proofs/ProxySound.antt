@@ -12,7 +12,7 @@ use Rattle.mrt_graph.specs.Leads.{leads}
 use Rattle.mrt_graph.specs.Rows.{Rows, link_of_color}
 use Rattle.mrt_graph.specs.Sound.{SoundFor}
 use Rattle.mrt_graph.specs.Topology.{Topology}
-use Rattle.mrt_graph.proofs.Blocks.{LabelledGraph, Blocks, Member, At, Inner, Top, Below}
+use Rattle.mrt_graph.proofs.Blocks.{Words, Blocks, Member, At, Inner, Top, Below}
 use Rattle.mrt_graph.proofs.Bridge.{color_leads, sound_for}
 use Rattle.mrt_graph.proofs.Claims.{Good, Way}
 use Rattle.mrt_graph.proofs.Compose.{composed}
@@ -57,7 +57,7 @@ way_alike next other t s same way = record { hops = way.hops; follows = follows_
 module _ (g : Topology) (c : Certificate) (at : Attachment) (ground : IsGround g c at) (entries : List ProxyRow)
     (one_each : length entries ≡ length g.ids) (each : (s : ℕ) (row : ProxyRow) → slice_get entries s ≡ Some row → IsProxyRow g c at s row)
     (all : Rows) (are : AreRowsWith g at entries all) where
-  abbrev w : LabelledGraph
+  abbrev w : Words
   w = words g c ground.accepted
 
   blocks : Blocks w
@@ -129,7 +129,7 @@ module _ (g : Topology) (c : Certificate) (at : Attachment) (ground : IsGround g
           ∙ same_hops w color x e (w.head at.upper) (outside_hops w blocks at.upper m_member (rows g c at ground) x within out e e_within e_same)
 
   -- the words of the graph with the new node, as far as the composition of two parts of a way reads them
-  abbrev with : LabelledGraph
+  abbrev with : Words
   with = record {
     links = links;
     root = w.root;

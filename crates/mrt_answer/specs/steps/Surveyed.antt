@@ -1,6 +1,6 @@
 -- The survey of an island.
 use Rattle.std.specs.Prelude.{ℕ, List}
-use Rattle.mrt_exit.specs.Steps.{Step, such, ◌▸◌}
+use Rattle.mrt_exit.specs.AnswerSteps.{Step, such, ◌▸◌}
 use Rattle.mrt_answer.specs.Input.{Input}
 use Rattle.mrt_answer.specs.Islands.{island_in}
 use Rattle.mrt_answer.specs.Surveyed.{IsSummedUp}

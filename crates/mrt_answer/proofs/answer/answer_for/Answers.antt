@@ -1,5 +1,5 @@
 use Rattle.std.proofs.Common.{◌≡◌, ◌∙◌, ℕ, List, sym, subst}
-use Rattle.mrt_exit.specs.Steps.{◌▸◌}
+use Rattle.mrt_exit.specs.AnswerSteps.{◌▸◌}
 use Rattle.mrt_args.specs.declared.task.Task.TheVariants.{OfRouter}
 use Rattle.mrt_args.specs.Form.{Task}
 use Rattle.mrt_args.specs.Work.{IsWorkFor, Work}

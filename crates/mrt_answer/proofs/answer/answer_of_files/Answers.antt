@@ -1,5 +1,5 @@
 use Rattle.std.proofs.Common.{◌≡◌, ◌∙◌, ℕ, List, Ok, Err, sym, subst}
-use Rattle.mrt_exit.specs.Steps.{IsAnswer}
+use Rattle.mrt_exit.specs.AnswerSteps.{IsAnswer}
 use Rattle.mrt_answer.specs.Forms.{of_task}
 use Rattle.mrt_answer.specs.Reading.{input_of}
 use Rattle.mrt_answer.proofs.TextSteps.{ends_second, handed_on}

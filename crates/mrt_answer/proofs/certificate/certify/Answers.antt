@@ -1,7 +1,7 @@
 use Rattle.mrt_answer.specs.Islands.{island_in}
 use Rattle.mrt_answer.specs.Texts.{IsComputed}
 use Rattle.mrt_answer.proofs.TextSteps.{ends_second}
-use Rattle.mrt_exit.specs.Steps.{such}
+use Rattle.mrt_exit.specs.AnswerSteps.{such}
 use Rattle.mrt_answer.proofs.certificate.certify.Goals as goal
 
 pub returns : goal.returns

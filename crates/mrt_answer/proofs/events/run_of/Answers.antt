@@ -1,7 +1,7 @@
 use Rattle.std.proofs.Common.{subst}
 use Rattle.std.specs.Prelude.{IfOk}
 use Rattle.area_graph.specs.Parts.{AreaParts}
-use Rattle.mrt_exit.specs.Steps.{such}
+use Rattle.mrt_exit.specs.AnswerSteps.{such}
 use Rattle.mrt_answer.specs.Input.{area}
 use Rattle.mrt_answer.specs.Islands.{island_in}
 use Rattle.mrt_answer.specs.Texts.{IsScriptIn}

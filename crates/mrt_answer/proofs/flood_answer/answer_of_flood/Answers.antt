@@ -5,7 +5,7 @@ use Rattle.flood.specs.declared.script.FloodScript.{FloodScript}
 use Rattle.flood.specs.FloodTexts.{IsFloodText}
 use Rattle.flood_verdict.specs.Says.{Says}
 use Rattle.mrt_island.specs.declared.setting.Setting.{Setting}
-use Rattle.mrt_exit.specs.Steps.{IsAnswer, Step, ◌▸◌}
+use Rattle.mrt_exit.specs.AnswerSteps.{IsAnswer, Step, ◌▸◌}
 use Rattle.mrt_args.specs.FileBytes.{FileBytes}
 use Rattle.mrt_args.specs.Work.{flood_bytes}
 use Rattle.mrt_args.proofs.HandedOn.{if_ok}

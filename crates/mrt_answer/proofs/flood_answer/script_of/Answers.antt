@@ -1,6 +1,6 @@
 use Rattle.std.proofs.Common.{◌≡◌, ℕ, List, Err, ap, inl, inr, refl}
 use Rattle.mrt_exit.specs.Faults.{flood_script_exit}
-use Rattle.mrt_exit.specs.Steps.{IsAnswer}
+use Rattle.mrt_exit.specs.AnswerSteps.{IsAnswer}
 use Rattle.text_parts.specs.TextLines.{text_lines}
 use Rattle.flood.specs.FloodScripts.{IsFirstFloodFault}
 use Rattle.flood.specs.declared.script_error.FloodScriptError.{FloodScriptError}

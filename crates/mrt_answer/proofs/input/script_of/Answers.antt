@@ -1,6 +1,6 @@
 use Rattle.std.proofs.Common.{◌≡◌, ℕ, List, Err, ap, inl, inr, refl}
 use Rattle.mrt_exit.specs.Faults.{script_exit}
-use Rattle.mrt_exit.specs.Steps.{IsAnswer}
+use Rattle.mrt_exit.specs.AnswerSteps.{IsAnswer}
 use Rattle.text_parts.specs.TextLines.{text_lines}
 use Rattle.fabric_script.specs.ScriptFaults.{IsFirstScriptFault}
 use Rattle.fabric_script.specs.declared.script_error.ScriptError.{ScriptError}

@@ -2,7 +2,7 @@ use Rattle.std.proofs.lemmas.Option.{slice_get_within}
 use Rattle.mrt_graph.specs.NodeIds.{router as router_node}
 use Rattle.mrt_answer.proofs.Tables.{not_network}
 use Rattle.lfa_alt.specs.LfaText.{IsLfaText}
-use Rattle.mrt_exit.specs.Steps.{such}
+use Rattle.mrt_exit.specs.AnswerSteps.{such}
 use Rattle.mrt_answer.specs.Islands.{place_of}
 use Rattle.mrt_answer.proofs.TextSteps.{ends_second, handed_on, of_bytes}
 use Rattle.mrt_answer.proofs.loop_free.loop_free_in.Goals as goal

@@ -1,7 +1,7 @@
 use Rattle.std.proofs.lemmas.Option.{slice_get_within}
 use Rattle.mrt_graph.specs.NodeIds.{router as router_node}
 use Rattle.order_repair.specs.OrderText.{IsTextFrom}
-use Rattle.mrt_exit.specs.Steps.{such}
+use Rattle.mrt_exit.specs.AnswerSteps.{such}
 use Rattle.mrt_answer.specs.Islands.{own_place}
 use Rattle.mrt_answer.proofs.TextSteps.{ends_second, handed_on, of_bytes}
 use Rattle.mrt_answer.proofs.order.order_in.Goals as goal

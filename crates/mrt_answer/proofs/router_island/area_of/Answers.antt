@@ -1,5 +1,5 @@
 use Rattle.std.proofs.Common.{subst}
-use Rattle.mrt_exit.specs.Steps.{IsAnswer}
+use Rattle.mrt_exit.specs.AnswerSteps.{IsAnswer}
 use Rattle.mrt_answer.specs.Input.{Input}
 use Rattle.mrt_answer.specs.Islands.{area_of}
 use Rattle.mrt_answer.proofs.router_island.area_of.Goals as goal

@@ -1,4 +1,4 @@
-use Rattle.mrt_exit.specs.Steps.{such}
+use Rattle.mrt_exit.specs.AnswerSteps.{such}
 use Rattle.mrt_answer.specs.Islands.{island_in}
 use Rattle.mrt_answer.specs.Surveyed.{IsSummedUp}
 use Rattle.mrt_answer.proofs.TextSteps.{ends_second, of_bytes}

@@ -6,7 +6,7 @@ use Rattle.primary_alt.specs.declared.shortest.Primary.{Primary}
 use Rattle.primary_alt.specs.Primaries.{ArePrimaries}
 use Rattle.mrt_island.specs.declared.island.Island.{Island}
 use Rattle.mrt_args.proofs.HandedOn.{if_ok}
-use Rattle.mrt_exit.specs.Steps.{such, ◌▸◌}
+use Rattle.mrt_exit.specs.AnswerSteps.{such, ◌▸◌}
 use Rattle.mrt_report.specs.TableParts.{table_parts}
 use Rattle.mrt_report.specs.TableText.{IsTableText}
 use Rattle.mrt_answer.specs.Islands.{own_place}

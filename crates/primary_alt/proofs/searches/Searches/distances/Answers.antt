@@ -1,4 +1,4 @@
-use Rattle.std.proofs.Common.{OnOk, length, subst, ap, arith, tt}
+use Rattle.std.proofs.Common.{OnOk, length, subst, ap, arith}
 use Rattle.std.proofs.lemmas.Result.{on_ok_weaker}
 use Rattle.area_graph.specs.Parts.{AreaParts}
 use Rattle.primary_alt.specs.DistancesFrom.{AreDistancesFrom}
