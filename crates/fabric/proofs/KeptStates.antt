@@ -17,7 +17,7 @@ use Rattle.fabric.specs.declared.event.Outcome.TheVariants as outcomes
 use Rattle.fabric_script.specs.declared.entry.Entry.{Entry}
 use Rattle.fabric.specs.declared.packet.Packet.{Packet}
 use Rattle.fabric.specs.declared.packet.State.TheVariants as states
-use Rattle.fabric.proofs.Destinations.{each_pushed, each_set}
+use Rattle.fabric.proofs.EachDestination.{each_pushed, each_set}
 use Rattle.fabric.proofs.LifeSteps.{entering_kept}
 use Rattle.fabric.proofs.PacketChains.{kept_next, next_of}
 

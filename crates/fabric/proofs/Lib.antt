@@ -3,7 +3,7 @@ pub mod ByDestinations
 pub mod ColorHops
 pub mod ColorWays
 pub mod CourseChains
-pub mod Destinations
+pub mod EachDestination
 pub mod Effects
 pub mod EnterOrNot
 pub mod Entered

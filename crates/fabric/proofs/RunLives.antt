@@ -14,7 +14,7 @@ use Rattle.fabric_script.specs.declared.entry.Entry.{Entry}
 use Rattle.fabric.specs.declared.packet.Mode.TheVariants as modes
 use Rattle.fabric.specs.declared.packet.Packet.{Packet}
 use Rattle.fabric.specs.declared.packet.State.TheVariants as states
-use Rattle.fabric.proofs.Destinations.{to_stays}
+use Rattle.fabric.proofs.EachDestination.{to_stays}
 use Rattle.fabric.proofs.Effects.{AfterEnd, Apart, Effect, FailsNow, Handled, Made, effect}
 use Rattle.fabric.proofs.Life.{HasEnded, Life, Lives, OnEntered, OnPrimary, OnSwitched, life_below, life_fails, life_most, most}
 use Rattle.fabric.specs.declared.packet.Loss.{Loss}

@@ -20,7 +20,7 @@ use Rattle.fabric.specs.declared.next_hop.NextHop.{NextHop}
 use Rattle.fabric.specs.declared.packet.Mode.{Mode}
 use Rattle.fabric.specs.declared.packet.Mode.TheVariants as modes
 use Rattle.fabric.specs.declared.packet.Packet.{Packet}
-use Rattle.fabric.proofs.Destinations.{EachTo, each_after}
+use Rattle.fabric.proofs.EachDestination.{EachTo, each_after}
 use Rattle.mrt_graph.specs.Hop.{hop_over}
 use Rattle.mrt_graph.specs.Rows.{Rows, link_of_color}
 use Rattle.mrt_graph.specs.declared.cert.Color.{Color}

@@ -87,6 +87,7 @@ impl<'a, R: RowsOf> Fabric<'a, R> {
           state = start room;
         }) }
     {
+        // what the area and the graph keep is told by reading them
         let _area = area.count();
         let _nodes = g.node_count();
         let packets = Vec::with_capacity(alloc, room as usize)?;

@@ -48,6 +48,7 @@ fn destination(area: &Area, event: &ScriptEvent) -> Option<Spot>
     ensures enters { (t : ℕ) → (result ≡ Some t) ↔ EntersFor area.now t event.now }
     ensures within { IfSome result (λ spot. spot < length area.now.ids) }
 {
+    // what the area keeps is told by reading it
     let _area = area.count();
     match event {
         ScriptEvent::Inject { to, .. } => area.find(*to),

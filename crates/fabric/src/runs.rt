@@ -66,6 +66,7 @@ pub fn trace_text<R: RowsOf>(
     ensures { IfOk result (λ text. IsTraceText
         (parts_with area.now g.now (R.rows rows.now) routes.now) trace.now text.items) }
 {
+    // what the area and the graph keep is told by reading them
     let _area = area.count();
     let _nodes = g.node_count();
     let mut fabric = Fabric::new(alloc, area, g, rows, routes, 1)?;

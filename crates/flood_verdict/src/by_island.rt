@@ -101,8 +101,8 @@ fn verdict_on(same: bool) -> Verdict
     }
 }
 
-/// The certificate of a router's island in a database, the rows of which are not found yet; none where the database tells
-/// nothing of the router.
+/// The certificate of a router's island in a database, the rows of which are not found yet; none where the database has no
+/// island of the router (it is not there, the area is too large, or two LSAs contradict each other).
 fn found(
     alloc: Global,
     database: &SharedLsdb,

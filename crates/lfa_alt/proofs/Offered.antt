@@ -1,7 +1,7 @@
 -- What a path offers for a destination: what the table gives is the candidate that the path is, if it is loop-free.
 use Rattle.std.proofs.Common.{◌≡◌, ◌≢◌, ◌<◌, ◌+◌, ◌==◌, ◌∙◌, ℕ, not, List, Option, Some, None, length, slice_get, get_or, inl, inr, refl, sym, ap, subst, arith}
 use Rattle.std.specs.Prelude.{◌↔◌, IsTrue}
-use Rattle.std.proofs.lemmas.Bool.{both_paths, cases_Bool, cases_eq, eq-eqb, lt-ltb, ltb-true, ne_eqb}
+use Rattle.std.proofs.lemmas.Bool.{both_ways, cases_Bool, cases_eq, eq-eqb, lt-ltb, ltb-true, ne_eqb}
 use Rattle.std.proofs.lemmas.Bool.Decides.{Decides-and, Decides-eqb, Decides-like, Decides-not, same_from_decides}
 use Rattle.std.proofs.lemmas.Option.{same_Some, slice_get-get_or}
 use Rattle.area_graph.specs.declared.area_types.Arc.{Arc}
@@ -71,7 +71,7 @@ module _ (area : AreaParts) (s t : ℕ) (path : NeighbourPath) (destination : De
 
     pub offer_is : (choice : FreeCandidate) → (offer path destination t (Some rest) out through ≡ Some choice) ↔ Offers area s t (Some destination) path choice
     offer_is choice = elim (cases_Bool (may_serve path destination t rest out)) [
-      | inr not ↦ rw not (λ same. cc, λ offers. absurd (both_paths _ not (may_serve_is.1 (offers.0, (offers.1, offers.2.loop_free)))))
+      | inr not ↦ rw not (λ same. cc, λ offers. absurd (both_ways _ not (may_serve_is.1 (offers.0, (offers.1, offers.2.loop_free)))))
       | inl serving ↦
           let fits = may_serve_is.0 serving in
           let node = protects destination t rest through in

@@ -12,8 +12,8 @@ use crate::labelled_graph::LabelledGraph;
 use crate::marking::is_member;
 use mrt_graph::NodeNo;
 
-/// Where a node stands to the block of two routers: it is its head, or a member on Low or on High, or another one, or none
-/// of these.
+/// Where a node stands to the block of two routers: it is its head, a member on Low, a member on High, another member, or
+/// not in it.
 #[derive(Clone, Copy)]
 pub enum Standing {
     Head,

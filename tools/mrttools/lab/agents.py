@@ -284,8 +284,9 @@ def without(agents: Agents) -> list[Pinged]:
 
 
 def run(agents: Agents, bare: list[Pinged], say: Callable[[str], None], record: str) -> bool:
-    """All changes, one after another; whether each router had the table that tools/fib has, and those whose daemons
-    died what was asked, whether a batch that failed was undone, and no ping was lost by an agent."""
+    """Makes all changes, one after another. True where each router had the table that tools/fib has, those whose daemons
+    died kept it or took it away as they were told (LEFT, STRICT), a batch that failed was undone, and no ping was lost by
+    an agent."""
     begin(agents, agents.network.plan.routers)
     say(f"agent: {len(agents.running)} routers have the tables of tools/fib: {total(agents):,} routes and rules")
     undone = refused(agents, 1)

@@ -185,16 +185,15 @@ class Down(NamedTuple):
 
 
 class Lost(NamedTuple):
-    """A lost ping: when it was seen last, its ends, whether the answer was lost, the router that had it, the color that it
-    was on, and by what it was lost."""
+    """A lost ping."""
 
-    at: float
+    at: float  # when it was seen last
     source: int
     target: int
-    is_reply: bool
-    router: int
-    color: int | None
-    cause: str
+    is_reply: bool  # whether the answer was lost
+    router: int  # which had it last
+    color: int | None  # that it was on
+    cause: str  # by what it was lost
     why: str
 
 

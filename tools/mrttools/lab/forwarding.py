@@ -24,19 +24,17 @@ NETWORKS = ("network", "failures", "part no pair", "pings", "lost: with", "witho
 
 
 class Row(NamedTuple):
-    """What one failure cost with repairs and without: the pings sent, and lost; the pairs that `mrt` says are parted;
-    the pairs that lost more than was in flight and are not, or no more and are; the packets that took a repair; what the
-    kernels counted; and how often it was tried again."""
+    """What one failure cost."""
 
     failure: Failure
-    sent: int
-    lost: int
-    without: int
-    parted: set[Pair]
-    wrong: set[Pair]
-    taken: int
-    kernel: tuple[int, int, int]
-    again: int = 0
+    sent: int  # pings
+    lost: int  # of them, with repairs
+    without: int  # of them, without repairs
+    parted: set[Pair]  # by what `mrt` says
+    wrong: set[Pair]  # parted but lost no more than was in flight, or lost more but not parted
+    taken: int  # packets that took a repair
+    kernel: tuple[int, int, int]  # what the kernels counted
+    again: int = 0  # how often it was tried again
 
     @property
     def cells(self) -> tuple[str, ...]:

@@ -71,8 +71,8 @@ class Parting:
 
 
 class WhyNot:
-    """Why there is no color though there is a way: a way with the fewest links that take no part, past what has failed,
-    and what takes no part on it."""
+    """Why there is no color though there is a way past a failure: each such way has links or routers that are in no island
+    (ineligible, `no-mrt`, or of metric 65,535). Finds a way with the fewest of these, and names them."""
 
     def __init__(self, graph: Graph, islands: Islands) -> None:
         self.graph = graph

@@ -1,4 +1,5 @@
 use Rattle.std.proofs.Common.{refl}
+use Rattle.std.proofs.lemmas.Result.{IfOk-weaker}
 use Rattle.mrt_report.proofs.table.push_table_line.Goals as goal
 
 pub table_row-row-requires : goal.table_row-row-requires
@@ -13,8 +14,11 @@ table_row-row-requires g c = record {
 }
 
 pub returns-clause-added : goal.returns-clause-added
-returns-clause-added g c = record {
-  part = _;
-  is = record { row = c.table_row-row.result; row_is = c.table_row-row.ensures; spelled = refl };
-  added = c.push_row.ensures.added;
-}
+returns-clause-added g c =
+    IfOk-weaker _ _ _
+    (λ _ added. record {
+      part = _;
+      is = record { row = c.table_row-row.result; row_is = c.table_row-row.ensures; spelled = refl };
+      added = added;
+    })
+    c.push_row.ensures.added

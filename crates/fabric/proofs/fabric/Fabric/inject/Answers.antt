@@ -2,7 +2,7 @@ use Rattle.std.proofs.Common.{◌≡◌, ◌<◌, ◌∙◌, ◌++◌, [], ◌�
 use Rattle.std.proofs.lemmas.Bool.{le-ltb}
 use Rattle.fabric.specs.Served.{IsServedBy}
 use Rattle.fabric.specs.steps.Viewed.{viewed}
-use Rattle.fabric.proofs.Destinations.{each_entered}
+use Rattle.fabric.proofs.EachDestination.{each_entered}
 use Rattle.fabric.proofs.KeptStates.{kept_entered, step_entered}
 use Rattle.fabric.proofs.fabric.Fabric.inject.Goals as goal
 

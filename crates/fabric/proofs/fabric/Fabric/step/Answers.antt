@@ -5,7 +5,7 @@ use Rattle.fabric.specs.OutcomeText.{IsTellable}
 use Rattle.fabric.specs.Served.{IsServedBy}
 use Rattle.fabric.specs.Viewed.{FabricSeen}
 use Rattle.fabric.specs.steps.Viewed.{viewed}
-use Rattle.fabric.proofs.Destinations.{each_handled}
+use Rattle.fabric.proofs.EachDestination.{each_handled}
 use Rattle.fabric.proofs.KeptStates.{kept_handled}
 use Rattle.fabric.proofs.PacketChains.{outcome_tellable}
 use Rattle.fabric.proofs.fabric.Fabric.step.Goals as goal
