@@ -14,7 +14,7 @@ use Rattle.area_graph.specs.Entries.{Entry}
 abbrev pub same_entry : Entry → Entry → Bool
 same_entry entry other = same_id other.from entry.from && (other.place == entry.place)
 
--- the arcs from u to v, in order
+-- the arcs from u to v, in the order in which they are paired: by link data, then by place
 abbrev pub parallels : List Entry → NodeId → NodeId → List Entry
 parallels arcs u v = filter (λ arc. same_id arc.from u && same_id arc.to v) arcs
 

@@ -1,4 +1,4 @@
--- What a tile is aimed by, and what it knows then.
+-- What a tile is aimed by.
 use Rattle.std.specs.Prelude.{◌≡◌, ◌*◌, ℕ, length}
 use Rattle.mrt_graph.specs.GraphInvariant.{IsTopology}
 use Rattle.link_direction.specs.Directions.{Directions}

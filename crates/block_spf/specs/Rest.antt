@@ -1,4 +1,4 @@
--- What is left of a path after its first end, and its least cost.
+-- The cost that stands for none.
 use Rattle.std.specs.Prelude.{ℕ}
 
 -- a cost that stands for none: no path has it

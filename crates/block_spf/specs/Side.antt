@@ -1,4 +1,4 @@
--- Least costs side by side: one for each of some nodes.
+-- The hop that a least cost makes.
 use Rattle.std.specs.Prelude.{ℕ, Option, Some, None, nat_lt, if◌then◌else◌}
 use Rattle.block_spf.specs.declared.reach.Hop.{Hop}
 use Rattle.block_spf.specs.Rest.{far}

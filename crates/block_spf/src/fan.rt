@@ -187,7 +187,7 @@ fn begin(opening: &Opening, width: usize, costs: &mut [u32], places: &mut [u16],
     }
 }
 
-/// Gives each node its turn, where a way to it is known.
+/// Gives each node its turn, where a path to it is known.
 fn sweep(
     opening: &Opening,
     stops: &[bool],
@@ -213,7 +213,7 @@ fn sweep(
     }
 }
 
-/// Whether a way to x is known, from one of so many sources. Most sources reach the nodes of few blocks alone.
+/// Whether a path to x is known, from one of so many sources. Most sources reach the nodes of few blocks alone.
 fn is_reached(x: NodeNo, width: usize, costs: &[u32]) -> bool
     requires { x * width + width ≤ length costs.now }
     ensures { result ≡ false → (j : ℕ) → j < width → far ≤ slice_index costs.now (x * width + j) }

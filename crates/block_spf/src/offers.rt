@@ -1,4 +1,4 @@
-//! Offers of ways from some sources side by side.
+//! Offers of paths from some sources side by side.
 
 ghost use Rattle.std.specs.Prelude.{◌≡◌, ◌<◌, ◌≤◌, ◌+◌, ◌*◌, ◌↔◌, IsTrue, length};
 ghost use Rattle.mrt_graph.specs.declared.cert.Role.TheVariants.{Sole};
@@ -15,14 +15,14 @@ use mrt_graph::{NodeNo, Role, Way};
 /// Stands for no end: no node has so many.
 pub const NO_PLACE: u16 = 65535;
 
-/// Whether a way comes before another one.
+/// Whether a path comes before another one.
 fn comes_before(cost: u32, place: u16, old: u32, old_place: u16) -> bool
     ensures { result ≡ comes_before (known cost place) (known old old_place) }
 {
     cost < old || (cost == old && place < old_place)
 }
 
-/// Offers a way: it is kept where it comes first.
+/// Offers a path: it is kept where it comes first.
 fn offer_at(at: usize, cost: u32, place: u16, costs: &mut [u32], places: &mut [u16])
     requires at { at < length costs.old }
     requires lanes { AreLanes costs.old places.old }
@@ -35,7 +35,7 @@ fn offer_at(at: usize, cost: u32, place: u16, costs: &mut [u32], places: &mut [u
     places[at] = either(first, place, places[at]);
 }
 
-/// Offers the ways over an end with this metric, at the places from `at` on, by what is known where the end leads from.
+/// Offers the paths over an end with this metric, at the places from `at` on, by what is known where the end leads from.
 fn offer_over(
     from_costs: &[u32],
     from_places: &[u16],

@@ -1,4 +1,4 @@
-//! The least ways from nodes over their ends, to some nodes side by side.
+//! The least paths from nodes over their ends, to some nodes side by side.
 
 ghost use Rattle.std.specs.Prelude.{◌≡◌, ◌≢◌, ◌<◌, ◌≤◌, ◌+◌, ◌*◌, ◌↔◌, IsTrue, length, slice_index, true};
 ghost use Rattle.mrt_graph.specs.declared.cert.Role.TheVariants.{Sole};
@@ -14,7 +14,7 @@ use crate::offers::{is_sole, leads_on};
 use crate::side::{FAR, Leg, NO_LINK, either, take_last, take_onward, take_over};
 use mrt_graph::{LinkNo, NodeNo, Role};
 
-/// Takes the least ways from x over its ends in the wanted blocks to the aims side by side, of which each block has its own.
+/// Takes the least paths from x over its ends in the wanted blocks to the aims side by side, of which each block has its own.
 pub fn take_paths(
     aiming: &Aiming,
     x: NodeNo,
@@ -51,7 +51,7 @@ pub fn take_paths(
     }
 }
 
-/// Whether ways are taken over a link of this role in this block: the link is not sole, the block is marked, and where ways
+/// Whether paths are taken over a link of this role in this block: the link is not sole, the block is marked, and where paths
 /// are kept to block `kept`, it is that one.
 fn takes_link(role: Role, marked: bool, block: NodeNo, kept: NodeNo, own: bool) -> bool
     ensures { IsTrue result ↔ ((role ≢ Sole) × (marked ≡ true) × (own ≡ true → block ≡ kept)) }
@@ -59,7 +59,7 @@ fn takes_link(role: Role, marked: bool, block: NodeNo, kept: NodeNo, own: bool) 
     marked && !is_sole(role) && (!own || block == kept)
 }
 
-/// Takes the ways over one end. None leads on from the block's head.
+/// Takes the paths over one end. None leads on from the block's head.
 fn take_leg(aiming: &Aiming, leg: &Leg, all: &[u32], costs: &mut [u32], links: &mut [LinkNo])
     requires aiming { IsAiming aiming.now (length costs.old) }
     requires node { leg.now.end.to < length aiming.now.graph.now.ids }
@@ -89,7 +89,7 @@ fn take_leg(aiming: &Aiming, leg: &Leg, all: &[u32], costs: &mut [u32], links: &
 }
 
 /// Takes the least costs of each node, in its own block where that is wanted, to the aims of its block, side by side, and the
-/// links by which it begins the ways of these costs.
+/// links by which it begins the paths of these costs.
 ///
 /// The turns are those of the other direction, so whatever a node leads to has its turn before it.
 pub fn take_own_paths(

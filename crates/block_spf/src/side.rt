@@ -13,7 +13,7 @@ pub const FAR: u32 = 2147483648;
 /// Stands for no link: no graph has so many.
 pub const NO_LINK: u16 = 65535;
 
-/// An end of a node over which ways lead on, and the block of its link; and whether the ways keep to the node's own block.
+/// An end of a node over which paths lead on, and the block of its link; and whether the paths keep to the node's own block.
 #[derive(Clone, Copy)]
 pub struct Leg {
     pub node: NodeNo,
@@ -22,7 +22,7 @@ pub struct Leg {
     pub end: End,
 }
 
-/// Takes the ways over an end to the nodes side by side, where they are less: `left` has the costs after the end.
+/// Takes the paths over an end to the nodes side by side, where they are less: `left` has the costs after the end.
 pub fn take_over(left: &[u32], metric: u16, link: LinkNo, costs: &mut [u32], links: &mut [LinkNo])
     requires one_left_each { length left.now ≡ length costs.old }
     requires one_link_each { length links.old ≡ length costs.old }
@@ -34,7 +34,7 @@ pub fn take_over(left: &[u32], metric: u16, link: LinkNo, costs: &mut [u32], lin
     }
 }
 
-/// Takes the ways over an end like this, but for those whose aim is the end's own node: the way back is none.
+/// Takes the paths over an end like this, but for those whose aim is the end's own node: the way back is none.
 pub fn take_onward(
     leg: &Leg,
     aims: &[NodeNo],
@@ -57,7 +57,7 @@ pub fn take_onward(
     }
 }
 
-/// Takes the ways that end with this end, where they are less: nothing is left where it leads to the aim.
+/// Takes the paths that end with this end, where they are less: nothing is left where it leads to the aim.
 pub fn take_last(end: End, aims: &[NodeNo], costs: &mut [u32], links: &mut [LinkNo])
     requires one_aim_each { length aims.now ≡ length costs.old }
     requires one_link_each { length links.old ≡ length costs.old }
@@ -69,7 +69,7 @@ pub fn take_last(end: End, aims: &[NodeNo], costs: &mut [u32], links: &mut [Link
     }
 }
 
-/// Takes a way by this cost at one place, where it is less.
+/// Takes a path by this cost at one place, where it is less.
 fn take_at(j: usize, cost: u32, link: LinkNo, costs: &mut [u32], links: &mut [LinkNo])
     requires place { j < length costs.old }
     requires one_link_each { length links.old ≡ length costs.old }

@@ -1,4 +1,4 @@
-//! A table of a number for each key: of all that are told of a key, the last one.
+//! A table of a number for each key: of those set for a key, the last one.
 
 ghost use Rattle.std.specs.Prelude.{◌≡◌, Some};
 ghost use Rattle.cert_checker.specs.steps.KeyTable.{has_number};

@@ -107,7 +107,7 @@ fn judge_upper(
     }
 }
 
-/// Goes on with the rows of `s` for these nodes; for all nodes, where none are told.
+/// Goes on with the rows of `s` for these nodes; for all nodes, where there is no list.
 fn judge_some(
     g: &Graph,
     c: &Cert,
@@ -137,7 +137,7 @@ fn judge_some(
     last.kept
 }
 
-/// How many nodes are told, of so many; all, where none are.
+/// How many nodes there are to judge rows for: those listed, or all.
 fn target_count(nodes: u16, targets: Option<&[NodeNo]>) -> usize
     ensures { result ≡ length (targets_of nodes (option_map (λ told. told.now) targets.entry)) }
 {

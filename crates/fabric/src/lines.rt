@@ -15,7 +15,7 @@ use text_parts::{ShortText, push_node_text, put};
 
 /// The line that tells an answer. An area node in the answer is in range.
 ///
-/// Tests call it; `trace` and `fabric` put the same line at the end of a text.
+/// For callers of the crate; `trace` and `fabric` put the same line at the end of a text.
 pub fn outcome_line(
     alloc: Global,
     area: &Area,

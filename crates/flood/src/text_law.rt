@@ -30,7 +30,7 @@ pub fn one_text_each<C: Compare>()
 {}
 
 /// A law: the first newest instances of two settled lists that hold the same LSAs, which may stand in a database, give one
-/// area. With the laws of `flood` this speaks of databases after deliveries.
+/// area. With those of `run_law.rt` this speaks of databases after deliveries.
 pub fn newest_of_the_same_give_one_area()
     ensures { (its others : List Lsa) → AreNewestOfTheSame its others → area_of its ≡ area_of others }
 {}

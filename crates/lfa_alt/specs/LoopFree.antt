@@ -12,7 +12,7 @@ use Rattle.lfa_alt.specs.declared.alternate.FreeCandidate.{FreeCandidate}
 use Rattle.lfa_alt.specs.declared.alternate.Lfa.{Lfa}
 use Rattle.lfa_alt.specs.Candidates.{Candidate, IsCandidate}
 
--- dist(n, t) < dist(n, x) + dist(x, t): n has a distance to t, and it is less than the path over x. Where no walk leads, a
+-- dist(n, t) < dist(n, x) + dist(x, t): n has a distance to t, and it is less than the cost of the path over x. Where no walk leads, a
 -- distance counts as greater than any number
 pub record IsNearerThanOver (arcs : List Arc) (x n t : ℕ) : Type 0 where
   pub rest : ℕ

@@ -42,9 +42,9 @@ use primary_alt::one_primary_each;
 use proxy_rows::{one_proxy_text, proxy_rows_or_no_common_block};
 
 /// Laws: of the bytes of the files of a task, and of those of a form over packets, there comes one text at most, or one
-/// exit, and never both; and of a network that is made from a number there is one survey. So whatever is made of an area:
-/// a database and a profile are read in one way at most, a router has one island, its area and the nodes of this island
-/// are in order, and one certificate is computed for it, of a graph.
+/// exit, and never both; and of a network that is made from a number there is one survey. So it is of what is made of an
+/// area: a database and a profile are read in one way at most, a router has one island at most, whose area and nodes are in
+/// order and whose graph is one, and one certificate at most is computed for it.
 pub fn one_answer_comes()
     ensures task { (task : Task) (bytes : FileBytes) → IsOne (over task bytes) }
     ensures flood { (bytes : FileBytes) → IsOne (flooded bytes) }

@@ -1,4 +1,4 @@
-//! The forms of the words.
+//! Words, read as a form.
 
 ghost use Rattle.std.specs.Prelude.{◌≡◌, IfSome};
 ghost use Rattle.mrt_args.specs.Form.{IsNetworkSize, IsWithin, file_form_of, file_task_in, flood_of, form_of, lfa_of, name_in, nodes_in, other_form_of, profile_name, proxy_in, router_in, router_task_in, survey_of, task_form_of, task_in, trace_in, trace_of};

@@ -12,7 +12,7 @@ use mrt_report::{one_row_each, one_table_each};
 use primary_alt::one_primary_each;
 use proxy_rows::{one_list_of_proxy_rows, proxy_rows_or_no_common_block};
 
-/// Laws: at most one thing comes of each call over an area, whatever the words are: what it gives, or an exit, and never
+/// Laws: at most one thing comes of each call over an area, whatever it is given: what it gives, or an exit, and never
 /// both. (Of the words of the top call there comes one: `mrt_cmd::one_exit_comes`.)
 pub fn one_answer_each()
     ensures shape { (area : MrtArea) (router : ℕ) → IsOne (shape_in area router) }

@@ -5,7 +5,8 @@ use Rattle.std.proofs.lemmas.Option.{get_or_from_slice_get}
 use Rattle.mrt_graph.specs.Certificate.{Certificate}
 use Rattle.mrt_graph.specs.steps.Groups.{AreRising}
 use Rattle.mrt_graph.specs.Groups.{count_below, has_key, with_key}
-use Rattle.mrt_graph.specs.Kin.{IsUpperNumber, Kin, is_child, is_upper, kin_below, kin_of}
+use Rattle.mrt_graph.specs.Kin.{Kin, is_child, is_upper, kin_of}
+use Rattle.mrt_graph.specs.steps.Kin.{IsUpperNumber, kin_below}
 use Rattle.mrt_graph.specs.Related.{are_unrelated}
 use Rattle.mrt_graph.proofs.Counts.{count_lower}
 use Rattle.mrt_graph.proofs.Grouping.{passing_rise}

@@ -12,8 +12,8 @@ use Rattle.mrt_graph.specs.declared.cert.CertNode.{CertNode}
 use Rattle.mrt_graph.specs.BothThere.{are_equal}
 use Rattle.mrt_graph.specs.Certificate.{Certificate, IsCertNode}
 use Rattle.mrt_graph.specs.Groups.{AreKeys, count_below, with_key}
-use Rattle.mrt_graph.specs.steps.Kin.{AreStarts}
-use Rattle.mrt_graph.specs.Kin.{IsUpper, Kin, is_child, is_member, is_upper, kin_before, kin_below, kin_of, outer_head}
+use Rattle.mrt_graph.specs.steps.Kin.{AreStarts, is_member, kin_before, kin_below}
+use Rattle.mrt_graph.specs.Kin.{IsUpper, Kin, is_child, is_upper, kin_of, outer_head}
 use Rattle.mrt_graph.specs.Related.{are_unrelated}
 use Rattle.mrt_graph.specs.RelatedPairs.{place_of_near, related_pairs, related_to, set_marks}
 use Rattle.mrt_graph.specs.RowPlace.{place_of_row}

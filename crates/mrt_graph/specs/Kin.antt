@@ -1,9 +1,9 @@
 -- Nodes' relatives by number: the members of a node's block, its head and its children, these two in other blocks.
-use Rattle.std.specs.Prelude.{◌≡◌, ◌==◌, ◌<◌, ◌+◌, ◌-◌, ◌&&◌, ℕ, zero, suc, Bool, false, List, Option, Some, None, nat_lt, not, length, map, slice_get, slice_index_or, if◌then◌else◌}
+use Rattle.std.specs.Prelude.{◌≡◌, ◌==◌, ◌<◌, ◌&&◌, ℕ, Bool, false, List, Option, Some, None, not, length, map, slice_get, if◌then◌else◌}
 use Rattle.std.specs.Option.{option_map}
 use Rattle.mrt_graph.specs.declared.cert.CertNode.{CertNode}
 use Rattle.mrt_graph.specs.BothThere.{are_equal}
-use Rattle.mrt_graph.specs.Groups.{count_below, has_key}
+use Rattle.mrt_graph.specs.Groups.{has_key}
 
 -- of each node its block; and its head where that lies in another block, else the number of nodes, as there is none
 pub record Kin : Type 0 where
@@ -19,10 +19,6 @@ outer_head nodes node =
 abbrev pub kin_of : List CertNode → Kin
 kin_of nodes = record { blocks = map (λ node. node.block) nodes; heads = map (outer_head nodes) nodes }
 
--- by the blocks of nodes: v lies in the block of s
-abbrev pub is_member : List ℕ → ℕ → ℕ → Bool
-is_member blocks s v = has_key blocks (slice_index_or blocks s 0) v
-
 -- by the heads that lie in other blocks: that of v is s
 abbrev pub is_child : List ℕ → ℕ → ℕ → Bool
 is_child heads s v = has_key heads s v
@@ -35,16 +31,3 @@ is_upper heads s v = is_child heads v s && not (is_child heads s v)
 abbrev pub IsUpper : List ℕ → ℕ → Option ℕ → Type 0
 IsUpper heads s (Some head) = (head < length heads) × ((v : ℕ) → v < length heads → is_upper heads s v ≡ (v == head))
 IsUpper heads s None = (v : ℕ) → v < length heads → is_upper heads s v ≡ false
-
--- of the nodes there is one such v before t where a number is below t, and else none
-abbrev pub IsUpperNumber : List ℕ → ℕ → ℕ → Type 0
-IsUpperNumber heads s number = (t : ℕ) → t < length heads → count_below (is_upper heads s) t ≡ (if nat_lt number t then 1 else 0)
-
--- how many nodes below t are related to s, itself among them where it is one
-abbrev pub kin_below : Kin → ℕ → ℕ → ℕ
-kin_below kin s t = count_below (is_member kin.blocks s) t + (count_below (is_upper kin.heads s) t + count_below (is_child kin.heads s) t)
-
--- how many pairs of related nodes there are whose source is below s
-abbrev pub kin_before : Kin → ℕ → ℕ
-kin_before kin zero = 0
-kin_before kin (suc s) = kin_before kin s + (kin_below kin s (length kin.blocks) - 1)

@@ -2,7 +2,6 @@ pub mod Accepted
 pub mod AcceptedFor
 pub mod Alternate
 pub mod Apart
-pub mod BlockPlaces
 pub mod BothThere
 pub mod CertFields
 pub mod Certificate

@@ -1,4 +1,4 @@
--- Rules seven to fourteen: what each row keeps, by its tag. The two links of a row of s for t that is not Carried, blue and
+-- What the rules on rows ask of nodes and links, and the fourteenth rule.
 use Rattle.std.specs.Prelude.{◌==◌, ◌&&◌, ◌||◌, ℕ, Bool, false, Some}
 use Rattle.std.specs.Option.{option_map_or}
 use Rattle.mrt_graph.specs.declared.cert.Row.{Row}
@@ -11,7 +11,6 @@ use Rattle.mrt_graph.specs.Related.{is_common_block}
 use Rattle.mrt_graph.specs.Roles.{is_plain, is_closing}
 use Rattle.mrt_graph.specs.Tags.{same_tag}
 
--- red, lead from s to the nodes blue_to and red_to.
 -- v has a greater order than s, and its row for t has this tag
 abbrev pub higher_tagged : Certificate → ℕ → ℕ → Tag → ℕ → Bool
 higher_tagged c s t tag v = is_less (order_of c s) (order_of c v) && tagged c v t tag

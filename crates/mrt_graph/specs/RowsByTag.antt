@@ -53,8 +53,8 @@ pub record AboveRow (c : Certificate) (s t : ℕ) (row : Row) (blue_to red_to : 
   pub red : (red_to ≡ t) ⊎ IsTrue (lower_tagged c s t Above red_to)
 
 -- Unordered: s and t have one block; blue goes to a node of smaller order whose row for t is Unordered or Below, or is plain and goes
--- to the head of s; red goes to a node of greater order whose row for t is Unordered or Above; t has no row for itself, so neither
--- goes straight to t
+-- to the head of s; red goes to a node of greater order whose row for t is Unordered or Above; t has no row for itself, so where
+-- rule three holds neither goes straight to t
 pub record UnorderedRow (c : Certificate) (s t : ℕ) (row : Row) (blue_to red_to : ℕ) : Type 0 where
   pub block : IsTrue (are_equal (block_of c s) (block_of c t))
   pub blue : (IsTrue (lower_tagged c s t Unordered blue_to) ⊎ IsTrue (lower_tagged c s t Below blue_to))

@@ -1,3 +1,4 @@
+pub mod BlockPlaces
 pub mod EndRows
 pub mod FoldedRows
 pub mod GraphInvariant

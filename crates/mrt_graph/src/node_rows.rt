@@ -2,7 +2,7 @@
 
 ghost use Rattle.std.specs.Prelude.{◌≡◌, ◌≢◌, ◌<◌, ◌-◌, ◌*◌, IfSome, None, Some, length};
 ghost use Rattle.std.specs.Option.{option_map};
-ghost use Rattle.mrt_graph.specs.BlockPlaces.{AreBlockPlaces};
+ghost use Rattle.mrt_graph.specs.steps.BlockPlaces.{AreBlockPlaces};
 ghost use Rattle.mrt_graph.specs.Certificate.{row_of};
 ghost use Rattle.mrt_graph.specs.steps.NodeRows.{AreHeldRows, ArePlacesOf};
 

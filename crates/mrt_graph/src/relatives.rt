@@ -2,10 +2,10 @@
 
 ghost use Rattle.std.specs.Prelude.{◌≡◌, ◌≢◌, ◌<◌, ◌≤◌, ◌-◌, IfOk, IfSome, Some, if◌then◌else◌, length, nat_lt, not, slice_get, slice_index_or};
 ghost use Rattle.std.specs.List.{AllByRecursion};
-ghost use Rattle.mrt_graph.specs.{BlockPlaces.AreBlockPlaces, Certificate.Certificate, Certificate.IsCertNode};
+ghost use Rattle.mrt_graph.specs.{steps.BlockPlaces.AreBlockPlaces, Certificate.Certificate, Certificate.IsCertNode};
 ghost use Rattle.mrt_graph.specs.Groups.{count_below, has_key, with_key};
-ghost use Rattle.mrt_graph.specs.steps.Kin.{AreStarts};
-ghost use Rattle.mrt_graph.specs.Kin.{IsUpper, IsUpperNumber, Kin, is_upper, kin_below, kin_of, outer_head};
+ghost use Rattle.mrt_graph.specs.steps.Kin.{AreStarts, IsUpperNumber, kin_below};
+ghost use Rattle.mrt_graph.specs.Kin.{IsUpper, Kin, is_upper, kin_of, outer_head};
 ghost use Rattle.mrt_graph.specs.{Related.are_unrelated, RelatedPairs.place_of_near, RelatedPairs.related_pairs, RelatedPairs.set_marks};
 
 use crate::cert::CertNode;
@@ -76,7 +76,7 @@ impl Relatives {
     }
 
     /// Where the rows of `s` for the nodes of its block stand.
-    pub fn block_places(&self, s: NodeNo) -> BlockPlaces<'_>
+    pub(crate) fn block_places(&self, s: NodeNo) -> BlockPlaces<'_>
         requires { s < length self.now.blocks }
         ensures places { AreBlockPlaces result }
         ensures index { result.relatives.now ≡ self.now }
@@ -155,7 +155,7 @@ pub struct BlockPlaces<'a> {
 
 impl BlockPlaces<'_> {
     ghost use Rattle.std.specs.Prelude.{◌≡◌, ◌≢◌, ◌<◌, IfSome, false, length};
-    ghost use Rattle.mrt_graph.specs.{BlockPlaces.AreBlockPlaces, Certificate.Certificate, Groups.count_below, Groups.has_key};
+    ghost use Rattle.mrt_graph.specs.{steps.BlockPlaces.AreBlockPlaces, Certificate.Certificate, Groups.count_below, Groups.has_key};
     ghost use Rattle.mrt_graph.specs.{Kin.kin_of, Related.are_unrelated, RelatedPairs.place_of_near};
 
     /// The place of the node's row for `t`, where that lies in its block; none elsewhere.

@@ -1,4 +1,4 @@
-//! The words of a table.
+//! The texts of a row's tag and of its colors.
 
 ghost use Rattle.std.specs.Prelude.{◌≡◌, ◌≤◌, length};
 ghost use Rattle.mrt_report.specs.Cells.{letter_text, tag_text};

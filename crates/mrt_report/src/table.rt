@@ -45,7 +45,7 @@ pub fn table_head(
 /// repairs it after which failure. It is made by the rows of all nodes for this one, wherever they stand, of which it reads
 /// those on the two walks, no more than are needed.
 ///
-/// Tests call it; `table` puts the same line at the end of a text.
+/// For callers of the crate; `table` puts the same line at the end of a text.
 ///
 /// It follows each color's walk at most once, so it takes time in proportion to the nodes and the router's interfaces at
 /// worst, and no memory beside the line.

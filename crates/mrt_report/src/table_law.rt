@@ -35,7 +35,7 @@ pub fn one_table_each()
     one_alternate_each();
 }
 
-/// Laws: on each destination a router has one row at most, and over each link a node has one hop.
+/// Laws: on each destination a router has one row at most, and over each link a node has one hop at most.
 pub fn one_row_each()
     ensures row { (parts : TableParts) (to : ℕ) (row other : TableRow) → IsArea parts.area → IsTopology parts.island
         → IsTableRow parts to row → IsTableRow parts to other → row ≡ other }

@@ -1,4 +1,4 @@
--- The rows of nodes that have a block in common, and the first links that they are made from.
+-- Nodes that have a block in common, and the first links that their rows are made from.
 use Rattle.std.specs.Prelude.{◌≡◌, ◌<◌, ℕ, Bool, true, List, Some, length, slice_get}
 use Rattle.mrt_graph.specs.Topology.{Topology}
 use Rattle.link_direction.specs.Directions.{Directions}

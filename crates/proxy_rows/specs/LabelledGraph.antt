@@ -1,4 +1,4 @@
--- What proxy rows are made from: words and rows of a certificate, wherever they stand.
+-- What proxy rows are made from: fields and rows of a certificate, wherever they stand.
 use Rattle.std.specs.Prelude.{ℕ, List, ◌≡◌}
 use Rattle.mrt_graph.specs.Certificate.{Certificate, row_of}
 use Rattle.mrt_graph.specs.Topology.{Topology}
@@ -9,7 +9,7 @@ use Rattle.mrt_graph.specs.declared.cert.CertNode.{CertNode}
 use Rattle.proxy_rows.specs.declared.attachment.Attachment.{Attachment}
 use Rattle.proxy_rows.specs.Attachment.{IsAttachment}
 
--- a certificate that is accepted for the graph, with an attachment of two routers: it has these words on nodes and links,
+-- a certificate that is accepted for the graph, with an attachment of two routers: it has these fields of nodes and links,
 -- and its rows for the head of the attachment are the same as these
 pub record ReadFrom (g : Topology) (nodes : List CertNode) (links : List CertLink) (at : Attachment) (rows : Rows) : Type 0 where
   pub cert : Certificate

@@ -4,7 +4,7 @@ ghost use Rattle.std.specs.Prelude.{◌≡◌, ◌<◌, Some, length, slice_get}
 
 use mrt_graph::{CertLink, CertNode, Graph, LinkNo, NodeNo};
 
-/// A graph, and the words of a certificate on its nodes and links.
+/// A graph, and the fields of a certificate for its nodes and links.
 #[derive(Clone, Copy)]
 pub struct LabelledGraph<'a> {
     pub graph: &'a Graph,

@@ -23,7 +23,7 @@ use text_parts::{push, push_hop, push_node};
 /// The text on a prefix that two routers, `a` and `b`, are attached to: a line on these and the root, and a line on each
 /// node. The certificate is accepted for the graph, and the root is its node of order 1.
 ///
-/// Tests call it; `proxy` makes the same text of the rows ([`proxy_text_of`]).
+/// For callers of the crate; `proxy` makes the same text of the rows ([`proxy_text_of`]).
 ///
 /// It takes time in proportion to nodes and links.
 ///

@@ -1,8 +1,8 @@
--- What is known on the ways from sources, and what is offered.
+-- What is known on paths from sources, and what is offered.
 use Rattle.std.specs.Prelude.{◌≡◌, ◌==◌, ◌<◌, ◌≤◌, ◌⊎◌, ◌+◌, ◌&&◌, ◌||◌, ℕ, Bool, List, length, nat_lt, slice_index, if◌then◌else◌}
 use Rattle.block_spf.specs.Rest.{far}
 
--- of a node on the way from a source: the least cost so far, and the place of the source's end that begins a way of this cost
+-- of a node on the way from a source: the least cost so far, and the place of the source's end that begins a path of this cost
 pub record Known : Type 0 where
   pub cost : ℕ
   pub place : ℕ
@@ -15,7 +15,7 @@ known cost place = record { cost = cost; place = place }
 abbrev pub no_place : ℕ
 no_place = 65535
 
--- no way is known
+-- no path is known
 abbrev pub nothing : Known
 nothing = known far no_place
 

@@ -1,4 +1,4 @@
--- Offers of ways to nodes.
+-- Offers of paths to nodes.
 use Rattle.std.specs.Prelude.{◌≡◌, ◌≢◌, ◌<◌, ◌+◌, ◌*◌, ℕ, Bool, false, List, length, nat_lt}
 use Rattle.mrt_graph.specs.declared.cert.Role.TheVariants.{Sole}
 use Rattle.mrt_graph.specs.declared.gadag.Way.{Way}
@@ -20,7 +20,7 @@ goes_on Down AToB x to = nat_lt to x
 goes_on Down BToA x to = nat_lt x to
 goes_on dir Unset x to = false
 
--- the end of source s at this place, which leads on and not over a sole link, offers a way to the node that it leads to, in
+-- the end of source s at this place, which leads on and not over a sole link, offers a path to the node that it leads to, in
 -- lane j of so many
 pub record IsFirstOffer (opening : Opening) (w : Directions) (s width j place i : ℕ) (offer : Known) : Type 0 where
   pub below : j < width
@@ -30,7 +30,7 @@ pub record IsFirstOffer (opening : Opening) (w : Directions) (s width j place i 
   pub not_sole : w.role end.link ≢ Sole
   pub one : IsOne (end.to * width + j) (known end.metric place) i offer
 
--- the end of node x at this place, which leads on in its block, offers ways to the node that it leads to, where these are
+-- the end of node x at this place, which leads on in its block, offers paths to the node that it leads to, where these are
 -- known to x
 pub record IsFurtherOffer (opening : Opening) (w : Directions) (x : ℕ) (costs places : List ℕ) (place i : ℕ) (offer : Known) : Type 0 where
   pub end : End

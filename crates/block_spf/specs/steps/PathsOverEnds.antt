@@ -1,4 +1,4 @@
--- The ways that begin with the ends of a node, when what is left after each end is known.
+-- The paths that begin with the ends of a node, when what is left after each end is known.
 use Rattle.std.specs.Prelude.{◌≡◌, ◌≢◌, ◌==◌, ◌<◌, ◌+◌, ◌*◌, ℕ, Bool, true, false, List, Some, length, slice_get, slice_index, if◌then◌else◌}
 use Rattle.mrt_graph.specs.declared.link.End.{End}
 use Rattle.mrt_graph.specs.Topology.{Topology}
@@ -12,7 +12,7 @@ use Rattle.block_spf.specs.Path.{IsStep, cost_of}
 use Rattle.block_spf.specs.steps.Rest.{IsRestCost, Rest}
 use Rattle.block_spf.specs.steps.Side.{IsLeastOverEnds, cost_at, left_onward}
 
--- what ways are sought: in a graph with its directions, up or down, over the blocks that are marked
+-- what paths are sought: in a graph with its directions, up or down, over the blocks that are marked
 pub record Sought : Type 0 where
   pub g : Topology
   pub w : Directions
@@ -67,7 +67,7 @@ pub record AreReady (aiming : Aiming) (w : Directions) (own : Bool) (width : ℕ
   pub each : (k : ℕ) (end : End) → IsWantedBlock (sought aiming w) k → IsStep aiming.graph.now w aiming.dir k x end → (own ≡ true → k ≡ w.block x)
       → w.block end.to ≡ k → IsReadyFrom aiming w width all end.to
 
--- the least ways over the first ends, at each place
+-- the least paths over the first ends, at each place
 pub record AreLeast (aiming : Aiming) (w : Directions) (own : Bool) (width x : ℕ) (ends : List End) (count : ℕ) (costs links : List ℕ) : Type 0 where
   pub each : (j : ℕ) → j < width
       → IsLeastOverEnds (BeginsAt (sought aiming w) own x (aim_at aiming.aims.now width j)) ends count (slice_index costs j) (slice_index links j)

@@ -1,4 +1,4 @@
--- What is left of a path after its first end.
+-- What is left of a path after its first end, and its least cost.
 use Rattle.std.specs.Prelude.{◌≡◌, ◌≢◌, ◌<◌, ◌≤◌, ℕ, List, [], ◌∷◌}
 use Rattle.block_spf.specs.declared.reach.Dir.{Dir}
 use Rattle.block_spf.specs.Path.{Path, cost_of}

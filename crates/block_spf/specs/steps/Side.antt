@@ -28,13 +28,13 @@ cost_from x aim cost = if aim == x then 0 else cost
 abbrev pub AreCosts : List ℕ → Type 0
 AreCosts costs = (i : ℕ) → slice_index costs i ≤ far
 
--- each cost was replaced where the way over an end is less, after which so much is left
+-- each cost was replaced where the path over an end is less, after which so much is left
 pub record AreTaken (left : ℕ → ℕ) (metric link : ℕ) (costs links costs' links' : List ℕ) : Type 0 where
   pub each : (j : ℕ) → j < length costs → slice_index costs' j ≡ lesser (left j + metric) (slice_index costs j)
   pub links_each : (j : ℕ) → j < length costs
       → slice_index links' j ≡ link_of_lesser (left j + metric) (slice_index costs j) link (slice_index links j)
 
--- a way of this cost was taken at place j, where it is less
+-- a path of this cost was taken at place j, where it is less
 pub record IsTakenAt (j cost link : ℕ) (costs links costs' links' : List ℕ) : Type 0 where
   pub here : slice_index costs' j ≡ lesser cost (slice_index costs j)
   pub link_here : slice_index links' j ≡ link_of_lesser cost (slice_index costs j) link (slice_index links j)
@@ -47,7 +47,7 @@ pub record IsRowPut (x width : ℕ) (row : ℕ → ℕ) (all all' : List ℕ) : 
   pub there : (j : ℕ) → j < width → slice_index all' (x * width + j) ≡ row j
   pub elsewhere : (i : ℕ) → (i < x * width) ⊎ (x * width + width ≤ i) → slice_index all' i ≡ slice_index all i
 
--- over the end at place `place`: Begins says of which cost there are ways that begin with the end at a place
+-- over the end at place `place`: Begins says of which cost there are paths that begin with the end at a place
 pub record IsFirstOverEnds (Begins : ℕ → ℕ → Type 0) (ends : List End) (count cost link : ℕ) : Type 0 where
   pub place : ℕ
   pub before : place < count
@@ -57,8 +57,8 @@ pub record IsFirstOverEnds (Begins : ℕ → ℕ → Type 0) (ends : List End) (
   pub none_before : (other : ℕ) → other < place → ¬ Begins other cost
   pub over : link ≡ end.link
 
--- the least cost of the ways that begin with one of the first ends, and the link of the first that begins one of it; far
--- and no link where no way does
+-- the least cost of the paths that begin with one of the first ends, and the link of the first that begins one of it; far
+-- and no link where no path does
 pub record IsLeastOverEnds (Begins : ℕ → ℕ → Type 0) (ends : List End) (count cost link : ℕ) : Type 0 where
   pub most : cost ≤ far
   pub reached : cost < far → IsFirstOverEnds Begins ends count cost link

@@ -69,7 +69,7 @@ IsAfter test s t before after =
     (((rule : Rule) → test rule s t ≡ true) × (after ≡ before))
     ⊎ ((number : ℕ) × FailsFirst (λ rule. test rule s t) number × (after ≡ Some (first_of before (record { rule = number; a = s; b = t }))))
 
--- the nodes that are told; all n of them, where none are
+-- the nodes that are listed; all n of them, where there is no list
 abbrev pub targets_of : ℕ → Option (List ℕ) → List ℕ
 targets_of n None = range_with_len 0 n
 targets_of n (Some told) = told

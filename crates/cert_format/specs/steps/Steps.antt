@@ -1,4 +1,4 @@
--- What a reader keeps between the pieces of a stream, and what its steps answer. No caller sees any of it.
+-- What a reader keeps between the pieces of a stream, and what its steps answer.
 use Rattle.std.specs.Prelude.{◌≡◌, ◌==◌, ◌<◌, ◌≤◌, ◌++◌, ℕ, Bool, true, false, List, [], Option, Some, None, Result, Ok, Err, IsOk, is_some, length, not, take, if◌then◌else◌}
 use Rattle.std.specs.List.{AllByRecursion, flat_map}
 use Rattle.std.specs.Option.{option_map_or}

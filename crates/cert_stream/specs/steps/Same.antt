@@ -1,4 +1,4 @@
--- What two certificate files have in common. No contract of a public function cites it.
+-- What two certificate files have in common.
 use Rattle.std.specs.Prelude.{◌≡◌, ◌<◌, ℕ}
 use Rattle.mrt_graph.specs.declared.cert.CertFile.{CertFile}
 use Rattle.mrt_graph.specs.Certificate.{Certificate}

@@ -1,4 +1,4 @@
--- Events that were told: their answers, and the lines of these at the end of a text.
+-- Events, their answers, and the lines of these at the end of a text.
 use Rattle.std.specs.Prelude.{◌≡◌, ◌++◌, ℕ, List, [], ◌∷◌, Some}
 use Rattle.std.specs.Option.{option_map}
 use Rattle.fabric.specs.declared.event.Event.{Event}

@@ -1,4 +1,4 @@
--- The lines of a script, taken in one after another. No contract of a public function cites it.
+-- The lines of a script, taken in one after another.
 use Rattle.std.specs.Prelude.{◌++◌, ℕ, List, [], ◌∷◌, Option, Some, None}
 use Rattle.std.specs.Option.{ok_or, option_map}
 use Rattle.text_parts.specs.declared.line_error.LineError.{LineError}

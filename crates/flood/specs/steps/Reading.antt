@@ -1,4 +1,4 @@
--- What the private steps of reading answer. No contract of a public function cites it.
+-- What the private steps of reading answer.
 use Rattle.std.specs.Prelude.{◌≡◌, ◌≤◌, ◌+◌, ℕ, List, length, map}
 use Rattle.ospf_lsa.specs.declared.lsa.Lsa.{Lsa}
 use Rattle.ospf_lsa.specs.Lsas.{AreLsas}

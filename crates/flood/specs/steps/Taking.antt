@@ -1,4 +1,4 @@
--- The lines of a script of deliveries, taken in one after another. No contract of a public function cites it.
+-- The lines of a script of deliveries, taken in one after another.
 use Rattle.std.specs.Prelude.{◌++◌, ◌&&◌, ℕ, Bool, List, [], ◌∷◌, Option, Some, None, nat_lt, if◌then◌else◌}
 use Rattle.std.specs.Option.{ok_or, option_and_then, option_map}
 use Rattle.text_parts.specs.declared.line_error.LineError.{LineError}

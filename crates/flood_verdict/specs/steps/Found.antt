@@ -1,4 +1,4 @@
--- What is found of a router in a database. No contract of a public function cites it.
+-- What is found of a router in a database.
 use Rattle.std.specs.Prelude.{◌≡◌, ◌⊎◌, ℕ, false, List, Option, Some, None, Contains}
 use Rattle.mrt_graph.specs.NodeIds.{router as router_node}
 use Rattle.area_graph.specs.Parts.{AreaParts}

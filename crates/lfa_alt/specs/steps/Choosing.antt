@@ -1,4 +1,4 @@
--- What is asked of a destination, what a path offers for it, and the first one of the loop-free candidates so far. No contract of a public function cites it.
+-- What is asked of a destination, what a path offers for it, and the first one of the loop-free candidates so far.
 use Rattle.std.specs.Prelude.{◌≡◌, ℕ, List, Option, Some, None, IsTrue, length, slice_get, ◌==◌, ◌&&◌, ◌+◌, Bool, true, not, nat_lt, if◌then◌else◌, ◌<◌, ◌↔◌}
 use Rattle.std.specs.Ordering.{is_gt}
 use Rattle.area_graph.specs.declared.area_types.Arc.{Arc}

@@ -3,7 +3,7 @@ use Rattle.std.specs.Prelude.{◌≡◌, ◌<◌, ◌-◌, ◌*◌, ℕ, List, O
 use Rattle.std.specs.Option.{option_map}
 use Rattle.mrt_graph.specs.declared.cert.Row.{Row}
 use Rattle.mrt_graph.specs.declared.relatives.BlockPlaces.{BlockPlaces}
-use Rattle.mrt_graph.specs.BlockPlaces.{AreBlockPlaces}
+use Rattle.mrt_graph.specs.steps.BlockPlaces.{AreBlockPlaces}
 use Rattle.mrt_graph.specs.Certificate.{Certificate}
 use Rattle.mrt_graph.specs.steps.FoldedRows.{IsHeld, held}
 use Rattle.mrt_graph.specs.Kin.{Kin}

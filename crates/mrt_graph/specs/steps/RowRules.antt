@@ -53,7 +53,7 @@ above_row c s t row blue_to red_to =
 
 -- Unordered: s and t have one block; blue leads to a node of smaller order whose row for t is Unordered or Below, or is
 -- plain and leads to the head of s; red leads to a node of greater order whose row for t is Unordered or Above; t has no
--- row for itself, so neither leads straight to t
+-- row for itself, so where rule three holds neither leads straight to t
 abbrev pub unordered_row : Certificate → ℕ → ℕ → Row → ℕ → ℕ → Bool
 unordered_row c s t row blue_to red_to =
     are_equal (block_of c s) (block_of c t)

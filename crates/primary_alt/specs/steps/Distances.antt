@@ -1,4 +1,4 @@
--- The distances of all nodes, where each is told.
+-- The distances of all nodes to one, as a list has them.
 use Rattle.std.specs.Prelude.{◌≡◌, ℕ, List, Option, Some, None, slice_get}
 use Rattle.area_graph.specs.declared.area_types.Arc.{Arc}
 use Rattle.primary_alt.specs.ArcWalk.{ArcWalk}

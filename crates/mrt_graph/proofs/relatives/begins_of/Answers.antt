@@ -1,5 +1,6 @@
 use Rattle.std.proofs.Common.{◌≡◌, ◌+◌, length, arith, rules}
-use Rattle.mrt_graph.specs.Kin.{kin_before, kin_of}
+use Rattle.mrt_graph.specs.Kin.{kin_of}
+use Rattle.mrt_graph.specs.steps.Kin.{kin_before}
 use Rattle.mrt_graph.proofs.KinOf.{blocks_count, few_pairs, pushed_all, sum_more}
 use Rattle.mrt_graph.proofs.relatives.begins_of.Goals as goal
 use Rattle.mrt_graph.proofs.relatives.begins_of.Goals.{After-count_others}

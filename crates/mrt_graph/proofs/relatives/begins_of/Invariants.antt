@@ -1,5 +1,6 @@
 use Rattle.std.proofs.Common.{◌≡◌, ◌<◌, ◌≤◌, ◌+◌, ℕ, Some, length, slice_get, vec_capacity}
-use Rattle.mrt_graph.specs.Kin.{kin_before, kin_of}
+use Rattle.mrt_graph.specs.Kin.{kin_of}
+use Rattle.mrt_graph.specs.steps.Kin.{kin_before}
 use Rattle.mrt_graph.proofs.relatives.begins_of.Given as goal
 
 abbrev pub invariant-loop-s : goal.invariant-loop-s

@@ -6,6 +6,6 @@ use Rattle.mrt_report.proofs.line.row_line.Goals as goal
 pub returns : goal.returns
 returns c =
     joined [] _ _ _ _ (joined [] _ _ _ _ (joined [] _ _ _ _ (joined [] _ _ _ _ (joined [] _ _ _ _
-    (c.push_node_text.ensures.value ∙ ap (λ (xs : List ℕ). xs ++ node_text c.args.row.now.id) c.new.ensures)
+    (c.push_node_text.ensures.value ∙ ap (λ (xs : List ℕ). xs ++ node_text c.args.row.now.id) c.new-line.ensures)
     c.put.ensures.added) c.put_colors.ensures.added) c.put-2.ensures.added)
     c.put_primary.ensures.added) c.put-3.ensures.added

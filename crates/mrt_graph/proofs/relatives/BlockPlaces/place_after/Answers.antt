@@ -1,6 +1,7 @@
 use Rattle.std.proofs.Common.{◌≡◌, ◌<◌, ◌+◌, length, arith}
 use Rattle.mrt_graph.specs.Groups.{has_key}
-use Rattle.mrt_graph.specs.Kin.{is_upper, kin_below}
+use Rattle.mrt_graph.specs.Kin.{is_upper}
+use Rattle.mrt_graph.specs.steps.Kin.{kin_below}
 use Rattle.mrt_graph.proofs.BlockPlaced.{before_is, children_rise, lower_is, upper_is}
 use Rattle.mrt_graph.proofs.KinOf.{few_below, itself_below, place_tells}
 use Rattle.mrt_graph.proofs.Pairs.{few_passes}

@@ -1,6 +1,7 @@
 use Rattle.std.proofs.Common.{◌≡◌, ◌<◌, ◌∙◌, ℕ, Some, get_or, length, slice_get, sym, ap, subst, arith}
 use Rattle.mrt_graph.specs.Groups.{with_key}
-use Rattle.mrt_graph.specs.Kin.{IsUpperNumber, Kin, kin_before}
+use Rattle.mrt_graph.specs.Kin.{Kin}
+use Rattle.mrt_graph.specs.steps.Kin.{IsUpperNumber, kin_before}
 use Rattle.mrt_graph.proofs.KinOf.{begin_at}
 use Rattle.mrt_graph.proofs.relatives.Relatives.block_places.Goals as goal
 

@@ -2,7 +2,7 @@
 use Rattle.std.specs.Prelude.{◌≡◌, ◌<◌, ◌≤◌, ◌^◌, Some, length, slice_get}
 use Rattle.mrt_graph.specs.declared.relatives.BlockPlaces.{BlockPlaces}
 use Rattle.mrt_graph.specs.Groups.{with_key}
-use Rattle.mrt_graph.specs.Kin.{IsUpperNumber, kin_before}
+use Rattle.mrt_graph.specs.steps.Kin.{IsUpperNumber, kin_before}
 
 -- what is read once tells the node's block, its head in another block, its children there, and where its rows begin
 pub record AreBlockPlaces (p : BlockPlaces) : Type 0 where
