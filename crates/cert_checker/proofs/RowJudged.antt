@@ -2,7 +2,7 @@
 use Rattle.std.proofs.Common.{◌≡◌, ◌≢◌, ◌<◌, ◌+◌, ◌∙◌, ◌||◌, ℕ, Bool, true, false, not, Option, Some, refl, sym, ap, subst, inl, inr, arith}
 use Rattle.std.proofs.lemmas.Bool.{cases_Bool, ne_eqb}
 use Rattle.std.specs.Option.{option_map_or}
-use Rattle.cert_checker.specs.steps.RowAt.{rule_by}
+use Rattle.cert_checker.specs.steps.KnownNode.{rule_by}
 use Rattle.cert_checker.specs.steps.RowFaults.{FailsFirst, row_test}
 use Rattle.mrt_graph.specs.declared.cert.Row.{Row}
 use Rattle.mrt_graph.specs.declared.cert.Tag.{Tag}

@@ -5,7 +5,7 @@ use Rattle.cert_checker.proofs.BlockRuleHolds.{block_rule_holds}
 use Rattle.cert_checker.specs.declared.fault.Fault.{Fault}
 use Rattle.cert_checker.specs.declared.verdict.Verdict.{Verdict}
 use Rattle.cert_checker.specs.declared.verdict.Verdict.TheVariants.{Yes, No}
-use Rattle.cert_checker.specs.steps.Judged.{Judged}
+use Rattle.cert_checker.specs.steps.Found.{Judged}
 use Rattle.cert_checker.specs.steps.RowFaults.{Before, FirstRead, row_test}
 use Rattle.mrt_graph.specs.declared.cert.CertFile.{CertFile}
 use Rattle.mrt_graph.specs.declared.cert.Tag.{Tag}

@@ -2,10 +2,8 @@
 
 ghost use Rattle.std.specs.Prelude.{◌≡◌, ◌==◌, ◌<◌, ◌&&◌, IsTrue, length, nat_le, not};
 ghost use Rattle.std.specs.List.{list_all};
-ghost use Rattle.cert_checker.specs.steps.Found.{FoundFirst};
-ghost use Rattle.cert_checker.specs.steps.Standing.{BlocksHold};
-ghost use Rattle.mrt_graph.specs.CertFields.{links_of, members};
-ghost use Rattle.mrt_graph.specs.Roles.{is_closing, is_sole};
+ghost use Rattle.cert_checker.specs.{steps.Found.FoundFirst, steps.Standing.BlocksHold};
+ghost use Rattle.mrt_graph.specs.{CertFields.links_of, CertFields.members, Roles.is_closing, Roles.is_sole};
 ghost use Rattle.mrt_graph.specs.HeadsAndBlocks.{
   lone_block,
   lone_if_one_link,

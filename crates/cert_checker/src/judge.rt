@@ -1,7 +1,7 @@
 //! The fourteen rules in their order.
 
 ghost use Rattle.std.specs.Prelude.{◌≡◌, ◌<◌, ◌↔◌, ℕ, length};
-ghost use Rattle.cert_checker.specs.steps.Judged.{Judged};
+ghost use Rattle.cert_checker.specs.steps.Found.{Judged};
 ghost use Rattle.mrt_graph.specs.{Accepted.Accepted, Certificate.row_of, FirstFault.FirstFault, Sound.Sound};
 
 use crate::block_links::{first_closed_fault, first_lone_fault};
@@ -15,7 +15,6 @@ use mrt_graph::{CertFile, Graph, NodeNo, accepted_implies_sound, accepted_or_one
 
 /// Judges a certificate file for a graph and its root: yes where all fourteen rules hold; else the first rule that
 /// fails and its least place.
-///
 /// A yes alone, whoever wrote the file, implies that both colors reach every destination and share only what every walk
 /// uses.
 ///

@@ -2,8 +2,7 @@
 
 ghost use Rattle.std.specs.Prelude.{◌≡◌, ◌≢◌, ◌<◌, Some, length};
 ghost use Rattle.cert_checker.specs.steps.KnownNode.{IsKnown};
-ghost use Rattle.mrt_graph.specs.CertFields.{tagged};
-ghost use Rattle.mrt_graph.specs.Certificate.{IsCertRow, row_of};
+ghost use Rattle.mrt_graph.specs.{CertFields.tagged, Certificate.IsCertRow, Certificate.row_of};
 
 use crate::row_facts::number_of;
 use mrt_graph::{Cert, CertNode, NodeNo, NodeRows, Row, Tag};

@@ -1,8 +1,7 @@
 //! The rules on rows between related nodes, by the nodes to which a row's two links lead.
 
 ghost use Rattle.std.specs.Prelude.{◌≡◌, ◌<◌, length};
-ghost use Rattle.cert_checker.specs.steps.KnownNode.{IsKnown};
-ghost use Rattle.cert_checker.specs.steps.RowAt.{IsNearRowAt};
+ghost use Rattle.cert_checker.specs.{steps.KnownNode.IsKnown, steps.KnownNode.IsNearRowAt};
 ghost use Rattle.mrt_graph.specs.steps.RowRules.{above_row, below_row, head_row, near_row, sole_row, top_row, unordered_row};
 ghost use Rattle.mrt_graph.specs.RowRules.{closing_to_head, higher_beside, higher_tagged, lower_beside, lower_tagged, plain_to_head};
 

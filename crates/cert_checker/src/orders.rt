@@ -2,9 +2,7 @@
 
 ghost use Rattle.std.specs.Prelude.{◌≡◌, ◌<◌, IsTrue, length, MatchOption};
 ghost use Rattle.cert_checker.specs.steps.Found.{FoundFirst, FoundPair};
-ghost use Rattle.mrt_graph.specs.Places.{EachPair};
-ghost use Rattle.mrt_graph.specs.RootAndOrders.{RootAndOrders, OrderFault, root_stands, orders_differ};
-ghost use Rattle.mrt_graph.specs.SameGraph.{SameCounts};
+ghost use Rattle.mrt_graph.specs.{Places.EachPair, RootAndOrders.RootAndOrders, RootAndOrders.OrderFault, RootAndOrders.root_stands, RootAndOrders.orders_differ, SameGraph.SameCounts};
 
 use crate::fault_at::FaultAt;
 use crate::key_table::{KEYS, has_number, set_number};

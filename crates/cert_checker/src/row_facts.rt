@@ -1,11 +1,7 @@
 //! Words of the rules on rows: where a link leads, what tag a row has, which role a link has.
 
 ghost use Rattle.std.specs.Prelude.{◌≡◌, ◌<◌, ◌≤◌, IfSome, length};
-ghost use Rattle.mrt_graph.specs.CertFields.{has_role};
-ghost use Rattle.mrt_graph.specs.Leads.{leads};
-ghost use Rattle.mrt_graph.specs.SameGraph.{SameCounts};
-ghost use Rattle.mrt_graph.specs.Tags.{tag_number};
-ghost use Rattle.mrt_graph.specs.Roles.{is_closing, is_plain, is_sole};
+ghost use Rattle.mrt_graph.specs.{CertFields.has_role, Leads.leads, SameGraph.SameCounts, Tags.tag_number, Roles.is_closing, Roles.is_plain, Roles.is_sole};
 
 use mrt_graph::{Cert, Graph, LinkNo, NodeNo, Role, Tag};
 

@@ -2,11 +2,8 @@
 
 ghost use Rattle.std.specs.Prelude.{◌≡◌, ◌<◌, IfSome, false, length};
 ghost use Rattle.std.specs.Option.{option_map, option_map_or};
-ghost use Rattle.cert_checker.specs.steps.KnownNode.{IsKnown};
-ghost use Rattle.cert_checker.specs.steps.RowAt.{IsRowAt, rule_by};
-ghost use Rattle.mrt_graph.specs.{declared.cert.Tag.TheVariants.Carried, BothThere.both, Certificate.row_of, Tags.same_tag};
-ghost use Rattle.mrt_graph.specs.steps.RowRules.{carried_row, near_row};
-ghost use Rattle.mrt_graph.specs.RowRules.{same_links};
+ghost use Rattle.cert_checker.specs.{steps.KnownNode.IsKnown, steps.KnownNode.IsRowAt, steps.KnownNode.rule_by};
+ghost use Rattle.mrt_graph.specs.{declared.cert.Tag.TheVariants.Carried, BothThere.both, Certificate.row_of, Tags.same_tag, steps.RowRules.carried_row, steps.RowRules.near_row, RowRules.same_links};
 
 use crate::hops::{Hop, Hops};
 use crate::known_node::{KnownNode, row_for};

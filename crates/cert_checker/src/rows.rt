@@ -4,11 +4,7 @@ ghost use Rattle.std.specs.Prelude.{◌≡◌, ◌<◌, ◌+◌, ◌++◌, Conta
 ghost use Rattle.std.specs.{List.All, Option.option_map, Option.option_to_list};
 ghost use Rattle.cert_checker.specs.steps.KnownNode.{AreHops, IsKnown};
 ghost use Rattle.cert_checker.specs.steps.RowFaults.{AndSome, Before, IsAfter, KeptRows, first_of, is_before, row_test, targets_of};
-ghost use Rattle.mrt_graph.specs.CertFields.{head_of};
-ghost use Rattle.mrt_graph.specs.Foldable.{IsFoldable};
-ghost use Rattle.mrt_graph.specs.HeadsAndBlocks.{HeadsHold};
-ghost use Rattle.mrt_graph.specs.Kin.{kin_of};
-ghost use Rattle.mrt_graph.specs.SameGraph.{SameCounts};
+ghost use Rattle.mrt_graph.specs.{CertFields.head_of, Foldable.IsFoldable, HeadsAndBlocks.HeadsHold, Kin.kin_of, SameGraph.SameCounts};
 
 use crate::fault::Fault;
 use crate::hops::{Hops, turn_to};

@@ -1,9 +1,8 @@
 //! The fifth and the sixth rule in one pass, where they hold.
 
 ghost use Rattle.std.specs.Prelude.{◌≡◌, ◌≢◌, ◌<◌, IfSome, IsTrue, Some, length, true};
-ghost use Rattle.cert_checker.specs.steps.KnownNode.{IsKnown};
-ghost use Rattle.cert_checker.specs.steps.Standing.{BlocksHold};
-ghost use Rattle.cert_checker.specs.steps.Standing.{FitsRole, HasOpen, IsOver, NodeFits, across, link_fits, standing};
+ghost use Rattle.cert_checker.specs.{steps.KnownNode.IsKnown, steps.Standing.BlocksHold};
+ghost use Rattle.cert_checker.specs.{steps.Standing.FitsRole, steps.Standing.HasOpen, steps.Standing.IsOver, steps.Standing.NodeFits, steps.Standing.across, steps.Standing.link_fits, steps.Standing.standing};
 ghost use Rattle.mrt_graph.specs.{HeadsAndBlocks.HeadsHold, SameGraph.SameCounts};
 
 use crate::key_table::{KEYS, has_number, set_number};

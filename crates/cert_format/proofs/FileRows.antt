@@ -4,7 +4,7 @@ use Rattle.std.proofs.lemmas.Bool.{cases_Bool, cases_eq, eq-eqb, false≢true, n
 use Rattle.std.proofs.lemmas.List.{same_lists, length-map}
 use Rattle.std.specs.List.{flat_map, AllByRecursion}
 use Rattle.cert_format.specs.CertText.{row_text}
-use Rattle.cert_format.specs.steps.CertText.{row_text_in}
+use Rattle.cert_format.specs.steps.Putting.{row_text_in}
 use Rattle.std.proofs.lemmas.Option.{get_or_from_slice_get, slice_get-map}
 use Rattle.std.specs.Option.{option_map}
 use Rattle.mrt_graph.specs.declared.cert.CertFile.{CertFile}

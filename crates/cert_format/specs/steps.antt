@@ -1,5 +1,3 @@
-pub mod CertText
-pub mod Folded
 pub mod Putting
 pub mod Reading
 pub mod Steps

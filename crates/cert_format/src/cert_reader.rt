@@ -12,9 +12,7 @@ use std::marker::Model;
 
 /// Reads a certificate file of version 1 or 2 from a stream that comes in pieces.
 ///
-/// It keeps the parts that are whole, and at most 13 bytes of the next one. Whole parts are read straight from the
-/// piece.
-///
+/// It keeps the parts that are whole, and at most 13 bytes of the next one. Whole parts are read straight from the piece.
 /// The file is the one that [`read_cert`](crate::read_cert) reads from the whole stream, and the fault is the same,
 /// however the stream is cut.
 ///
@@ -55,7 +53,6 @@ impl CertReader {
     }
 
     /// Takes the next piece of the stream.
-    ///
     /// It takes time in proportion to the piece, and a constant; of version 2, besides, with the last node's last byte in
     /// proportion to the nodes, some 13 times.
     ///

@@ -3,11 +3,8 @@
 ghost use Rattle.std.specs.Prelude.{◌≡◌, ◌<◌, ◌≤◌, ◌+◌, ◌-◌, ◌^◌, ◌++◌, ℕ, List, [], Option, length, IsOk, IfOk, IfErr, OnOk};
 ghost use Rattle.std.specs.List.{flat_map};
 ghost use Rattle.mrt_io.specs.{Counts.Rose, Writing.Gained, Writing.GainedPart};
-ghost use Rattle.cert_format.specs.{Versions.rows_in};
-ghost use Rattle.cert_format.specs.CertText.{cert_text, header_text, link_text, node_text, row_text};
-ghost use Rattle.cert_format.specs.Limits.{IsOfVersion};
-ghost use Rattle.cert_format.specs.steps.Putting.{IsFailedWithin, IsWritable, Wrote, later_error, parts_text};
-ghost use Rattle.cert_format.specs.Putting.{IsGiven, Puts};
+ghost use Rattle.cert_format.specs.{Versions.rows_in, CertText.cert_text, CertText.header_text, CertText.link_text, CertText.node_text, CertText.row_text, Limits.IsOfVersion};
+ghost use Rattle.cert_format.specs.{steps.Putting.IsFailedWithin, steps.Putting.IsWritable, steps.Putting.Wrote, steps.Putting.later_error, steps.Putting.parts_text, Putting.IsGiven, Putting.Puts};
 
 use crate::header::header_bytes;
 use crate::limits::within_limits;
@@ -26,10 +23,8 @@ const MOST: usize = 1024;
 
 /// Writes a certificate file to a sink, at most 65,536 bytes at a time: its header, then its nodes, its links and its rows,
 /// each as they come. What is fewer is held. Writing takes no memory: the room is there before.
-///
 /// The bytes are those that a [`WritableCert`](crate::WritableCert) puts, where the header announces the nodes and the links that
 /// are put, and the rows that are put stand by ascending source, then by ascending destination.
-///
 /// After an error it is to be given up.
 #[derive(Drop)]
 pub struct CertWriter {
@@ -90,11 +85,7 @@ impl CertWriter {
         self.put_list(sink, nodes)
     }
 
-    /// Writes links.
-    ///
-    /// # Errors
-    ///
-    /// `Failed { taken }` where the sink failed: how many bytes it had taken since the writer was made.
+    /// Writes links, with the errors of [`put_nodes`](Self::put_nodes).
     pub fn put_links<K: Sink>(&mut self, sink: &mut K, links: &[CertLink]) -> Result<(), PutError>
         requires { self.old.gone + length (self.old.held ++ flat_map link_text links.now) < 2 ^ 64 }
         ensures { Puts (K.written sink.old) (K.written sink.new) (K.faults sink.old) (K.faults sink.new)
@@ -104,11 +95,7 @@ impl CertWriter {
     }
 
     /// Writes those of the rows that stand in a file of its version: of version 1 all, of version 2 those that are not
-    /// Carried.
-    ///
-    /// # Errors
-    ///
-    /// `Failed { taken }` where the sink failed: how many bytes it had taken since the writer was made.
+    /// Carried. Its errors are those of [`put_nodes`](Self::put_nodes).
     pub fn put_rows<K: Sink>(&mut self, sink: &mut K, rows: &[Row]) -> Result<(), PutError>
         requires { self.old.gone + length (self.old.held ++ flat_map row_text (rows_in self.old.version rows.now)) < 2 ^ 64 }
         ensures { Puts (K.written sink.old) (K.written sink.new) (K.faults sink.old) (K.faults sink.new)

@@ -2,8 +2,7 @@
 
 ghost use Rattle.std.specs.Prelude.{◌≡◌, ◌<◌, ◌^◌, ◌-◌, ◌&&◌, nat_le, nat_lt};
 ghost use Rattle.std.specs.Int.{w8, w16, w32};
-ghost use Rattle.cert_format.specs.Layout.{any};
-ghost use Rattle.cert_format.specs.steps.Reading.{ReadsField};
+ghost use Rattle.cert_format.specs.{Layout.any, steps.Reading.ReadsField};
 
 use crate::error::{CertFault, CertKind};
 use crate::rest::Rest;

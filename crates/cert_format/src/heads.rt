@@ -2,17 +2,13 @@
 
 ghost use Rattle.std.specs.Prelude.{◌≡◌, ◌==◌, ◌<◌, ◌≤◌, ◌/◌, [], Some, IfOk, length, not, if◌then◌else◌};
 ghost use Rattle.std.specs.List.{AllByRecursion, slice_index_or};
-ghost use Rattle.mrt_graph.specs.Certificate.{IsCertNode, certificate_of};
-ghost use Rattle.mrt_graph.specs.CertFields.{head_of};
-ghost use Rattle.mrt_graph.specs.Foldable.{is_own_head};
-ghost use Rattle.cert_format.specs.steps.Folded.{AreEnds};
-ghost use Rattle.cert_format.specs.Folded.{head_fault, least};
+ghost use Rattle.mrt_graph.specs.{Certificate.IsCertNode, Certificate.certificate_of, CertFields.head_of, Foldable.is_own_head};
+ghost use Rattle.cert_format.specs.{steps.Reading.AreEnds, Folded.head_fault, Folded.least};
 
 use mrt_graph::{CertNode, NoMemory};
 use std::alloc::Global;
 
 /// The node whose head is at fault, if there is one.
-///
 /// It takes time in proportion to the nodes, and as many times that as their number has binary digits.
 pub fn stray_head(alloc: Global, nodes: &[CertNode]) -> Result<Option<u16>, NoMemory>
     requires few { length nodes.now ≤ 65535 }

@@ -6,7 +6,6 @@ ghost use Rattle.cert_format.specs.Limits.{IsCertFile, IsOfVersion};
 use mrt_graph::CertFile;
 
 /// What a certificate file keeps whose version is met, since its numbers have 32 bits.
-///
 /// It takes time in proportion to the nodes.
 pub fn within_limits(f: &CertFile)
     requires { IsOfVersion f.now }

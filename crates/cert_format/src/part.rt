@@ -2,9 +2,8 @@
 
 ghost use Rattle.std.specs.Prelude.{◌≡◌, ◌<◌, ◌≤◌, ◌+◌, ◌^◌, ◌-◌, ◌++◌, length, vec_len, vec_capacity};
 ghost use Rattle.mrt_graph.specs.Certificate.{IsCertLink};
-ghost use Rattle.cert_format.specs.CertText.{node_text, link_text, row_text};
-ghost use Rattle.cert_format.specs.Layout.{kind_named, node_form, link_form, role_named, row_form, tag_named};
-ghost use Rattle.cert_format.specs.steps.Reading.{ReadsPart, IsFileRow, IsNode};
+ghost use Rattle.cert_format.specs.{CertText.node_text, CertText.link_text, CertText.row_text, Layout.kind_named, Layout.node_form, Layout.link_form, Layout.role_named, Layout.row_form, Layout.tag_named};
+ghost use Rattle.cert_format.specs.{steps.Reading.ReadsPart, steps.Reading.IsFileRow, steps.Reading.IsNode};
 
 use crate::error::{CertFault, CertKind};
 use crate::field::{any_u32, field8, field16};
@@ -85,7 +84,7 @@ impl Part for CertLink {
 }
 
 impl Part for Row {
-    ghost use Rattle.cert_format.specs.steps.CertText.{row_text_in};
+    ghost use Rattle.cert_format.specs.steps.Putting.{row_text_in};
     ghost use Rattle.cert_format.specs.Versions.{tag_count};
 
     ghost text = { row_text };

@@ -2,10 +2,9 @@
 
 ghost use Rattle.std.specs.Prelude.{◌≡◌, ◌<◌, ◌≤◌, ◌+◌, ◌-◌, ◌*◌, None, Some, length};
 ghost use Rattle.std.specs.List.{AllByRecursion};
-ghost use Rattle.cert_format.specs.Layout.{head_place};
-ghost use Rattle.cert_format.specs.steps.Reading.{IsHeader, IsNode};
-ghost use Rattle.cert_format.specs.steps.Steps.{AreParts, AreWhole, IsFileOf, Knows, ReadsOn, front_of, mark_of, no_parts, parts_of, text_of, text_of_header};
-ghost use Rattle.cert_format.specs.Versions.{all_rows, row_count};
+ghost use Rattle.cert_format.specs.{Layout.head_place, steps.Reading.IsHeader, steps.Reading.IsNode};
+ghost use Rattle.cert_format.specs.{steps.Steps.AreParts, steps.Steps.AreWhole, steps.Steps.IsFileOf, steps.Steps.Knows, steps.Steps.ReadsOn, steps.Steps.front_of, steps.Steps.mark_of, steps.Steps.no_parts, steps.Steps.parts_of, steps.Steps.text_of, steps.Steps.text_of_header};
+ghost use Rattle.cert_format.specs.{Versions.all_rows, Versions.row_count};
 
 use crate::error::{CertError, CertKind};
 use crate::header::Header;

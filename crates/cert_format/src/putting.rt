@@ -36,7 +36,6 @@ impl Model for WritableCert {
 
 impl WritableCert {
     /// A file of its version. All memory that writing takes is taken here.
-    ///
     /// It takes time in proportion to the nodes.
     ///
     /// # Errors
@@ -53,7 +52,6 @@ impl WritableCert {
 
     /// Writes the bytes of the file, at most 65,536 at a time, as [`write_cert`](crate::write_cert) gives them. It takes no
     /// memory.
-    ///
     /// It takes time in proportion to the rows and to the bytes.
     ///
     /// # Errors

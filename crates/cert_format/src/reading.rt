@@ -3,9 +3,7 @@
 ghost use Rattle.std.specs.Prelude.{◌≡◌, ◌⊎◌, ◌<◌, ◌≤◌, ◌^◌, ℕ, List, [], Some, Ok, Err, IfOk, length};
 ghost use Rattle.std.specs.List.{AllByRecursion, flat_map};
 ghost use Rattle.mrt_graph.specs.declared.cert.CertFile.{CertFile};
-ghost use Rattle.cert_format.specs.{declared.error.CertKind.CertKind, CertText.cert_text, FirstFault.first_fault, Limits.IsCertFile};
-ghost use Rattle.cert_format.specs.Outcome.{OrNoMemory};
-ghost use Rattle.cert_format.specs.Stream.{end_fault, fed, fed_all};
+ghost use Rattle.cert_format.specs.{declared.error.CertKind.CertKind, CertText.cert_text, FirstFault.first_fault, Limits.IsCertFile, Outcome.OrNoMemory, Stream.end_fault, Stream.fed, Stream.fed_all};
 
 use crate::error::CertError;
 use crate::state::State;
@@ -15,23 +13,14 @@ use std::alloc::Global;
 /// The certificate file of version 1 or 2 that the bytes spell, all of the bytes.
 ///
 /// The library's `check` calls it; the program reads a file in pieces ([`CertReader`](crate::CertReader)).
-///
 /// It is one pass, that of a [`CertReader`](crate::CertReader). Each list is reserved once, for no more than one part for each
-/// five bytes.
-///
-/// It takes time in proportion to the bytes, and of version 2 to the nodes too, some 13 times.
+/// five bytes. It takes time in proportion to the bytes, and of version 2 to the nodes too, some 13 times.
 ///
 /// # Example
 ///
-/// The certificate of a triangle, 98 bytes:
+/// The certificate of the triangle that `cert_checker::check` draws, 98 bytes:
 ///
 /// ```text
-///     1.1.1.1 --- link 0 --- 2.2.2.2
-///          \                 /
-///         link 1        link 2, closing
-///             \           /
-///                3.3.3.3, the root
-///
 ///      0   4d525443 0001 0003 0003 03030303    MRTC, version 1, three nodes, three links, root 3.3.3.3
 ///     14   01 01010101 0002 0002 0000          node 0: router 1.1.1.1, order 2, head 2, block 0
 ///     25   01 02020202 0003 0002 0000          node 1: router 2.2.2.2, order 3, head 2, block 0
@@ -79,7 +68,6 @@ pub fn one_spelling()
 {}
 
 /// Any bytes are a certificate file or have a first fault.
-///
 /// They are never both, and a file in one way, by [`one_spelling`]. So but for want of memory [`read_cert`] has one answer
 /// to any bytes.
 pub fn bytes_are_a_certificate_or_have_a_fault()
@@ -89,7 +77,6 @@ pub fn bytes_are_a_certificate_or_have_a_fault()
 {}
 
 /// A stream is read as a whole is, however it is cut into pieces that are fed one after another.
-///
 /// The pieces lead a [`CertReader`](crate::CertReader) from its front to where their bytes lead it in one piece. Unless that is a fault,
 /// the stream is these bytes. Where the stream ends there, its fault is the first one of the bytes, and a spelling has
 /// none.

@@ -1,9 +1,8 @@
 //! How far a stream is read.
 
 ghost use Rattle.std.specs.Prelude.{◌≡◌, ◌++◌, ◌∷◌, [], Ok, Err, IfErr, OnOk, OnErr, true, false, length};
-ghost use Rattle.cert_format.specs.steps.Steps.{AreParts, Finishes, Grew, IsReading, Parts, ReadsOn, Tells, has_failed, parts_of, progress_of, text_of};
-ghost use Rattle.cert_format.specs.steps.Reading.{rest_of};
-ghost use Rattle.cert_format.specs.Stream.{fed, is_cut, seen};
+ghost use Rattle.cert_format.specs.{steps.Steps.AreParts, steps.Steps.Finishes, steps.Steps.Grew, steps.Steps.IsReading, steps.Steps.Parts, steps.Steps.ReadsOn, steps.Steps.Tells, steps.Steps.has_failed, steps.Steps.parts_of, steps.Steps.progress_of, steps.Steps.text_of};
+ghost use Rattle.cert_format.specs.{steps.Reading.rest_of, Stream.fed, Stream.is_cut, Stream.seen};
 
 use crate::cut_part::CutPart;
 use crate::error::{CertError, CertFault, CertKind};

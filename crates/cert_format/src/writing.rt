@@ -10,7 +10,6 @@ use std::alloc::Global;
 
 /// The bytes of a certificate file: of n nodes, m links and r rows in the file `14 + 11n + 7m + 5r`. Of version 1 all
 /// n(n - 1) rows stand in the file, of version 2 those that are not Carried.
-///
 /// Tests call it; `certify` and `upgrade` put a file in pieces ([`CertWriter`](crate::CertWriter)).
 ///
 /// It takes time in proportion to the rows and to the bytes that it gives, and memory for at most twice these and 65,536

@@ -15,7 +15,7 @@ use Rattle.mrt_graph.specs.Tags.{is_near}
 use Rattle.mrt_rows.specs.NearOf.{near_rows_before, near_rows_of}
 use Rattle.cert_format.specs.CertText.{cert_text, header_text, link_text, node_text, row_text}
 use Rattle.cert_format.specs.Versions.{rows_in}
-use Rattle.cert_stream.specs.steps.Same.{HaveSameParts, HaveSameRows}
+use Rattle.cert_stream.specs.steps.Stream.{HaveSameParts, HaveSameRows}
 use Rattle.cert_stream.proofs.Nears.{all_text, near_more, rows_text}
 
 none_before : (c : Certificate) → near_rows_before c 0 ≡ filter is_near (take 0 c.rows)

@@ -3,7 +3,6 @@ use Rattle.std.proofs.Common.{◌≡◌, ◌∙◌, ◌<◌, ◌≤◌, ◌+◌,
 use borrow.Author.Count.{below_more}
 use Rattle.std.proofs.lemmas.List.{same_lists}
 use Rattle.std.proofs.lemmas.Option.{same_Some, slice_get-get_or}
-use Rattle.mrt_graph.specs.Topology.{Topology}
 
 -- two lists have the same elements before this place
 abbrev pub AreSameBefore : {X : Type 0} → ℕ → List X → List X → Type 0
@@ -22,6 +21,3 @@ same_all n xs ys even all same =
     same_Some (get_or xs k d) (get_or ys k d)
     (sym (slice_get-get_or xs k d within) ∙ same k (omega (arith, all, within))
     ∙ slice_get-get_or ys k d (omega (arith, even, within))))
-
-pub one_topology : (g h : Topology) → g.ids ≡ h.ids → g.links ≡ h.links → g.ends ≡ h.ends → g ≡ h
-one_topology g h ids links ends = λ i. record { ids = ids i; links = links i; ends = ends i }

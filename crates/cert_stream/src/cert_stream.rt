@@ -5,7 +5,7 @@ ghost use Rattle.mrt_graph.specs.{declared.cert.CertFile.CertFile, GraphInvarian
 ghost use Rattle.mrt_io.specs.{Counts.Rose, Writing.Gained, Writing.GainedPart};
 ghost use Rattle.mrt_rows.specs.CertOf.{IsCertOf};
 ghost use Rattle.cert_format.specs.{CertText.cert_text, Limits.IsCertFile};
-ghost use Rattle.cert_stream.specs.steps.Same.{HaveSameParts};
+ghost use Rattle.cert_stream.specs.steps.Stream.{HaveSameParts};
 
 use crate::numbers::numbers_fit;
 use crate::parts::put_parts;
@@ -59,7 +59,6 @@ impl Model for CertStream {
 impl CertStream {
     /// The certificate of a graph from this root, which is not made yet. All memory that writing or comparing needs is
     /// taken here.
-    ///
     /// It takes time and memory in proportion to the nodes and the links: for each node some 800 bytes, and 65,536 at
     /// once.
     ///
@@ -98,7 +97,6 @@ impl CertStream {
 
     /// Writes the bytes of the certificate's file of version 2, 65,536 at a time. The rows are found node after node:
     /// those of a node go to the piece before those of the next one are found. It takes no memory.
-    ///
     /// It takes time for each node in proportion to the nodes and the ends of all nodes.
     ///
     /// # Errors
@@ -141,7 +139,6 @@ impl CertStream {
     /// Whether two certificates are the same. Those of one graph from one root are, without a row found. Else the numbers
     /// of their roots, their nodes and their links are compared, then their rows, which are found for one node after
     /// another: it stops at the first difference. It takes no memory.
-    ///
     /// It takes time in proportion to the nodes and the links; where only the graphs differ, in metrics or link data, for
     /// each node up to the first that differs in its rows, time in proportion to the nodes and the ends of all nodes.
     pub fn is_same(self, other: CertStream) -> bool

@@ -2,10 +2,8 @@
 
 ghost use Rattle.std.specs.Prelude.{◌≡◌, ◌<◌, ◌+◌, ◌^◌, ◌++◌, length};
 ghost use Rattle.mrt_graph.specs.declared.cert.CertFile.{CertFile};
-ghost use Rattle.mrt_rows.specs.CertOf.{IsCertOf};
-ghost use Rattle.mrt_rows.specs.RowMaker.{MakeRows};
-ghost use Rattle.cert_format.specs.Putting.{Puts};
-ghost use Rattle.cert_format.specs.steps.Putting.{parts_text};
+ghost use Rattle.mrt_rows.specs.{CertOf.IsCertOf, RowMaker.MakeRows};
+ghost use Rattle.cert_format.specs.{Putting.Puts, steps.Putting.parts_text};
 
 use crate::rows::put_rows;
 use cert_format::CertWriter;

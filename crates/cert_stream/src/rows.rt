@@ -3,8 +3,7 @@
 ghost use Rattle.std.specs.Prelude.{◌≡◌, ◌<◌, ◌+◌, ◌^◌, ◌++◌, length};
 ghost use Rattle.std.specs.List.{flat_map};
 ghost use Rattle.mrt_graph.specs.declared.cert.CertFile.{CertFile};
-ghost use Rattle.mrt_rows.specs.CertOf.{IsCertOf};
-ghost use Rattle.mrt_rows.specs.RowMaker.{MakeRows};
+ghost use Rattle.mrt_rows.specs.{CertOf.IsCertOf, RowMaker.MakeRows};
 ghost use Rattle.cert_format.specs.{CertText.row_text, Putting.Puts, Versions.rows_in};
 
 use cert_format::CertWriter;

@@ -2,17 +2,14 @@
 
 ghost use Rattle.std.specs.Prelude.{◌≡◌, ◌<◌, ◌↔◌, IsTrue, length, slice_get};
 ghost use Rattle.mrt_graph.specs.declared.cert.CertFile.{CertFile};
-ghost use Rattle.mrt_rows.specs.CertOf.{IsCertOf};
-ghost use Rattle.mrt_rows.specs.RowMaker.{MakeRows};
-ghost use Rattle.mrt_rows.specs.NearOf.{near_rows_of};
-ghost use Rattle.cert_stream.specs.steps.Same.{HaveSameRows};
+ghost use Rattle.mrt_rows.specs.{CertOf.IsCertOf, RowMaker.MakeRows, NearOf.near_rows_of};
+ghost use Rattle.cert_stream.specs.steps.Stream.{HaveSameRows};
 
 use mrt_graph::{CertLink, CertNode, End, Graph, LinkNo, NodeNo, Row};
 use mrt_rows::SourceRows;
 
 /// Whether two graphs are the same: their identifiers, their links, and each node's interfaces. It stops at the first
 /// difference.
-///
 /// It takes time in proportion to the nodes and the links.
 pub fn are_graphs_same(g: &Graph, other: &Graph) -> bool
     ensures { IsTrue result → g.now ≡ other.now }
@@ -89,7 +86,6 @@ pub fn are_links_same(links: &[CertLink], others: &[CertLink]) -> bool
 /// Whether each node has the same near rows in the certificate of a graph as in that of another graph, which has as
 /// many nodes. It stops at the first node that has not: those of a node are found and compared before those of the next
 /// one.
-///
 /// It takes time for each node in proportion to the nodes and the ends of all nodes of both graphs.
 pub fn are_rows_same(
     g: &Graph,

@@ -1,5 +1,5 @@
 -- What a writer to a sink has before and after each call.
-use Rattle.std.specs.Prelude.{◌≡◌, ◌<◌, ◌≤◌, ◌+◌, ◌-◌, ◌^◌, ◌++◌, ℕ, List, Option, Result, length, IsOk, IfErr, OnOk}
+use Rattle.std.specs.Prelude.{◌≡◌, ◌<◌, ◌≤◌, ◌+◌, ◌-◌, ◌^◌, ◌++◌, ℕ, List, [], Option, Result, length, IsOk, IfErr, OnOk, if◌then◌else◌}
 use Rattle.std.specs.List.{flat_map}
 use Rattle.mrt_graph.specs.declared.cert.CertFile.{CertFile}
 use Rattle.mrt_graph.specs.declared.cert.CertNode.{CertNode}
@@ -11,7 +11,7 @@ use Rattle.mrt_io.specs.declared.device.PutError.{PutError}
 use Rattle.mrt_io.specs.declared.device.PutError.TheVariants.{Failed}
 use Rattle.cert_format.specs.CertText.{header_text, link_text, node_text, row_text}
 use Rattle.cert_format.specs.Limits.{IsCertFile}
-use Rattle.cert_format.specs.Versions.{rows_in}
+use Rattle.cert_format.specs.Versions.{rows_in, stands_in}
 use Rattle.cert_format.specs.Putting.{Writer}
 
 -- what was given the header of a file alone
@@ -51,3 +51,7 @@ IsFailedWithin before (Failed taken) = before + taken < 2 ^ 64
 abbrev pub parts_text : ℕ → List CertNode → List CertLink → List Row → List ℕ
 parts_text version nodes links rows =
     flat_map node_text nodes ++ (flat_map link_text links ++ flat_map row_text (rows_in version rows))
+
+-- a row's bytes in a file of this version, where it stands there
+abbrev pub row_text_in : ℕ → Row → List ℕ
+row_text_in version row = if stands_in version row then row_text row else []

@@ -1,8 +1,9 @@
 -- What the steps of reading answer.
 use Rattle.std.specs.Prelude.{◌≡◌, ◌≢◌, ℕ, ◌+◌, ◌<◌, ◌≤◌, ◌^◌, List, [], ◌++◌, length, Option, Some, Result, Ok, Err}
 use Rattle.std.specs.Int.{Width, byte_len, to_be_bytes}
-use Rattle.std.specs.List.{AllByRecursion, flat_map}
-use Rattle.mrt_graph.specs.Certificate.{IsCertNode, IsCertRow}
+use Rattle.std.specs.List.{AllByRecursion, flat_map, slice_index_or}
+use Rattle.mrt_graph.specs.Certificate.{IsCertNode, IsCertRow, certificate_of}
+use Rattle.mrt_graph.specs.Foldable.{in_chain}
 use Rattle.mrt_graph.specs.Tags.{tag_number}
 use Rattle.mrt_graph.specs.declared.cert.Row.{Row}
 use Rattle.mrt_graph.specs.declared.cert.CertNode.{CertNode}
@@ -113,3 +114,8 @@ ReadsList part text Keeps count old new before (Err errors.NoMemory) = new ≡ o
 abbrev pub Ends : Rest → Result Unit CertFault → Type 0
 Ends before (Ok _) = before.bytes ≡ []
 Ends before (Err fault) = (before.bytes ≢ []) × (fault.at ≡ before.at) × (fault.kind ≡ Trailing)
+
+-- of each node the one to which its chain of heads comes after so many steps
+pub record AreEnds (nodes : List CertNode) (steps : ℕ) (ends : List ℕ) : Type 0 where
+  pub many : length ends ≡ length nodes
+  pub each : (v : ℕ) → v < length nodes → in_chain (certificate_of nodes [] []) steps v ≡ Some (slice_index_or ends v 0)

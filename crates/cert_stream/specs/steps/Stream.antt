@@ -1,11 +1,13 @@
--- What is held before a certificate is written or compared.
+-- What is held before a certificate is written or compared, and what two certificate files have in common.
 use Rattle.std.specs.Prelude.{◌≡◌, ◌<◌, ℕ, List, length}
 use Rattle.mrt_graph.specs.declared.cert.CertFile.{CertFile}
 use Rattle.mrt_graph.specs.declared.cert.CertLink.{CertLink}
 use Rattle.mrt_graph.specs.declared.cert.CertNode.{CertNode}
+use Rattle.mrt_graph.specs.Certificate.{Certificate}
 use Rattle.mrt_graph.specs.GraphInvariant.{IsTopology}
 use Rattle.mrt_graph.specs.Topology.{Topology}
 use Rattle.mrt_rows.specs.CertOf.{IsCertOf}
+use Rattle.mrt_rows.specs.NearOf.{near_rows_of}
 use Rattle.mrt_rows.specs.RowMaker.{MakeRows}
 use Rattle.mrt_rows.specs.RowsFound.{RowsFound}
 use Rattle.cert_format.specs.CertText.{header_text}
@@ -33,3 +35,13 @@ pub record IsRootOf (g : Topology) (root of_rows : ℕ) : Type 0 where
   pub same : root ≡ of_rows
   pub within : root < length g.ids
   pub kept : IsTopology g
+
+-- they have the same number of the root, the same nodes and the same links
+pub record HaveSameParts (file other : CertFile) : Type 0 where
+  pub root : file.root ≡ other.root
+  pub nodes : file.cert.nodes ≡ other.cert.nodes
+  pub links : file.cert.links ≡ other.cert.links
+
+-- each of the first n nodes has the same near rows in both
+abbrev pub HaveSameRows : ℕ → Certificate → Certificate → Type 0
+HaveSameRows n c other = (s : ℕ) → s < n → near_rows_of c s ≡ near_rows_of other s

@@ -1,6 +1,6 @@
 use Rattle.std.proofs.Common.{subst}
 use Rattle.cert_checker.specs.declared.verdict.Verdict.{Verdict}
-use Rattle.cert_checker.specs.steps.Judged.{Judged}
+use Rattle.cert_checker.specs.steps.Found.{Judged}
 use Rattle.cert_checker.proofs.Verdicts.{yes_exactly, no_exactly}
 use Rattle.cert_checker.proofs.judge.check.Goals as goal
 

@@ -5,7 +5,7 @@ use Rattle.mrt_graph.specs.BothThere.{are_equal}
 use Rattle.mrt_graph.specs.Certificate.{certificate_of}
 use Rattle.mrt_graph.specs.Foldable.{comes_to}
 use Rattle.mrt_graph.specs.declared.cert.CertNode.{CertNode}
-use Rattle.cert_format.specs.steps.Folded.{AreEnds}
+use Rattle.cert_format.specs.steps.Reading.{AreEnds}
 use Rattle.cert_format.specs.Folded.{least}
 use Rattle.cert_format.proofs.HeadFaults.{least_alike}
 use Rattle.cert_format.proofs.heads.stray_head.Goals as goal

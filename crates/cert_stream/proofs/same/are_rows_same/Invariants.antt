@@ -2,7 +2,7 @@ use Rattle.std.proofs.Common.{◌≡◌}
 use Rattle.mrt_graph.specs.declared.cert.CertFile.{CertFile}
 use Rattle.mrt_rows.specs.CertOf.{IsCertOf}
 use Rattle.mrt_rows.specs.RowMaker.{MakeRows}
-use Rattle.cert_stream.specs.steps.Same.{HaveSameRows}
+use Rattle.cert_stream.specs.steps.Stream.{HaveSameRows}
 use Rattle.cert_stream.proofs.same.are_rows_same.Given as goal
 
 -- the nodes before s have the same near rows in both

@@ -6,7 +6,7 @@ use Rattle.std.proofs.lemmas.Result.{err_from_is_err_and}
 use Rattle.std.specs.Prelude.{Some, slice_get}
 use Rattle.mrt_graph.specs.declared.cert.Row.{Row}
 use Rattle.cert_format.specs.CertText.{row_text}
-use Rattle.cert_format.specs.steps.CertText.{row_text_in}
+use Rattle.cert_format.specs.steps.Putting.{row_text_in}
 use Rattle.cert_format.specs.Putting.{Puts, Writer}
 use Rattle.cert_format.proofs.FileRows.{near_same, rows_put, short_row}
 use Rattle.cert_format.proofs.Lists.{texts_next}

@@ -1,6 +1,6 @@
 use Rattle.std.proofs.Common.{◌≡◌, ◌++◌, ℕ, List, Ok, drop}
 use Rattle.std.specs.List.{flat_map}
-use Rattle.cert_format.specs.steps.CertText.{row_text_in}
+use Rattle.cert_format.specs.steps.Putting.{row_text_in}
 use Rattle.cert_format.specs.Putting.{Puts}
 use Rattle.cert_format.proofs.cert_writer.CertWriter.put_rows_of.Given as goal
 

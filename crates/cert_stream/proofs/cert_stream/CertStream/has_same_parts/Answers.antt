@@ -5,8 +5,7 @@ use Rattle.mrt_graph.specs.declared.cert.CertFile.{CertFile}
 use Rattle.mrt_graph.specs.declared.cert.CertLink.{CertLink}
 use Rattle.mrt_graph.specs.declared.cert.CertNode.{CertNode}
 use Rattle.mrt_rows.specs.CertOf.{IsCertOf}
-use Rattle.cert_stream.specs.steps.Same.{HaveSameParts}
-use Rattle.cert_stream.specs.steps.Stream.{AreOfFile}
+use Rattle.cert_stream.specs.steps.Stream.{AreOfFile, HaveSameParts}
 use Rattle.cert_stream.specs.Stream.{Stream}
 use Rattle.cert_stream.proofs.cert_stream.CertStream.has_same_parts.Goals.{then-self-other, else-self-other}
 use Rattle.cert_stream.proofs.cert_stream.CertStream.has_same_parts.Goals as goal

@@ -1,7 +1,7 @@
 use Rattle.std.proofs.Common.{◌≡◌, ◌∙◌, ◌<◌, ℕ, length, refl, sym, subst}
 use Rattle.mrt_graph.specs.GraphInvariant.{IsTopology}
 use Rattle.mrt_rows.specs.CertOf.{IsCertOf}
-use Rattle.cert_stream.specs.steps.Same.{HaveSameParts}
+use Rattle.cert_stream.specs.steps.Stream.{HaveSameParts}
 use Rattle.cert_stream.specs.Stream.{Stream}
 use Rattle.cert_stream.proofs.OneFile.{other_is_none, same_count, same_is_one}
 use Rattle.cert_stream.proofs.StillStream.{still_stream}
