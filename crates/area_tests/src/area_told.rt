@@ -5,7 +5,7 @@ ghost use Rattle.std.specs.Prelude.{◌≤◌, length};
 use crate::lsas::put_error;
 use crate::told::spell;
 use area_graph::{Area, AreaError, build_area};
-use lsdb::{Conflict, FileKey, Lsdb, database_of};
+use lsdb::{Conflict, Lsdb, database_of};
 use ospf_lsa::read_lsas;
 use parts_of_tests::Page;
 use std::alloc::Global;
@@ -15,7 +15,7 @@ pub fn area(alloc: Global, bytes: &[u8], page: &mut Page) -> Option<Area>
     requires { length bytes.now ≤ 8388608 }
 {
     match read_lsas(alloc, bytes) {
-        Ok(lsas) => match database_of(alloc, FileKey::of(bytes), lsas) {
+        Ok(lsas) => match database_of(alloc, lsas) {
             Ok(database) => area_in(alloc, &database, page),
             Err(_) => None,
         },

@@ -1,11 +1,12 @@
 //! Hash tables of what a file names, so hashed that who writes the file cannot make its keys fall together.
 
+use ospf_lsa::Lsa;
 use sha2::{Digest, Sha256};
 use std::hash::{BuildHasher, DefaultHasher, Hasher};
 
-/// What a table is hashed by: SipHash-1-3, which has taken the SHA-256 digest of a file first.
+/// What a table is hashed by: SipHash-1-3, which has taken a SHA-256 digest first, of a file or of all keys in it.
 ///
-/// Each byte of the file counts, so who changes a key of the table changes how all of them are hashed.
+/// So who changes a key of the table changes how all of them are hashed.
 #[derive(Clone, Copy)]
 pub struct FileKey {
     start: DefaultHasher,
@@ -16,10 +17,34 @@ impl FileKey {
     ///
     /// It takes time in proportion to the bytes.
     pub fn of(bytes: &[u8]) -> FileKey {
+        FileKey::after(Sha256::digest(bytes))
+    }
+
+    /// The key that the keys of a file's LSAs give.
+    ///
+    /// It takes time in proportion to the LSAs, however long they are.
+    pub(crate) fn of_lsas(lsas: &[Lsa]) -> FileKey {
+        let mut keys = Sha256::new();
+        for lsa in lsas {
+            keys.update(key_bytes(lsa));
+        }
+        FileKey::after(keys.finalize())
+    }
+
+    fn after(digest: [u8; 32]) -> FileKey {
         let mut start = DefaultHasher::new();
-        start.write(&Sha256::digest(bytes));
+        start.write(&digest);
         FileKey { start }
     }
+}
+
+/// The bytes of an LSA's key.
+fn key_bytes(lsa: &Lsa) -> [u8; 9] {
+    let mut bytes = [0; 9];
+    bytes[0] = lsa.kind;
+    bytes[1..5].copy_from_slice(&lsa.id.to_be_bytes());
+    bytes[5..].copy_from_slice(&lsa.router.to_be_bytes());
+    bytes
 }
 
 impl BuildHasher for FileKey {

@@ -17,15 +17,16 @@ use std::alloc::Global;
 /// another.
 ///
 /// The list becomes that of the database: the LSAs that are kept move to its front, and no second list stands beside it.
-/// It takes the time of [`Lsdb::install`] for each.
-pub fn database_of(alloc: Global, file: FileKey, lsas: Vec<Lsa>) -> Result<Lsdb, NoMemory>
+/// It takes the time of [`Lsdb::install`] for each, and that of a digest of their keys: these are hashed by all of them,
+/// so that who writes the file cannot make them fall together.
+pub fn database_of(alloc: Global, lsas: Vec<Lsa>) -> Result<Lsdb, NoMemory>
     requires { AreLsas 0 lsas.items }
     ensures { IfOk result (λ database. database.entries ≡ entries_in (entering lsas.items)) }
 {
     an_lsa_without_a_fault_may_be_installed();
     entries_are_those_of_the_list();
     let mut list = lsas;
-    let mut keys = IndexSet::with_hasher(alloc, file);
+    let mut keys = IndexSet::with_hasher(alloc, FileKey::of_lsas(list.as_slice()));
     let mut differing = Vec::new(alloc);
     let mut greatest = None;
     for place in 0..list.len() {

@@ -8,7 +8,7 @@ ghost use Rattle.mrt_exit.specs.{Due.IsDue, AnswerSteps.IsAnswer};
 
 use crate::given::Given;
 use fabric_script::{Script, read_script};
-use lsdb::{FileKey, Lsdb, refuses_exactly_where_not_settled, tells_the_first_conflict};
+use lsdb::{Lsdb, refuses_exactly_where_not_settled, tells_the_first_conflict};
 use mrt_exit::Exit;
 use mrt_island::{Profile, read_profile};
 use ospf_lsa::read_lsas;
@@ -36,7 +36,7 @@ pub(crate) fn database_of(alloc: Global, bytes: &[u8]) -> Result<Lsdb, Exit>
     refuses_exactly_where_not_settled();
     tells_the_first_conflict();
     let lsas = read_lsas(alloc, bytes)?;
-    let database = lsdb::database_of(alloc, FileKey::of(bytes), lsas)?;
+    let database = lsdb::database_of(alloc, lsas)?;
     database.settled()?;
     Ok(database)
 }

@@ -9,9 +9,7 @@ ghost use Rattle.next_hops.specs.NextHops.{AreNextHops, AreNextHopsIn};
 
 use crate::failure::Failure;
 use area_graph::build_area;
-use lsdb::{
-    FileKey, Lsdb, database_of, refuses_exactly_where_not_settled, tells_the_first_conflict,
-};
+use lsdb::{Lsdb, database_of, refuses_exactly_where_not_settled, tells_the_first_conflict};
 use mrt_graph::{Color, Graph, NodeId, NodeNo, accepted_implies_sound, accepted_rows_lead_on};
 use mrt_island::{Profile, find_island};
 use mrt_rows::{RootedColumns, certificates_are_accepted};
@@ -50,7 +48,7 @@ fn read(alloc: Global, bytes: &[u8]) -> Result<Lsdb, Failure>
     refuses_exactly_where_not_settled();
     tells_the_first_conflict();
     let lsas = read_lsas(alloc, bytes)?;
-    let database = database_of(alloc, FileKey::of(bytes), lsas)?;
+    let database = database_of(alloc, lsas)?;
     database.settled()?;
     Ok(database)
 }
