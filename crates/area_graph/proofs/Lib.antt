@@ -15,6 +15,7 @@ pub mod KeptBonds
 pub mod ListedApart
 pub mod ListedByNumber
 pub mod LiveOnes
+pub mod MarksMove
 pub mod Naming
 pub mod NewestArea
 pub mod OneBond

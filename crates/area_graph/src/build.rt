@@ -28,8 +28,8 @@ use std::alloc::Global;
 /// the router, and that by the link. For two nodes the arcs of each direction are put in order of link data, then of
 /// place in the LSA, and the k-th of one makes a pair with the k-th of the other.
 ///
-/// It takes the time of sorting the entries of all LSAs twice, and of two binary searches in them for each entry; memory
-/// beside the area for a list of the entries.
+/// It takes the time of sorting the entries of all LSAs, and the arcs once more, and of a binary search among the nodes for
+/// each entry; memory beside the area for a list of the entries, and for a number of each node.
 ///
 /// # Example
 ///
@@ -82,7 +82,7 @@ fn area_of_arcs(
     ensures area { IfOk result (λ area. area ≡ parts_of ids.items by_way.now) }
     ensures refused { IfErr result (λ error. error ≡ AreaError.NoMemory) }
 {
-    let paired = pair_arcs(alloc, by_way)?;
+    let paired = pair_arcs(alloc, ids.len(), by_way)?;
     let starts = starts(alloc, ids.len(), &paired.arcs)?;
     Ok(Area::of_parts(ids, paired.arcs, starts, paired.bonds))
 }

@@ -6,6 +6,7 @@ mod area;
 mod area_error;
 mod area_law;
 mod area_types;
+mod back_marks;
 mod build;
 mod entries;
 mod entry;

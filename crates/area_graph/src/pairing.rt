@@ -5,12 +5,13 @@ ghost use Rattle.std.specs.{List.AllByRecursion, List.position, Option.is_none, 
 ghost use Rattle.area_graph.specs.steps.NumberedArea.{arcs_of, bonds_of, bond_by, bond_from};
 ghost use Rattle.area_graph.specs.steps.NumberedArcs.{arc_cmp};
 ghost use Rattle.area_graph.specs.steps.NumberedBonds.{is_of, pairs, partner};
+ghost use Rattle.area_graph.specs.steps.EntryOrder.{IsFirstOf};
 ghost use Rattle.mrt_graph.specs.InOrder.{in_order};
 ghost use Rattle.area_graph.specs.steps.Pairing.{AreOrdered, IsBetween, pairs_upto, with_pair};
 
-use crate::arcs::first_of;
 use crate::area_error::AreaError;
 use crate::area_types::{Arc, Bond};
+use crate::back_marks::{first_back, first_from, marks_at_start};
 use crate::entry::NumberedEntry;
 use crate::numbers::{BondNo, Spot};
 use std::alloc::Global;
@@ -22,6 +23,13 @@ pub struct Numbered {
     pub pair: Option<usize>,
 }
 
+/// How many arcs stand before those that lead from one node to another, and before those that lead back.
+#[derive(Clone, Copy)]
+pub struct Firsts {
+    pub own: usize,
+    pub back: usize,
+}
+
 /// The arcs of an area in their order, and its bonds.
 #[derive(Drop)]
 pub struct Paired {
@@ -29,8 +37,8 @@ pub struct Paired {
     pub bonds: Vec<Bond>,
 }
 
-/// The arcs and the bonds that these entries make.
-pub fn pair_arcs(alloc: Global, arcs: &[NumberedEntry]) -> Result<Paired, AreaError>
+/// The arcs and the bonds that these entries make between so many nodes.
+pub fn pair_arcs(alloc: Global, nodes: usize, arcs: &[NumberedEntry]) -> Result<Paired, AreaError>
     requires ordered { AreOrdered arcs.now }
     requires between { AllByRecursion IsBetween arcs.now }
     requires few { length arcs.now ≤ 32768 }
@@ -39,23 +47,30 @@ pub fn pair_arcs(alloc: Global, arcs: &[NumberedEntry]) -> Result<Paired, AreaEr
     ensures refused { IfErr result (λ error. error ≡ AreaError.NoMemory) }
 {
     let mut bonds = Vec::with_capacity(alloc, arcs.len())?;
-    let mut numbered = number_pairs(alloc, arcs, &mut bonds)?;
+    let mut numbered = number_pairs(alloc, nodes, arcs, &mut bonds)?;
     sort_by_arc(arcs, &mut numbered);
     let arcs = number_all(alloc, arcs, numbered.as_slice(), &mut bonds)?;
     Ok(Paired { arcs, bonds })
 }
 
 /// The place of an arc's partner, if it has one.
-fn partner_place(arcs: &[NumberedEntry], place: usize, arc: NumberedEntry) -> Option<usize>
+fn partner_place(
+    arcs: &[NumberedEntry],
+    place: usize,
+    arc: NumberedEntry,
+    firsts: Firsts,
+) -> Option<usize>
     requires ordered { AreOrdered arcs.now }
     requires within { place < length arcs.now }
     requires there { slice_index_or arcs.now place arc ≡ arc }
+    requires own { IsFirstOf arc.tail arc.far arcs.now firsts.own }
+    requires back { IsFirstOf arc.far arc.tail arcs.now firsts.back }
     ensures partner { MatchOption result (partner arcs.now arc ≡ None) (λ other. partner arcs.now arc ≡ Some (slice_index_or arcs.now other arc)) }
     ensures bound { IfSome result (λ other. other < length arcs.now) }
     ensures before { IfSome result (λ other. arc.far < arc.tail → other < place) }
 {
-    let turn = place - first_of(arcs, arc.tail, arc.far);
-    let other = first_of(arcs, arc.far, arc.tail) + turn;
+    let turn = place - firsts.own;
+    let other = firsts.back + turn;
     if other < arcs.len() && arcs[other].tail == arc.far && arcs[other].far == arc.tail {
         Some(other)
     } else {
@@ -101,12 +116,15 @@ fn pair_number(
     arcs: &[NumberedEntry],
     place: usize,
     arc: NumberedEntry,
+    firsts: Firsts,
     numbered: &[Numbered],
     bonds: &mut Vec<Bond>,
 ) -> Result<Option<usize>, AreaError>
     requires ordered { AreOrdered arcs.now }
     requires within { place < length arcs.now }
     requires there { slice_index_or arcs.now place arc ≡ arc }
+    requires own { IsFirstOf arc.tail arc.far arcs.now firsts.own }
+    requires back { IsFirstOf arc.far arc.tail arcs.now firsts.back }
     requires between { IsBetween arc }
     requires earlier { numbered.now ≡ map (with_pair arcs.now) (take place arcs.now) }
     requires pairs { bonds.old.items ≡ map (bond_from arcs.now) (pairs_upto arcs.now place) }
@@ -114,7 +132,7 @@ fn pair_number(
     ensures pairs { OnOk result (bonds.new.items ≡ map (bond_from arcs.now) (pairs_upto arcs.now (place + 1))) }
     ensures refused { IfErr result (λ error. error ≡ AreaError.NoMemory) }
 {
-    let Some(other) = partner_place(arcs, place, arc) else {
+    let Some(other) = partner_place(arcs, place, arc, firsts) else {
         return Ok(None);
     };
     if arc.tail < arc.far {
@@ -129,6 +147,7 @@ fn pair_number(
 /// The arcs, each with the number of its pair. Puts the bonds of the pairs into the list.
 fn number_pairs(
     alloc: Global,
+    nodes: usize,
     arcs: &[NumberedEntry],
     bonds: &mut Vec<Bond>,
 ) -> Result<Vec<Numbered>, AreaError>
@@ -139,9 +158,14 @@ fn number_pairs(
     ensures pairs { OnOk result (bonds.new.items ≡ map (bond_from arcs.now) (pairs arcs.now)) }
     ensures refused { IfErr result (λ error. error ≡ AreaError.NoMemory) }
 {
+    let mut marks = marks_at_start(alloc, nodes, arcs)?;
     let mut numbered = Vec::with_capacity(alloc, arcs.len())?;
+    let mut own = 0;
     for (place, arc) in arcs.iter().enumerate() {
-        let pair = pair_number(arcs, place, *arc, numbered.as_slice(), bonds)?;
+        own = first_from(arcs, own, arc.tail as usize, arc.far as usize);
+        let back = first_back(arcs, place, *arc, &mut marks);
+        let firsts = Firsts { own, back };
+        let pair = pair_number(arcs, place, *arc, firsts, numbered.as_slice(), bonds)?;
         numbered.push(Numbered { arc: *arc, pair })?;
     }
     Ok(numbered)

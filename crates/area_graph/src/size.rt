@@ -10,7 +10,7 @@ use mrt_graph::saturated;
 const MAX_NODES: usize = 4096;
 
 /// The most arcs that it may have.
-const MAX_ARCS: usize = 32768;
+pub const MAX_ARCS: usize = 32768;
 
 /// Refuses more nodes or arcs than an area may have.
 pub fn check_size(nodes: usize, arcs: usize) -> Result<(), AreaError>

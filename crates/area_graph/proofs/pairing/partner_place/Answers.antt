@@ -11,14 +11,14 @@ nothing = record { tail = 0; far = 0; metric = 0; link_data = 0; place = 0 }
 
 pub returns-then-arcs-other-2-clause-partner : goal.returns-then-arcs-other-2-clause-partner
 returns-then-arcs-other-2-clause-partner c =
-    let other : ℕ = c.first_of-2.result + (c.args.place - c.first_of.result) in
+    let other : ℕ = c.args.firsts.back + (c.args.place - c.args.firsts.own) in
     let read : get_or c.args.arcs.now other c.args.arc ≡ get_or c.args.arcs.now other nothing = get_or_default c.args.arcs.now other c.args.arc nothing c.if-other-arcs.true in
-    partner_at c.args.arcs.now c.requires.ordered c.args.arc c.args.place c.first_of.result c.first_of-2.result c.requires.within c.requires.there c.first_of.ensures
-    c.first_of-2.ensures c.args.arc c.if-other-arcs.true (ap (λ (e : Entry). e.tail) read ∙ c.if-arcs-other.true) (ap (λ (e : Entry). e.far) read ∙ c.if-arcs-other-2.true)
+    partner_at c.args.arcs.now c.requires.ordered c.args.arc c.args.place c.args.firsts.own c.args.firsts.back c.requires.within c.requires.there c.requires.own
+    c.requires.back c.args.arc c.if-other-arcs.true (ap (λ (e : Entry). e.tail) read ∙ c.if-arcs-other.true) (ap (λ (e : Entry). e.far) read ∙ c.if-arcs-other-2.true)
 
 pub returns-then-arcs-other-2-clause-before : goal.returns-then-arcs-other-2-clause-before
 returns-then-arcs-other-2-clause-before c backward =
-    let other : ℕ = c.first_of-2.result + (c.args.place - c.first_of.result) in
+    let other : ℕ = c.args.firsts.back + (c.args.place - c.args.firsts.own) in
     let read : get_or c.args.arcs.now other c.args.arc ≡ get_or c.args.arcs.now other nothing = get_or_default c.args.arcs.now other c.args.arc nothing c.if-other-arcs.true in
     let at_tail = ap (λ (e : Entry). e.tail) c.requires.there in
     let at_far = ap (λ (e : Entry). e.far) c.requires.there in
@@ -27,9 +27,9 @@ returns-then-arcs-other-2-clause-before c backward =
 
 pub returns-else-other-arcs-clause-partner : goal.returns-else-other-arcs-clause-partner
 returns-else-other-arcs-clause-partner c =
-    let other : ℕ = c.first_of-2.result + (c.args.place - c.first_of.result) in
-    partner_none c.args.arcs.now c.requires.ordered c.args.arc c.args.place c.first_of.result c.first_of-2.result c.requires.within c.requires.there c.first_of.ensures
-    c.first_of-2.ensures
+    let other : ℕ = c.args.firsts.back + (c.args.place - c.args.firsts.own) in
+    partner_none c.args.arcs.now c.requires.ordered c.args.arc c.args.place c.args.firsts.own c.args.firsts.back c.requires.within c.requires.there c.requires.own
+    c.requires.back
     (λ d within tail far.
     let read : get_or c.args.arcs.now other nothing ≡ get_or c.args.arcs.now other d = get_or_default c.args.arcs.now other nothing d within in
     elim c.else-other-arcs.branch [
